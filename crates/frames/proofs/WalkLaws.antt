@@ -1,0 +1,133 @@
+-- One turn of the walk over a book's lines, over plain values: what is left of the book decides the answer.
+use mathlib.Core.Path.{_≡_, refl, ap, sym, subst, _∙_}
+use mathlib.Core.Bool.{Bool, true, false, cond}
+use mathlib.Core.List.{List, [], _∷_, _++_}
+use mathlib.Core.Logic.{_⊎_, inl, inr, ⊎-elim}
+use Prim.Native.Nat.{ℕ, suc, _+_, _-_, _*_, _≤_, _<_}
+use native.Mathlib.Numerals.{add-one}
+use native.Mathlib.Omega.{arith}
+use lib.Dec.{eqb}
+use lib.ListN.{length, take, drop, set, length-set, length-drop, drop-of-length-le}
+use lib.Seq.{take-suc-set, length-take-le}
+use borrow.Author.Tests.{eqb-true, ne-eqb}
+use Rattle.lines.specs.Digits.{byteAt}
+use Rattle.lines.specs.Lines.{Line, ended, unended, lines, toEnd}
+use Rattle.lines.proofs.LineLaws.{line-ended, line-unended}
+use Rattle.gate.specs.Gate.{verdict}
+use Rattle.gate.specs.declared.Known.{Known}
+use Rattle.gate.specs.declared.Fault.{Fault}
+use Rattle.gate.specs.declared.Fault.the-variants.{Malformed, Misplaced}
+use Rattle.gate.specs.declared.Verdict.the-variants.{Good, Bad}
+use Rattle.gate.proofs.PassedLaws.{line-long, sizes-passed, edge-passed, rule-passed}
+use Rattle.frames.specs.declared.Rule.{Rule}
+use Rattle.frames.specs.declared.Query.{Query}
+use Rattle.frames.specs.declared.Refusal.the-variants.{BadLine}
+use Rattle.frames.specs.Book.{State, Answer, refused, accepted, contents, nothing, walk, enter, knownAfter, juniorsAfter, rulesAfter, factsAfter, queryAfter, ruleOf}
+
+-- The state that the reader's locals stand for.
+unfoldable pub held : Known → Query → List ℕ → List ℕ → List Rule → State
+held k q m fs rs = record { known = k; juniors = m; rules = take (k .count) rs; facts = fs; query = q }
+
+-- The reader's invariant at place i, line l.
+pub record Held (book : List ℕ) (k : Known) (q : Query) (m fs : List ℕ) (rs : List Rule) (i l : ℕ) : Type 0 where
+  pub within : i ≤ length book
+  pub lined : 3 * l ≤ i + 3
+  pub counted : k .count ≤ 512
+  pub crewed : k .sizes .crews ≤ 32
+  pub edged : length m ≡ 32
+  pub roomed : length rs ≡ 512
+  pub left : walk nothing 1 (lines book) ≡ walk (held k q m fs rs) l (lines (drop i book))
+
+-- The rules' array after a line x: a rule is stored behind the others.
+abbrev pub Stored : Known → List Rule → List ℕ → List Rule → Type 0
+Stored k rs x rs′ = ((byteAt x 0 ≡ 3) × (rs′ ≡ set rs (k .count) (ruleOf x))) ⊎ ((byteAt x 0 ≡ 3 → ⊥) × (rs′ ≡ rs))
+
+juniors-length : (m x : List ℕ) → length (juniorsAfter m x) ≡ length m
+unfolding juniorsAfter
+juniors-length m x = kept (eqb (byteAt x 0) 2) (byteAt x 1) _
+  where
+    kept : (b : Bool) (i v : ℕ) → length (cond b (set m i v) m) ≡ length m
+    kept true i v = length-set m i v
+    kept false i v = refl
+
+-- A passed line leaves at most 32 crews.
+crews-kept : (k : Known) (x : List ℕ) → verdict k x ≡ Good → k .sizes .crews ≤ 32 → knownAfter k x .sizes .crews ≤ 32
+unfolding knownAfter
+crews-kept k x e h = by-kind (eqb (byteAt x 0) 1) refl
+  where
+    by-kind : (b : Bool) → eqb (byteAt x 0) 1 ≡ b
+        → (cond b (record { persons = byteAt x 1; crews = byteAt x 2; attrs = byteAt x 3; values = byteAt x 4 }) (k .sizes)) .crews ≤ 32
+    by-kind true i = sizes-passed k x e (eqb-true _ 1 i) .crews-most
+    by-kind false i = h
+
+-- A passed edge's junior is one of 32 crews.
+pub junior-small : (k : Known) (x : List ℕ) → verdict k x ≡ Good → k .sizes .crews ≤ 32 → byteAt x 0 ≡ 2 → byteAt x 2 < 32
+junior-small k x e h is = let p = edge-passed k x e is in omega (arith, p .0, p .1)
+
+-- What entering a line does to the rules and to their count.
+module _ (k : Known) (rs : List Rule) (x : List ℕ) (rs′ : List Rule) (room : length rs ≡ 512) where
+  rules-rule : k .count < 512 → byteAt x 0 ≡ 3 → rs′ ≡ set rs (k .count) (ruleOf x)
+      → (take (knownAfter k x .count) rs′ ≡ rulesAfter (take (k .count) rs) x) × ((knownAfter k x .count ≤ 512) × (length rs′ ≡ 512))
+  unfolding knownAfter rulesAfter
+  rules-rule h is e = (
+    rw (is, e, add-one, take-suc-set rs (k .count) (ruleOf x) (omega arith)) refl,
+    (rw is (omega arith), ap length e ∙ length-set rs (k .count) (ruleOf x) ∙ room),
+  )
+
+  rules-other : k .count ≤ 512 → (byteAt x 0 ≡ 3 → ⊥) → rs′ ≡ rs
+      → (take (knownAfter k x .count) rs′ ≡ rulesAfter (take (k .count) rs) x) × ((knownAfter k x .count ≤ 512) × (length rs′ ≡ 512))
+  unfolding knownAfter rulesAfter
+  rules-other h other e = (rw (ne-eqb _ _ other, e) refl, (rw (ne-eqb _ _ other) h, ap length e ∙ room))
+
+module _ (s : State) (l : ℕ) (x : List ℕ) (ls : List Line) where
+  walk-on : verdict (s .known) x ≡ Good → walk s l (ended x ∷ ls) ≡ walk (enter s x) (l + 1) ls
+  unfolding walk
+  walk-on e = rw e refl
+
+  walk-bad : (f : Fault) → verdict (s .known) x ≡ Bad f → walk s l (ended x ∷ ls) ≡ refused (BadLine f l)
+  unfolding walk
+  walk-bad f e = rw e refl
+
+module _ (book : List ℕ) (k : Known) (q : Query) (m fs : List ℕ) (rs : List Rule) (i l : ℕ) (inv : Held book k q m fs rs i l) where
+  -- The end of the book behind a query, and without one.
+  pub at-end-good : length book ≤ i → k .asked ≡ true → accepted (contents (held k q m fs rs)) ≡ walk nothing 1 (lines book)
+  unfolding walk held lines
+  at-end-good h is = sym (inv .left ∙ rw (drop-of-length-le book {i = i} h, is) refl)
+
+  pub at-end-bad : length book ≤ i → k .asked ≡ false → refused (BadLine Misplaced l) ≡ walk nothing 1 (lines book)
+  unfolding walk held lines
+  at-end-bad h is = sym (inv .left ∙ rw (drop-of-length-le book {i = i} h, is) refl)
+
+  -- The line at i: unended, bad, or good.
+  module _ (e : ℕ) (is : e ≡ i + toEnd (drop i book)) where
+    pub unended-bad : i < length book → length book ≤ e → refused (BadLine Malformed l) ≡ walk nothing 1 (lines book)
+    unfolding walk
+    unended-bad h o = sym (inv .left ∙ rw (line-unended book i e is h o) refl)
+
+    pub line-bad : (f : Fault) → e < length book → verdict k (take (e - i) (drop i book)) ≡ Bad f
+        → refused (BadLine f l) ≡ walk nothing 1 (lines book)
+    unfolding held
+    line-bad f h v =
+        sym (inv .left ∙ (ap (walk (held k q m fs rs) l) (line-ended book i e is h) ∙ walk-bad (held k q m fs rs) l _ _ f v))
+
+    pub line-good : (x : List ℕ) (k′ : Known) (q′ : Query) (m′ fs′ : List ℕ) (rs′ : List Rule)
+        → e < length book → x ≡ take (e - i) (drop i book) → verdict k x ≡ Good
+        → k′ ≡ knownAfter k x → q′ ≡ queryAfter q x → m′ ≡ juniorsAfter m x → fs′ ≡ factsAfter fs x → Stored k rs x rs′
+        → Held book k′ q′ m′ fs′ rs′ (e + 1) (l + 1)
+    unfolding held enter
+    line-good x k′ q′ m′ fs′ rs′ h xs good ek eq em ef st =
+        let rules = ⊎-elim (λ w. rules-rule k rs x rs′ (inv .roomed) (rule-passed k x good (w .0) .1 .1) (w .0) (w .1))
+        (λ w. rules-other k rs x rs′ (inv .roomed) (inv .counted) (w .0) (w .1)) st in
+        record {
+          within = omega arith;
+          lined =
+              let long : 2 ≤ e - i = subst (λ (w : ℕ). 2 ≤ w) (ap length xs ∙ length-take-le (e - i) (drop i book) (omega (arith, length-drop i book))) (line-long k x good) in
+              omega (arith, inv .lined, is);
+          counted = rw ek (rules .1 .0);
+          crewed = rw ek (crews-kept k x good (inv .crewed));
+          edged = ap length em ∙ juniors-length m x ∙ inv .edged;
+          roomed = rules .1 .1;
+          left = inv .left ∙ ap (walk (held k q m fs rs) l) (line-ended book i e is h ∙ ap (λ (w : List ℕ). ended w ∷ lines (drop (e + 1) book)) (sym xs))
+              ∙ walk-on (held k q m fs rs) l x (lines (drop (e + 1) book)) good
+              ∙ rw (ek, eq, em, ef, rules .0) refl;
+        }

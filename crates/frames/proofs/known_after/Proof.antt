@@ -1,0 +1,56 @@
+-- `frames::known_after` meets its contract: the first line gives the sizes, a rule is counted, the query is noted. Assumes nothing.
+use mathlib.Core.Path.{_≡_, refl, sym, ap, _∙_}
+use borrow.Author.Tests.{ne-eqb}
+use Rattle.frames.specs.Book.{knownAfter}
+use borrow.Author.Needs.{needs}
+use Rattle.frames.proofs.known_after.Statement.{statement}
+use Rattle.frames.proofs.known_after.Tie as tie
+
+byte-at-requires : tie.Need-byte-at-requires
+byte-at-requires c κs = search needs
+
+byte-at-requires-2 : tie.Need-byte-at-requires-2
+byte-at-requires-2 c κs = search needs
+
+byte-at-requires-3 : tie.Need-byte-at-requires-3
+byte-at-requires-3 c κs = search needs
+
+byte-at-requires-4 : tie.Need-byte-at-requires-4
+byte-at-requires-4 c κs = search needs
+
+byte-at-requires-5 : tie.Need-byte-at-requires-5
+byte-at-requires-5 c κs = search needs
+
+returns : tie.Need-returns
+unfolding knownAfter
+returns c = rw (← c .before .before .before .before .before .byte-at .ensures, ← c .before .before .before .byte-at2 .ensures, ← c .before .before .byte-at3 .ensures, ← c .before .byte-at4 .ensures, ← c .byte-at5 .ensures, c .before .before .before .before .if1 .taken)
+
+add-t11 : tie.Need-add-t11
+add-t11 c = search needs
+
+returns-2 : tie.Need-returns-2
+unfolding knownAfter
+returns-2 c = rw (← c .before .before .before .before .byte-at .ensures, c .before .if2 .taken)
+
+returns-3 : tie.Need-returns-3
+unfolding knownAfter
+returns-3 c = rw (← c .before .before .before .before .byte-at .ensures, c .if3 .taken)
+
+returns-4 : tie.Need-returns-4
+unfolding knownAfter
+returns-4 c = rw (← c .before .before .before .before .byte-at .ensures, ne-eqb _ _ (c .before .before .before .if1 .left), ne-eqb _ _ (c .before .if2 .left), ne-eqb _ _ (c .if3 .left))
+
+pub known-after-spec : {M : Type 1} → statement M
+known-after-spec =
+    tie.close
+    (tie.spec
+    byte-at-requires
+    byte-at-requires-2
+    byte-at-requires-3
+    byte-at-requires-4
+    byte-at-requires-5
+    returns
+    add-t11
+    returns-2
+    returns-3
+    returns-4)

@@ -1,0 +1,155 @@
+-- `frames::read_lines` meets its contract. The invariant `Held` says that what is left of the book decides the answer; the
+-- measure is what is left of its length. Each turn is one law of WalkLaws. Assumes nothing.
+use mathlib.Core.Path.{_≡_, refl, sym, ap, _∙_}
+use mathlib.Core.Logic.{⊎-elim, inl, inr}
+use borrow.Author.Tests.{not-true, not-false}
+use Prim.Native.Nat.{_+_, _-_, _≤_, _<_}
+use lib.ListN.{length, drop, take, set}
+use Rattle.gate.proofs.PassedLaws.{rule-passed}
+use Rattle.frames.specs.Book.{answerOf, contentsOf, listed, nothing}
+use Rattle.facts.specs.Facts.{noFacts}
+use Rattle.frames.proofs.WalkLaws.{held, Held, Stored, at-end-good, at-end-bad, unended-bad, line-bad, line-good, junior-small}
+use borrow.Author.Needs.{needs}
+use native.Mathlib.Omega.{arith}
+use Rattle.frames.proofs.read_lines.Statement.{statement}
+use Rattle.frames.proofs.read_lines.Tie as tie
+
+abbrev Inv-loop : tie.InvT-loop
+Inv-loop book known₀ query₀ juniors₀ facts₀ rules₀ cursor₀ known query juniors facts rules cursor = Held book known query juniors facts rules (cursor .at) (cursor .line)
+
+abbrev μ-loop : tie.MeasureT-loop
+μ-loop book known₀ query₀ juniors₀ facts₀ rules₀ cursor₀ known query juniors facts rules cursor = length book - cursor .at
+
+no-query-requires : tie.Need-no-query-requires Inv-loop μ-loop
+no-query-requires c κs = search needs
+
+no-rule-requires : tie.Need-no-rule-requires Inv-loop μ-loop
+no-rule-requires c κs = search needs
+
+opening-line-requires : tie.Need-opening-line-requires Inv-loop μ-loop
+opening-line-requires c κs = search needs
+
+loop-holds : tie.Need-loop-holds Inv-loop μ-loop
+unfolding held nothing noFacts
+loop-holds c = rw (c .opening-line .ensures) (record { within = omega arith; lined = omega arith; counted = omega arith; crewed = omega arith; edged = refl; roomed = refl; left = rw (c .before .before .no-query .ensures) })
+
+line-end-requires : tie.Need-line-end-requires Inv-loop μ-loop
+line-end-requires c κs = search needs
+
+turned-back-requires : tie.Need-turned-back-requires Inv-loop μ-loop
+turned-back-requires c κs = search needs
+
+returns : tie.Need-returns Inv-loop μ-loop
+returns c = c .turned-back .ensures ∙ unended-bad (c .before .before .before .before .before .before .before .before .before .before .args .book .now) (c .before .before .before .before .before .loop .known) (c .before .before .before .before .before .loop .query) (c .before .before .before .before .before .loop .juniors) (c .before .before .before .before .before .loop .facts) (c .before .before .before .before .before .loop .rules) (c .before .before .before .before .before .loop .cursor .at) (c .before .before .before .before .before .loop .cursor .line) (c .before .before .before .before .before .loop .inv) _ (c .before .before .line-end .ensures) (c .before .before .before .if1 .taken) (c .before .if2 .taken)
+
+sub-x : tie.Need-sub-x Inv-loop μ-loop
+sub-x c = omega (arith, c .before .line-end .ensures)
+
+part-x-start : tie.Need-part-x-start Inv-loop μ-loop
+part-x-start c = omega (arith, c .before .line-end .ensures)
+
+part-x-end : tie.Need-part-x-end Inv-loop μ-loop
+part-x-end c = search needs
+
+judge-line-requires : tie.Need-judge-line-requires Inv-loop μ-loop
+judge-line-requires c κs = search needs
+
+enum-known-verdict : tie.Need-enum-known-verdict Inv-loop μ-loop
+enum-known-verdict c = search needs
+
+turned-back-requires-2 : tie.Need-turned-back-requires-2 Inv-loop μ-loop
+turned-back-requires-2 c κs = search needs
+
+returns-2 : tie.Need-returns-2 Inv-loop μ-loop
+returns-2 c = c .turned-back2 .ensures ∙ line-bad (c .before .before .before .before .before .before .before .before .before .before .before .before .before .before .before .args .book .now) (c .before .before .before .before .before .before .before .before .before .before .loop .known) (c .before .before .before .before .before .before .before .before .before .before .loop .query) (c .before .before .before .before .before .before .before .before .before .before .loop .juniors) (c .before .before .before .before .before .before .before .before .before .before .loop .facts) (c .before .before .before .before .before .before .before .before .before .before .loop .rules) (c .before .before .before .before .before .before .before .before .before .before .loop .cursor .at) (c .before .before .before .before .before .before .before .before .before .before .loop .cursor .line) (c .before .before .before .before .before .before .before .before .before .before .loop .inv) _ (c .before .before .before .before .before .before .before .line-end .ensures) (c .before .before .verdict .given .0 .0) (c .before .before .before .before .before .before .if2 .left) (sym (c .before .before .before .before .judge-line .ensures) ∙ c .before .before .verdict .given .1)
+
+enum-told : tie.Need-enum-told Inv-loop μ-loop
+enum-told c = search needs
+
+enter-edge-requires : tie.Need-enter-edge-requires Inv-loop μ-loop
+enter-edge-requires c κs = (junior-small (c .before .before .before .before .before .before .before .before .before .loop .known) _ (sym (c .before .before .before .judge-line .ensures) ∙ c .before .enum-told .given .1) (c .before .before .before .before .before .before .before .before .before .loop .inv .crewed), c .before .before .before .before .before .before .before .before .before .loop .inv .edged)
+
+enter-fact-requires : tie.Need-enter-fact-requires Inv-loop μ-loop
+enter-fact-requires c κs = search needs
+
+query-after-requires : tie.Need-query-after-requires Inv-loop μ-loop
+query-after-requires c κs = search needs
+
+byte-at-requires : tie.Need-byte-at-requires Inv-loop μ-loop
+byte-at-requires c κs = search needs
+
+rule-of-requires : tie.Need-rule-of-requires Inv-loop μ-loop
+rule-of-requires c κs = search needs
+
+mul-rules : tie.Need-mul-rules Inv-loop μ-loop
+mul-rules c = omega (arith, rule-passed (c .before .before .before .before .before .before .before .before .before .before .before .before .before .before .before .before .loop .known) _ (sym (c .before .before .before .before .before .before .before .before .before .before .judge-line .ensures) ∙ c .before .before .before .before .before .before .before .before .enum-told .given .1) (sym (c .before .before .byte-at .ensures) ∙ c .before .if3 .taken) .1 .1)
+
+array-set-from-rules : tie.Need-array-set-from-rules Inv-loop μ-loop
+array-set-from-rules c = rule-passed (c .before .before .before .before .before .before .before .before .before .before .before .before .before .before .before .before .loop .known) _ (sym (c .before .before .before .before .before .before .before .before .before .before .judge-line .ensures) ∙ c .before .before .before .before .before .before .before .before .enum-told .given .1) (sym (c .before .before .byte-at .ensures) ∙ c .before .if3 .taken) .1 .1
+
+known-after-requires : tie.Need-known-after-requires Inv-loop μ-loop
+known-after-requires c κs = c .before .before .before .before .before .before .before .before .before .before .before .before .before .before .before .loop .inv .counted
+
+following-line-requires : tie.Need-following-line-requires Inv-loop μ-loop
+following-line-requires c κs = (omega (arith, c .before .before .before .before .before .before .before .before .before .before .before .before .if2 .left, c .before .before .before .before .before .before .before .before .before .before .before .before .before .before .before .before .before .before .before .before .before .pre), omega (arith, c .before .before .before .before .before .before .before .before .before .before .before .before .before .before .before .before .loop .inv .lined, c .before .before .before .before .before .before .before .before .before .before .before .before .before .before .before .before .loop .inv .within, c .before .before .before .before .before .before .before .before .before .before .before .before .before .before .before .before .before .before .before .before .before .pre))
+
+loop-less : tie.Need-loop-less Inv-loop μ-loop
+loop-less c = rw (c .following-line .ensures) (omega (arith, c .before .before .before .before .before .before .before .before .before .before .before .before .before .before .line-end .ensures, c .before .before .before .before .before .before .before .before .before .before .before .before .before .before .before .if1 .taken, c .before .before .before .before .before .before .before .before .before .before .before .before .before .if2 .left))
+
+loop-again : tie.Need-loop-again Inv-loop μ-loop
+loop-again c =
+    let x = take (c .before .before .before .before .before .before .before .before .before .before .before .before .before .before .line-end .result - c .before .before .before .before .before .before .before .before .before .before .before .before .before .before .before .before .before .loop .cursor .at) (drop (c .before .before .before .before .before .before .before .before .before .before .before .before .before .before .before .before .before .loop .cursor .at) (c .before .before .before .before .before .before .before .before .before .before .before .before .before .before .before .before .before .before .before .before .before .before .args .book .now)) in
+    let kind = c .before .before .before .byte-at .ensures in
+    let rules = c .before .before .before .before .before .before .before .before .before .before .before .before .before .before .before .before .before .loop .rules in
+    let known = c .before .before .before .before .before .before .before .before .before .before .before .before .before .before .before .before .before .loop .known in
+    let stored : Stored known rules x (c .before .before .if3 .rules) =
+    ⊎-elim (λ w. inl (sym kind ∙ w .0 .taken, w .2 ∙ ap (set rules (known .count)) (w .1 .ensures)))
+    (λ w. inr ((λ z. w .0 .left (kind ∙ z)), w .1)) (c .before .before .if3 .came) in
+    rw (c .following-line .ensures)
+    (line-good (c .before .before .before .before .before .before .before .before .before .before .before .before .before .before .before .before .before .before .before .before .before .before .args .book .now) (c .before .before .before .before .before .before .before .before .before .before .before .before .before .before .before .before .before .loop .known) (c .before .before .before .before .before .before .before .before .before .before .before .before .before .before .before .before .before .loop .query) (c .before .before .before .before .before .before .before .before .before .before .before .before .before .before .before .before .before .loop .juniors) (c .before .before .before .before .before .before .before .before .before .before .before .before .before .before .before .before .before .loop .facts) (c .before .before .before .before .before .before .before .before .before .before .before .before .before .before .before .before .before .loop .rules) (c .before .before .before .before .before .before .before .before .before .before .before .before .before .before .before .before .before .loop .cursor .at) (c .before .before .before .before .before .before .before .before .before .before .before .before .before .before .before .before .before .loop .cursor .line) (c .before .before .before .before .before .before .before .before .before .before .before .before .before .before .before .before .before .loop .inv) _ (c .before .before .before .before .before .before .before .before .before .before .before .before .before .before .line-end .ensures) x _ _ _ _ (c .before .before .if3 .rules) (c .before .before .before .before .before .before .before .before .before .before .before .before .before .if2 .left) refl (sym (c .before .before .before .before .before .before .before .before .before .before .before .judge-line .ensures) ∙ c .before .before .before .before .before .before .before .before .before .enum-told .given .1) (c .before .known-after .ensures) (c .before .before .before .before .query-after .ensures) (c .before .before .before .before .before .before .before .enter-edge .ensures) (c .before .before .before .before .before .enter-fact .ensures) stored)
+
+turned-back-requires-3 : tie.Need-turned-back-requires-3 Inv-loop μ-loop
+turned-back-requires-3 c κs = search needs
+
+returns-3 : tie.Need-returns-3 Inv-loop μ-loop
+returns-3 c = c .turned-back3 .ensures ∙ at-end-bad (c .before .before .before .before .before .before .before .before .before .before .args .book .now) (c .before .before .before .before .before .loop .known) (c .before .before .before .before .before .loop .query) (c .before .before .before .before .before .loop .juniors) (c .before .before .before .before .before .loop .facts) (c .before .before .before .before .before .loop .rules) (c .before .before .before .before .before .loop .cursor .at) (c .before .before .before .before .before .loop .cursor .line) (c .before .before .before .before .before .loop .inv) (c .before .before .before .if1 .left) (not-true _ (c .before .if4 .taken))
+
+returns-4 : tie.Need-returns-4 Inv-loop μ-loop
+unfolding answerOf contentsOf listed held
+returns-4 c = at-end-good (c .before .before .before .before .before .before .before .before .before .before .args .book .now) (c .before .before .before .before .before .loop .known) (c .before .before .before .before .before .loop .query) (c .before .before .before .before .before .loop .juniors) (c .before .before .before .before .before .loop .facts) (c .before .before .before .before .before .loop .rules) (c .before .before .before .before .before .loop .cursor .at) (c .before .before .before .before .before .loop .cursor .line) (c .before .before .before .before .before .loop .inv) (c .before .before .before .if1 .left) (not-false _ (c .before .if4 .left))
+
+pub read-lines-spec : {M : Type 1} → statement M
+read-lines-spec =
+    tie.close
+    (tie.spec
+    Inv-loop
+    μ-loop
+    no-query-requires
+    no-rule-requires
+    opening-line-requires
+    loop-holds
+    line-end-requires
+    turned-back-requires
+    returns
+    sub-x
+    part-x-start
+    part-x-end
+    judge-line-requires
+    enum-known-verdict
+    turned-back-requires-2
+    returns-2
+    enum-told
+    enter-edge-requires
+    enter-fact-requires
+    query-after-requires
+    byte-at-requires
+    rule-of-requires
+    mul-rules
+    array-set-from-rules
+    known-after-requires
+    following-line-requires
+    loop-less
+    loop-again
+    turned-back-requires-3
+    returns-3
+    returns-4)

@@ -1,0 +1,19 @@
+-- `frames::turned_back` meets its contract: a reading that is refused stands for its refusal. Assumes nothing.
+use mathlib.Core.Path.{_≡_, refl, sym, ap, _∙_}
+use Rattle.frames.specs.Book.{answerOf}
+use borrow.Author.Needs.{needs}
+use Rattle.frames.proofs.turned_back.Statement.{statement}
+use Rattle.frames.proofs.turned_back.Tie as tie
+
+no-rule-requires : tie.Need-no-rule-requires
+no-rule-requires c κs = search needs
+
+no-query-requires : tie.Need-no-query-requires
+no-query-requires c κs = search needs
+
+returns : tie.Need-returns
+unfolding answerOf
+returns c = refl
+
+pub turned-back-spec : {M : Type 1} → statement M
+turned-back-spec = tie.close (tie.spec no-rule-requires no-query-requires returns)

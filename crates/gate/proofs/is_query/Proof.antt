@@ -1,0 +1,39 @@
+-- `gate::is_query` meets its contract: mode, person, q, the sets, and in mode 02 the crews. Assumes nothing.
+use Rattle.gate.specs.Gate.{queryGood}
+use borrow.Author.Needs.{needs}
+use Rattle.gate.proofs.is_query.Statement.{statement}
+use Rattle.gate.proofs.is_query.Tie as tie
+
+byte-at-requires : tie.Need-byte-at-requires
+byte-at-requires c κs = search needs
+
+are-wants-requires : tie.Need-are-wants-requires
+are-wants-requires c κs = search needs
+
+are-listed-crews-requires : tie.Need-are-listed-crews-requires
+are-listed-crews-requires c κs = search needs
+
+byte-at-requires-2 : tie.Need-byte-at-requires-2
+byte-at-requires-2 c κs = search needs
+
+byte-at-requires-3 : tie.Need-byte-at-requires-3
+byte-at-requires-3 c κs = search needs
+
+is-between-requires : tie.Need-is-between-requires
+is-between-requires c κs = search needs
+
+returns : tie.Need-returns
+unfolding queryGood
+returns c = rw (c .before .is-between .ensures, c .before .before .before .before .are-listed-crews .ensures, c .before .before .before .before .before .are-wants .ensures, c .before .before .before .before .before .before .byte-at .ensures, c .before .before .before .byte-at2 .ensures, c .before .before .byte-at3 .ensures)
+
+pub is-query-spec : {M : Type 1} → statement M
+is-query-spec =
+    tie.close
+    (tie.spec
+    byte-at-requires
+    are-wants-requires
+    are-listed-crews-requires
+    byte-at-requires-2
+    byte-at-requires-3
+    is-between-requires
+    returns)

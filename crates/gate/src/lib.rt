@@ -1,0 +1,420 @@
+// The refusals 2-9 of one ended line, given what the lines above it tell.
+ghost use mathlib.Core.Path.{_≡_};
+ghost use mathlib.Core.Bool.{_||_, _&&_, not};
+ghost use lib.Dec.{ltb, eqb, leb};
+ghost use Prim.Native.Nat.{_+_, _-_, _*_, _<_, _≤_};
+ghost use lib.ListN.{length};
+ghost use Rattle.lines.specs.Digits.{byteAt};
+ghost use Rattle.gate.specs.Gate.{faultNumber, between, allBelow, valuesOf, isPerson, isCrew, isAttr, isValue, isCrewField, pairAt, quadAt, misplaced, lengthOf, mislengthed, sizesGood, sizesVerdict, edgeVerdict, headGood, termGood, termGoodAt, ruleGood, valueTermAt, foreign, ruleVerdict, factGood, factVerdict, wantGoodAt, crewsGood, queryGood, risesAt, queryVerdict, fieldsVerdict, verdict};
+
+// How many persons, crews, attributes, and values of each attribute.
+pub struct Sizes {
+    pub persons: u8,
+    pub crews: u8,
+    pub attrs: u8,
+    pub values: u8,
+}
+
+// What the lines so far tell: whether the sizes stand, whether the query stands, the sizes, and how many rules.
+pub struct Known {
+    pub headed: bool,
+    pub asked: bool,
+    pub sizes: Sizes,
+    pub count: usize,
+}
+
+// What is wrong with a line: the refusals 2-9, in the table's order.
+pub enum Fault {
+    Malformed,
+    Misplaced,
+    Mislengthed,
+    Outside,
+    NotJunior,
+    ForeignTerm,
+    TooManyRules,
+    NotRising,
+}
+
+pub enum Verdict {
+    Good,
+    Bad(Fault),
+}
+
+// The table's number of a fault.
+pub fn fault_number(f: Fault) -> u8
+    ensures { λ r. ⌜ r ≡ faultNumber f ⌝ }
+{
+    match f {
+        Fault::Malformed => 2,
+        Fault::Misplaced => 3,
+        Fault::Mislengthed => 4,
+        Fault::Outside => 5,
+        Fault::NotJunior => 6,
+        Fault::ForeignTerm => 7,
+        Fault::TooManyRules => 8,
+        Fault::NotRising => 9,
+    }
+}
+
+// How many values attribute a has.
+pub fn values_of(z: Sizes, a: u8) -> u8
+    ensures { λ r. ⌜ r ≡ valuesOf z a ⌝ }
+{
+    z.values
+}
+
+fn is_between(lo: u8, hi: u8, n: u8) -> bool
+    ensures { λ r. ⌜ r ≡ between lo hi n ⌝ }
+{
+    (lo <= n) & (n <= hi)
+}
+
+// Whether v is a value of attribute a.
+pub fn is_value(z: Sizes, a: u8, v: u8) -> bool
+    ensures { λ r. ⌜ r ≡ isValue z a v ⌝ }
+{
+    let n = values_of(z, a);
+    (a < z.attrs) & (v < n)
+}
+
+// Whether a is a crew and v is 00.
+pub fn is_crew_field(z: Sizes, a: u8, v: u8) -> bool
+    ensures { λ r. ⌜ r ≡ isCrewField z a v ⌝ }
+{
+    (a < z.crews) & (v == 0)
+}
+
+// The set that two bytes of a line write.
+pub fn pair_at(x: &[u8], i: usize) -> u32
+    requires { ⌜ i < 65000 ⌝ }
+    ensures { λ r. ⌜ r ≡ pairAt (now (x .entry)) i ⌝ }
+{
+    let h = lines::byte_at(x, i);
+    let l = lines::byte_at(x, i + 1);
+    (h as u32) * 256 + (l as u32)
+}
+
+// The set that four bytes of a line write.
+pub fn quad_at(x: &[u8], i: usize) -> u32
+    requires { ⌜ i < 64000 ⌝ }
+    ensures { λ r. ⌜ r ≡ quadAt (now (x .entry)) i ⌝ }
+{
+    let h = pair_at(x, i);
+    let l = pair_at(x, i + 2);
+    h * 65536 + l
+}
+
+fn is_misplaced(k: Known, kind: u8) -> bool
+    ensures { λ r. ⌜ r ≡ misplaced k kind ⌝ }
+{
+    if k.headed {
+        let known = is_between(2, 5, kind);
+        return k.asked | !known;
+    }
+    !(kind == 1)
+}
+
+// The length in bytes that a kind, with its mode and its n or q, gives.
+fn length_of(kind: u8, mode: u8, n: u8) -> usize
+    ensures { λ r. ⌜ r ≡ lengthOf kind mode n ⌝ }
+{
+    if kind == 1 {
+        return 5;
+    }
+    if kind == 2 {
+        return 3;
+    }
+    let m = n as usize;
+    if kind == 3 {
+        return 6 + 3 * m;
+    }
+    if kind == 4 {
+        return 5;
+    }
+    if mode == 2 {
+        return 6 + 3 * m + 4;
+    }
+    6 + 3 * m + 0
+}
+
+fn is_mislengthed(x: &[u8]) -> bool
+    ensures { λ r. ⌜ r ≡ mislengthed (now (x .entry)) ⌝ }
+{
+    let n = length_of(
+        lines::byte_at(x, 0),
+        lines::byte_at(x, 1),
+        lines::byte_at(x, 5),
+    );
+    x.len() != 2 * n
+}
+
+fn are_sizes(p: u8, g: u8, a: u8, v: u8) -> bool
+    ensures { λ r. ⌜ r ≡ sizesGood p g a v ⌝ }
+{
+    let persons = is_between(1, 64, p);
+    let attrs = is_between(1, 8, a);
+    let values = is_between(1, 16, v);
+    persons & (g <= 32) & attrs & values
+}
+
+fn sizes_verdict(x: &[u8]) -> Verdict
+    ensures { λ r. ⌜ r ≡ sizesVerdict (now (x .entry)) ⌝ }
+{
+    let p = lines::byte_at(x, 1);
+    let g = lines::byte_at(x, 2);
+    let a = lines::byte_at(x, 3);
+    let v = lines::byte_at(x, 4);
+    if are_sizes(p, g, a, v) {
+        return Verdict::Good;
+    }
+    Verdict::Bad(Fault::Outside)
+}
+
+fn are_crews(z: Sizes, s: u8, j: u8) -> bool
+    ensures { λ r. ⌜ r ≡ (isCrew z s && isCrew z j) ⌝ }
+{
+    (s < z.crews) & (j < z.crews)
+}
+
+fn edge_verdict(z: Sizes, x: &[u8]) -> Verdict
+    ensures { λ r. ⌜ r ≡ edgeVerdict z (now (x .entry)) ⌝ }
+{
+    let s = lines::byte_at(x, 1);
+    let j = lines::byte_at(x, 2);
+    if !are_crews(z, s, j) {
+        return Verdict::Bad(Fault::Outside);
+    }
+    if j < s {
+        return Verdict::Good;
+    }
+    Verdict::Bad(Fault::NotJunior)
+}
+
+fn is_head(z: Sizes, op: u8, role: u8, a: u8, v: u8, n: u8) -> bool
+    ensures { λ r. ⌜ r ≡ headGood z op role a v n ⌝ }
+{
+    let holds = is_between(1, 4, op);
+    let joins = is_between(5, 6, op);
+    let value = is_value(z, a, v);
+    let crew = is_crew_field(z, a, v);
+    ((holds & value) | (joins & crew)) & (role <= 15) & (n <= 8)
+}
+
+fn is_term(z: Sizes, kind: u8, a: u8, v: u8) -> bool
+    ensures { λ r. ⌜ r ≡ termGood z kind a v ⌝ }
+{
+    let holds = is_between(1, 2, kind);
+    let joins = is_between(3, 4, kind);
+    let value = is_value(z, a, v);
+    let crew = is_crew_field(z, a, v);
+    (holds & value) | (joins & crew)
+}
+
+fn is_term_at(z: Sizes, x: &[u8], j: usize) -> bool
+    requires { ⌜ j < 256 ⌝ }
+    ensures { λ r. ⌜ r ≡ termGoodAt z (now (x .entry)) j ⌝ }
+{
+    let kind = lines::byte_at(x, 6 + 3 * j);
+    let a = lines::byte_at(x, 7 + 3 * j);
+    let v = lines::byte_at(x, 8 + 3 * j);
+    is_term(z, kind, a, v)
+}
+
+fn are_terms(z: Sizes, x: &[u8], n: u8) -> bool
+    ensures { λ r. ⌜ r ≡ allBelow (termGoodAt z (now (x .entry))) n ⌝ }
+{
+    let m = n as usize;
+    let mut good = true;
+    let mut j: usize = 0;
+    while j < m {
+        good = good & is_term_at(z, x, j);
+        j += 1;
+    }
+    good
+}
+
+fn is_rule(z: Sizes, x: &[u8]) -> bool
+    ensures { λ r. ⌜ r ≡ ruleGood z (now (x .entry)) ⌝ }
+{
+    let n = lines::byte_at(x, 5);
+    let terms = are_terms(z, x, n);
+    let op = lines::byte_at(x, 1);
+    let role = lines::byte_at(x, 2);
+    let a = lines::byte_at(x, 3);
+    let v = lines::byte_at(x, 4);
+    let head = is_head(z, op, role, a, v, n);
+    head & terms
+}
+
+// Whether each term asks for a value, not for a crew.
+fn are_value_terms(x: &[u8], n: u8) -> bool
+    ensures { λ r. ⌜ r ≡ allBelow (valueTermAt (now (x .entry))) n ⌝ }
+{
+    let m = n as usize;
+    let mut good = true;
+    let mut j: usize = 0;
+    while j < m {
+        let kind = lines::byte_at(x, 6 + 3 * j);
+        good = good & (kind <= 2);
+        j += 1;
+    }
+    good
+}
+
+fn is_foreign(x: &[u8]) -> bool
+    ensures { λ r. ⌜ r ≡ foreign (now (x .entry)) ⌝ }
+{
+    let op = lines::byte_at(x, 1);
+    let n = lines::byte_at(x, 5);
+    let values = are_value_terms(x, n);
+    (op <= 4) & !values
+}
+
+fn rule_verdict(k: Known, x: &[u8]) -> Verdict
+    ensures { λ r. ⌜ r ≡ ruleVerdict k (now (x .entry)) ⌝ }
+{
+    if !is_rule(k.sizes, x) {
+        return Verdict::Bad(Fault::Outside);
+    }
+    if is_foreign(x) {
+        return Verdict::Bad(Fault::ForeignTerm);
+    }
+    if 512 <= k.count {
+        return Verdict::Bad(Fault::TooManyRules);
+    }
+    Verdict::Good
+}
+
+fn is_fact(z: Sizes, k: u8, s: u8, a: u8, v: u8) -> bool
+    ensures { λ r. ⌜ r ≡ factGood z k s a v ⌝ }
+{
+    let value = is_value(z, a, v);
+    let crew = is_crew_field(z, a, v);
+    ((k == 1) & (s < z.persons) & value)
+        | ((k == 2) & (s < z.crews) & value)
+        | ((k == 3) & (s < z.persons) & crew)
+}
+
+fn fact_verdict(z: Sizes, x: &[u8]) -> Verdict
+    ensures { λ r. ⌜ r ≡ factVerdict z (now (x .entry)) ⌝ }
+{
+    let k = lines::byte_at(x, 1);
+    let s = lines::byte_at(x, 2);
+    let a = lines::byte_at(x, 3);
+    let v = lines::byte_at(x, 4);
+    if is_fact(z, k, s, a, v) {
+        return Verdict::Good;
+    }
+    Verdict::Bad(Fault::Outside)
+}
+
+fn is_want_at(z: Sizes, x: &[u8], j: usize) -> bool
+    requires { ⌜ j < 256 ⌝ }
+    ensures { λ r. ⌜ r ≡ wantGoodAt z (now (x .entry)) j ⌝ }
+{
+    let a = lines::byte_at(x, 6 + 3 * j);
+    let set = pair_at(x, 7 + 3 * j);
+    let n = values_of(z, a);
+    let inside = sets::is_within(set, n);
+    (a < z.attrs) & inside
+}
+
+fn are_wants(z: Sizes, x: &[u8], q: u8) -> bool
+    ensures { λ r. ⌜ r ≡ allBelow (wantGoodAt z (now (x .entry))) q ⌝ }
+{
+    let m = q as usize;
+    let mut good = true;
+    let mut j: usize = 0;
+    while j < m {
+        good = good & is_want_at(z, x, j);
+        j += 1;
+    }
+    good
+}
+
+fn are_listed_crews(z: Sizes, x: &[u8]) -> bool
+    ensures { λ r. ⌜ r ≡ crewsGood z (now (x .entry)) ⌝ }
+{
+    let mode = lines::byte_at(x, 1);
+    let q = lines::byte_at(x, 5);
+    let set = quad_at(x, 6 + 3 * (q as usize));
+    let inside = sets::is_within(set, z.crews);
+    !(mode == 2) | inside
+}
+
+fn is_query(z: Sizes, x: &[u8]) -> bool
+    ensures { λ r. ⌜ r ≡ queryGood z (now (x .entry)) ⌝ }
+{
+    let q = lines::byte_at(x, 5);
+    let wants = are_wants(z, x, q);
+    let crews = are_listed_crews(z, x);
+    let mode = lines::byte_at(x, 1);
+    let person = lines::byte_at(x, 2);
+    let known = is_between(1, 2, mode);
+    known & (person < z.persons) & (q <= 8) & wants & crews
+}
+
+// Whether the query's attributes rise strictly.
+fn are_rising(x: &[u8], q: u8) -> bool
+    ensures { λ r. ⌜ r ≡ allBelow (risesAt (now (x .entry))) (q - 1) ⌝ }
+{
+    let m = q as usize;
+    let mut good = true;
+    let mut j: usize = 0;
+    while j + 1 < m {
+        let a = lines::byte_at(x, 6 + 3 * j);
+        let b = lines::byte_at(x, 9 + 3 * j);
+        good = good & (a < b);
+        j += 1;
+    }
+    good
+}
+
+fn query_verdict(z: Sizes, x: &[u8]) -> Verdict
+    ensures { λ r. ⌜ r ≡ queryVerdict z (now (x .entry)) ⌝ }
+{
+    if !is_query(z, x) {
+        return Verdict::Bad(Fault::Outside);
+    }
+    let q = lines::byte_at(x, 5);
+    if !are_rising(x, q) {
+        return Verdict::Bad(Fault::NotRising);
+    }
+    Verdict::Good
+}
+
+// The lowest of 5-9 that falls on a line whose kind and length are right.
+fn fields_verdict(k: Known, x: &[u8]) -> Verdict
+    ensures { λ r. ⌜ r ≡ fieldsVerdict k (now (x .entry)) ⌝ }
+{
+    let kind = lines::byte_at(x, 0);
+    if kind == 1 {
+        return sizes_verdict(x);
+    }
+    if kind == 2 {
+        return edge_verdict(k.sizes, x);
+    }
+    if kind == 3 {
+        return rule_verdict(k, x);
+    }
+    if kind == 4 {
+        return fact_verdict(k.sizes, x);
+    }
+    query_verdict(k.sizes, x)
+}
+
+// The lowest of 2-9 that falls on an ended line, or Good.
+pub fn judge_line(k: Known, x: &[u8]) -> Verdict
+    ensures { λ r. ⌜ r ≡ verdict k (now (x .entry)) ⌝ }
+{
+    if lines::is_malformed(x) {
+        return Verdict::Bad(Fault::Malformed);
+    }
+    if is_misplaced(k, lines::byte_at(x, 0)) {
+        return Verdict::Bad(Fault::Misplaced);
+    }
+    if is_mislengthed(x) {
+        return Verdict::Bad(Fault::Mislengthed);
+    }
+    fields_verdict(k, x)
+}

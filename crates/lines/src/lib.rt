@@ -1,0 +1,143 @@
+// A book's characters: the digits of Base 16, the bytes that a line's digits write, and where a line ends.
+ghost use mathlib.Core.Path.{_≡_};
+ghost use Prim.Native.Nat.{_+_, _*_, _<_, _≤_};
+ghost use lib.ListN.{length, drop};
+ghost use Rattle.lines.specs.Digits.{digit, character, malformed, nibbleAt, byteAt};
+ghost use Rattle.lines.specs.Lines.{toEnd, opening, following};
+
+// A place in a book: the character at which a line starts, and the line's number.
+pub struct Cursor {
+    pub at: usize,
+    pub line: usize,
+}
+
+// The value of a digit's character; 16 for any other. RFC 4648, Table 5, upper case alone.
+pub fn digit_of(c: u8) -> u8
+    ensures { λ r. ⌜ r ≡ digit c ⌝ }
+{
+    match c {
+        b'0' => 0,
+        b'1' => 1,
+        b'2' => 2,
+        b'3' => 3,
+        b'4' => 4,
+        b'5' => 5,
+        b'6' => 6,
+        b'7' => 7,
+        b'8' => 8,
+        b'9' => 9,
+        b'A' => 10,
+        b'B' => 11,
+        b'C' => 12,
+        b'D' => 13,
+        b'E' => 14,
+        b'F' => 15,
+        _ => 16,
+    }
+}
+
+// The same table the other way: the character of each value.
+const ALPHABET: [u8; 16] = [
+    48,
+    49,
+    50,
+    51,
+    52,
+    53,
+    54,
+    55,
+    56,
+    57,
+    65,
+    66,
+    67,
+    68,
+    69,
+    70,
+];
+
+// The character of a digit.
+pub fn character_of(d: u8) -> u8
+    requires { ⌜ d < 16 ⌝ }
+    ensures { λ r. ⌜ r ≡ character d ⌝ }
+{
+    let i = d as usize;
+    ALPHABET[i]
+}
+
+// The value of the digit at place i; 0 past the end and at another character.
+pub fn nibble_at(x: &[u8], i: usize) -> u8
+    ensures { λ r. ⌜ r ≡ nibbleAt (now (x .entry)) i ⌝ }
+{
+    if i < x.len() {
+        let d = digit_of(x[i]);
+        if d < 16 {
+            return d;
+        }
+        return 0;
+    }
+    0
+}
+
+// Byte k of the frame that a line's digits write; 0 past the end.
+pub fn byte_at(x: &[u8], k: usize) -> u8
+    requires { ⌜ k < 65536 ⌝ }
+    ensures { λ r. ⌜ r ≡ byteAt (now (x .entry)) k ⌝ }
+{
+    let h = nibble_at(x, 2 * k);
+    let l = nibble_at(x, 2 * k + 1);
+    h * 16 + l
+}
+
+// Refusal 2 of an ended line: empty, an odd number of digits, or another character.
+pub fn is_malformed(x: &[u8]) -> bool
+    ensures { λ r. ⌜ r ≡ malformed (now (x .entry)) ⌝ }
+{
+    if x.len() == 0 {
+        return true;
+    }
+    if x.len() % 2 == 1 {
+        return true;
+    }
+    let mut i: usize = 0;
+    while i < x.len() {
+        if digit_of(x[i]) >= 16 {
+            return true;
+        }
+        i += 1;
+    }
+    false
+}
+
+// Where a book's first line starts.
+pub fn opening_line() -> Cursor
+    ensures { λ r. ⌜ r ≡ opening ⌝ }
+{
+    Cursor { at: 0, line: 1 }
+}
+
+// Where the line behind the 0A at place `end` starts.
+pub fn following_line(c: Cursor, end: usize) -> Cursor
+    requires { ⌜ (end < 65536) × (c .line ≤ 65536) ⌝ }
+    ensures { λ r. ⌜ r ≡ following c end ⌝ }
+{
+    Cursor {
+        at: end + 1,
+        line: c.line + 1,
+    }
+}
+
+// Where the line that starts at `at` ends: at the next 0A, or at the end of the book.
+pub fn line_end(book: &[u8], at: usize) -> usize
+    requires { ⌜ at ≤ length (now book) ⌝ }
+    ensures { λ r. ⌜ r ≡ at + toEnd (drop at (now (book .entry))) ⌝ }
+{
+    let mut i = at;
+    while i < book.len() {
+        if book[i] == b'\n' {
+            return i;
+        }
+        i += 1;
+    }
+    i
+}
