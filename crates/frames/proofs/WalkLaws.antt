@@ -1,9 +1,9 @@
 -- One turn of the walk over a book's lines, over plain values: what is left of the book decides the answer.
 use mathlib.Core.Path.{_≡_, refl, ap, sym, subst, _∙_}
 use mathlib.Core.Bool.{Bool, true, false, cond}
-use mathlib.Core.List.{List, [], _∷_, _++_}
-use mathlib.Core.Logic.{_⊎_, inl, inr, ⊎-elim}
-use Prim.Native.Nat.{ℕ, suc, _+_, _-_, _*_, _≤_, _<_}
+use mathlib.Core.List.{List, _∷_}
+use mathlib.Core.Logic.{_⊎_, ⊎-elim}
+use Prim.Native.Nat.{ℕ, _+_, _-_, _*_, _≤_, _<_}
 use native.Mathlib.Numerals.{add-one}
 use native.Mathlib.Omega.{arith}
 use lib.Dec.{eqb}
@@ -11,7 +11,7 @@ use lib.ListN.{length, take, drop, set, length-set, length-drop, drop-of-length-
 use lib.Seq.{take-suc-set, length-take-le}
 use borrow.Author.Tests.{eqb-true, ne-eqb}
 use Rattle.lines.specs.Digits.{byteAt}
-use Rattle.lines.specs.Lines.{Line, ended, unended, lines, toEnd}
+use Rattle.lines.specs.Lines.{Line, ended, lines, toEnd}
 use Rattle.lines.proofs.LineLaws.{line-ended, line-unended}
 use Rattle.gate.specs.Gate.{verdict}
 use Rattle.gate.specs.declared.Known.{Known}
@@ -22,7 +22,7 @@ use Rattle.gate.proofs.PassedLaws.{line-long, sizes-passed, edge-passed, rule-p
 use Rattle.frames.specs.declared.Rule.{Rule}
 use Rattle.frames.specs.declared.Query.{Query}
 use Rattle.frames.specs.declared.Refusal.the-variants.{BadLine}
-use Rattle.frames.specs.Book.{State, Answer, refused, accepted, contents, nothing, walk, enter, knownAfter, juniorsAfter, rulesAfter, factsAfter, queryAfter, ruleOf}
+use Rattle.frames.specs.Book.{State, refused, accepted, contents, nothing, walk, enter, knownAfter, juniorsAfter, rulesAfter, factsAfter, queryAfter, ruleOf}
 
 -- The state that the reader's locals stand for.
 unfoldable pub held : Known → Query → List ℕ → List ℕ → List Rule → State

@@ -1,12 +1,12 @@
 -- What a line has shown that the gate lets pass.
-use mathlib.Core.Path.{_≡_, refl, sym, _∙_}
-use mathlib.Core.Bool.{Bool, true, false, not, cond, _&&_, true≢false}
+use mathlib.Core.Path.{_≡_, refl, sym}
+use mathlib.Core.Bool.{Bool, true, false, not, cond, _&&_, _||_, true≢false}
 use mathlib.Core.List.{List}
-use Prim.Native.Nat.{ℕ, _+_, _*_, _≤_, _<_}
+use Prim.Native.Nat.{ℕ, _≤_, _<_}
 use native.Mathlib.Omega.{arith}
 use lib.Dec.{ltb, leb, eqb}
 use lib.ListN.{length}
-use borrow.Author.Tests.{leb-true, leb-false, ltb-true, not-false}
+use borrow.Author.Tests.{leb-true, leb-false, ltb-true, eqb-true, not-false}
 use Rattle.lines.specs.Digits.{byteAt, malformed}
 use Rattle.lines.proofs.DigitLaws.{well-long}
 use Rattle.gate.specs.declared.Sizes.{Sizes}
@@ -14,8 +14,8 @@ use Rattle.gate.specs.declared.Known.{Known}
 use Rattle.gate.specs.declared.Fault.{Fault}
 use Rattle.gate.specs.declared.Verdict.{Verdict}
 use Rattle.gate.specs.declared.Verdict.the-variants.{Good, Bad}
-use Rattle.gate.specs.declared.Fault.the-variants.{Malformed, Misplaced, Mislengthed, Outside, NotJunior, ForeignTerm, TooManyRules, NotRising}
-use Rattle.gate.specs.Gate.{between, misplaced, mislengthed, sizesGood, sizesVerdict, edgeVerdict, isCrew, ruleGood, foreign, ruleVerdict, fieldsVerdict, verdict}
+use Rattle.gate.specs.declared.Fault.the-variants.{Malformed, Misplaced, Mislengthed, Outside, NotJunior, ForeignTerm, TooManyRules}
+use Rattle.gate.specs.Gate.{between, misplaced, mislengthed, sizesGood, sizesVerdict, edgeVerdict, isCrew, ruleGood, foreign, ruleVerdict, factGood, factVerdict, fieldsVerdict, verdict}
 
 -- A fault is not Good.
 pub bad-good : (f : Fault) → Bad f ≡ Good → ⊥
@@ -107,3 +107,32 @@ rule-passed k x e is =
     let seven = past (foreign x) ForeignTerm _ (five .1) in
     let eight = past (leb 512 (k .count)) TooManyRules _ (seven .1) in
     (not-false _ (five .0), (seven .0, leb-false 512 (k .count) (eight .0)))
+
+-- A passed fact has its fields in their ranges.
+pub fact-passed : (k : Known) (x : List ℕ) → verdict k x ≡ Good → byteAt x 0 ≡ 4
+    → factGood (k .sizes) (byteAt x 1) (byteAt x 2) (byteAt x 3) (byteAt x 4) ≡ true
+unfolding fieldsVerdict factVerdict
+fact-passed k x e is =
+    let f : factVerdict (k .sizes) x ≡ Good = rw is at (fields-passed k x e) in
+    passed (factGood (k .sizes) (byteAt x 1) (byteAt x 2) (byteAt x 3) (byteAt x 4)) Outside f
+
+-- A passed line has passed 3.
+pub placed : (k : Known) (x : List ℕ) → verdict k x ≡ Good → misplaced k (byteAt x 0) ≡ false
+unfolding verdict
+placed k x e = past (misplaced k (byteAt x 0)) Misplaced _ (past (malformed x) Malformed _ e .1) .0
+
+-- Before the sizes stand only a line of kind 01 passes, behind them no other such line.
+pub first-passed : (k : Known) (x : List ℕ) → verdict k x ≡ Good → k .headed ≡ false → byteAt x 0 ≡ 1
+unfolding misplaced
+first-passed k x e h = let p : not (eqb (byteAt x 0) 1) ≡ false = rw h at (placed k x e) in eqb-true (byteAt x 0) 1 (not-false _ p)
+
+pub later-passed : (k : Known) (x : List ℕ) → verdict k x ≡ Good → k .headed ≡ true → (byteAt x 0 ≡ 1 → ⊥)
+unfolding misplaced
+later-passed k x e h is =
+    let p : (k .asked || not (between 2 5 (byteAt x 0))) ≡ false = rw h at (placed k x e) in
+    let q : between 2 5 (byteAt x 0) ≡ true = not-false _ (or-right (k .asked) (not (between 2 5 (byteAt x 0))) p) in
+    omega (arith, between-true 2 5 (byteAt x 0) q .0)
+  where
+    or-right : (a b : Bool) → (a || b) ≡ false → b ≡ false
+    or-right true b f = absurd (true≢false f)
+    or-right false b f = f

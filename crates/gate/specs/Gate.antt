@@ -1,7 +1,7 @@
 -- The gate of one ended line: which of the refusals 2-9 falls on it, given what the lines above it tell.
 -- Paper 01, "The book" and "Turned back at the gate".
 use Prim.Native.Nat.{ℕ, zero, suc, _+_, _-_, _*_}
-use mathlib.Core.Bool.{Bool, true, false, not, cond, _&&_, _||_}
+use mathlib.Core.Bool.{Bool, true, not, cond, _&&_, _||_}
 use mathlib.Core.List.{List}
 use lib.ListN.{length}
 use lib.Dec.{eqb, ltb, leb}

@@ -1,7 +1,6 @@
 -- `frames::enter_edge` meets its contract: a line of kind 02 puts its junior into its senior's set, any other changes nothing. Assumes nothing.
-use mathlib.Core.Path.{_≡_, refl, sym, ap, _∙_}
+use mathlib.Core.Path.{sym, _∙_}
 use borrow.Author.Tests.{ne-eqb}
-use lib.ListN.{set}
 use lib.Seq.{set-out}
 use Rattle.frames.specs.Book.{juniorsAfter}
 use borrow.Author.Needs.{needs}

@@ -1,5 +1,4 @@
 -- `frames::enter_fact` meets its contract: a line of kind 04 puts its fact in, any other changes nothing. Assumes nothing.
-use mathlib.Core.Path.{_≡_, refl, sym, ap, _∙_}
 use borrow.Author.Tests.{ne-eqb}
 use Rattle.frames.specs.Book.{factsAfter}
 use borrow.Author.Needs.{needs}

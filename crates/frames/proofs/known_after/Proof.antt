@@ -1,5 +1,4 @@
 -- `frames::known_after` meets its contract: the first line gives the sizes, a rule is counted, the query is noted. Assumes nothing.
-use mathlib.Core.Path.{_≡_, refl, sym, ap, _∙_}
 use borrow.Author.Tests.{ne-eqb}
 use Rattle.frames.specs.Book.{knownAfter}
 use borrow.Author.Needs.{needs}

@@ -1,9 +1,9 @@
 -- `frames::read_lines` meets its contract. The invariant `Held` says that what is left of the book decides the answer; the
 -- measure is what is left of its length. Each turn is one law of WalkLaws. Assumes nothing.
-use mathlib.Core.Path.{_≡_, refl, sym, ap, _∙_}
+use mathlib.Core.Path.{refl, sym, ap, _∙_}
 use mathlib.Core.Logic.{⊎-elim, inl, inr}
 use borrow.Author.Tests.{not-true, not-false}
-use Prim.Native.Nat.{_+_, _-_, _≤_, _<_}
+use Prim.Native.Nat.{_-_}
 use lib.ListN.{length, drop, take, set}
 use Rattle.gate.proofs.PassedLaws.{rule-passed}
 use Rattle.frames.specs.Book.{answerOf, contentsOf, listed, nothing}

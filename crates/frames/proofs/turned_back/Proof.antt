@@ -1,5 +1,5 @@
 -- `frames::turned_back` meets its contract: a reading that is refused stands for its refusal. Assumes nothing.
-use mathlib.Core.Path.{_≡_, refl, sym, ap, _∙_}
+use mathlib.Core.Path.{refl}
 use Rattle.frames.specs.Book.{answerOf}
 use borrow.Author.Needs.{needs}
 use Rattle.frames.proofs.turned_back.Statement.{statement}

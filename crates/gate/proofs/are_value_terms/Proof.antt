@@ -1,5 +1,5 @@
 -- `gate::are_value_terms` meets its contract: the invariant says that `good` is the test of the terms below j; the measure is what is left of n. Assumes nothing.
-use mathlib.Core.Path.{_≡_, refl, sym, ap, _∙_}
+use mathlib.Core.Path.{_≡_, ap, _∙_}
 use Prim.Native.Nat.{ℕ, _≤_, _-_}
 use lib.Dec.{leb}
 use Rattle.gate.specs.Gate.{allBelow, valueTermAt}

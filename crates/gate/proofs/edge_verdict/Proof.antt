@@ -1,5 +1,5 @@
 -- `gate::edge_verdict` meets its contract: 5 before 6. Assumes nothing.
-use mathlib.Core.Path.{_≡_, refl, sym, ap, _∙_}
+use mathlib.Core.Path.{sym, _∙_}
 use borrow.Author.Tests.{le-ltb, lt-ltb, not-true, not-false}
 use Rattle.gate.specs.Gate.{edgeVerdict}
 use borrow.Author.Needs.{needs}

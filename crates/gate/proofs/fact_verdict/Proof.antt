@@ -1,5 +1,5 @@
 -- `gate::fact_verdict` meets its contract: good where the fact's fields are in their ranges. Assumes nothing.
-use mathlib.Core.Path.{_≡_, refl, sym, ap, _∙_}
+use mathlib.Core.Path.{sym, _∙_}
 use Rattle.gate.specs.Gate.{factVerdict}
 use borrow.Author.Needs.{needs}
 use Rattle.gate.proofs.fact_verdict.Statement.{statement}

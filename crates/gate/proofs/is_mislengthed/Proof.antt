@@ -1,5 +1,4 @@
 -- `gate::is_mislengthed` meets its contract: the line has two characters for each byte of the length that its kind gives. Assumes nothing.
-use mathlib.Core.Path.{_≡_, refl, sym, ap, _∙_}
 use Rattle.gate.specs.Gate.{mislengthed}
 use Rattle.gate.proofs.GateLaws.{length-small}
 use borrow.Author.Needs.{needs}

@@ -1,5 +1,5 @@
 -- `gate::judge_line` meets its contract: 2, then 3, then 4, then what the fields give. Assumes nothing.
-use mathlib.Core.Path.{_≡_, refl, sym, ap, _∙_}
+use mathlib.Core.Path.{sym, _∙_}
 use Rattle.gate.specs.Gate.{verdict}
 use borrow.Author.Needs.{needs}
 use Rattle.gate.proofs.judge_line.Statement.{statement}

@@ -1,5 +1,5 @@
 -- `gate::query_verdict` meets its contract: 5, then 9. Assumes nothing.
-use mathlib.Core.Path.{_≡_, refl, sym, ap, _∙_}
+use mathlib.Core.Path.{sym, _∙_}
 use borrow.Author.Tests.{not-true, not-false}
 use Rattle.gate.specs.Gate.{queryVerdict}
 use borrow.Author.Needs.{needs}

@@ -1,5 +1,5 @@
 -- `gate::rule_verdict` meets its contract: 5, then 7, then 8. Assumes nothing.
-use mathlib.Core.Path.{_≡_, refl, sym, ap, _∙_}
+use mathlib.Core.Path.{sym, _∙_}
 use borrow.Author.Tests.{le-leb, lt-leb, not-true, not-false}
 use Rattle.gate.specs.Gate.{ruleVerdict}
 use borrow.Author.Needs.{needs}

@@ -1,5 +1,5 @@
 -- `gate::sizes_verdict` meets its contract: good where the sizes are in their ranges. Assumes nothing.
-use mathlib.Core.Path.{_≡_, refl, sym, ap, _∙_}
+use mathlib.Core.Path.{sym, _∙_}
 use Rattle.gate.specs.Gate.{sizesVerdict}
 use borrow.Author.Needs.{needs}
 use Rattle.gate.proofs.sizes_verdict.Statement.{statement}

@@ -1,5 +1,5 @@
 -- `gate::values_of` meets its contract: one number serves all attributes. Assumes nothing.
-use mathlib.Core.Path.{_≡_, refl, sym, ap, _∙_}
+use mathlib.Core.Path.{refl}
 use Rattle.gate.specs.Gate.{valuesOf}
 use Rattle.gate.proofs.values_of.Statement.{statement}
 use Rattle.gate.proofs.values_of.Tie as tie

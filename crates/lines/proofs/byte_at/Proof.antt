@@ -1,8 +1,7 @@
 -- `lines::byte_at` meets its contract: two digits a byte; a digit is below 16, so the sum fits. Assumes nothing.
-use mathlib.Core.Path.{_≡_}
 use Prim.Native.Nat.{_+_, _*_}
 use native.Mathlib.Omega.{arith}
-use Rattle.lines.specs.Digits.{nibbleAt, byteAt}
+use Rattle.lines.specs.Digits.{byteAt}
 use Rattle.lines.proofs.DigitLaws.{nibble-small}
 use borrow.Author.Needs.{needs}
 use Rattle.lines.proofs.byte_at.Statement.{statement}

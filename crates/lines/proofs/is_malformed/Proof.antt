@@ -1,10 +1,10 @@
 -- `lines::is_malformed` meets its contract: the invariant says that the digits from i on decide; the measure is what is left of the line. Assumes nothing.
 use mathlib.Core.Path.{_≡_, refl, sym, ap, _∙_}
 use mathlib.Core.Bool.{not}
-use Prim.Native.Nat.{_+_, _-_, _≤_}
+use Prim.Native.Nat.{_-_, _≤_}
 use native.Mathlib.Omega.{arith}
 use lib.ListN.{length, drop}
-use Rattle.lines.specs.Digits.{all, isDigit, malformed}
+use Rattle.lines.specs.Digits.{all, isDigit}
 use Rattle.lines.proofs.DigitLaws.{malformed-empty, malformed-odd, malformed-even, all-out, all-fail, all-pass, digit-yes, digit-no}
 use borrow.Author.Needs.{needs}
 use Rattle.lines.proofs.is_malformed.Statement.{statement}

@@ -1,5 +1,5 @@
 -- `lines::line_end` meets its contract: the invariant says that the end found from i on is the line's; the measure is what is left of the book. Assumes nothing.
-use mathlib.Core.Path.{_≡_, refl, sym, _∙_}
+use mathlib.Core.Path.{_≡_, refl}
 use Prim.Native.Nat.{_+_, _-_, _≤_}
 use native.Mathlib.Omega.{arith}
 use lib.ListN.{length, drop}
