@@ -17,16 +17,16 @@ use Rattle.facts.specs.declared.Fact.{Fact}
 use Rattle.facts.proofs.FactLaws.{holds-put-other, holds-none, fact-discrete, put-length, put-bytes, none-length, none-bytes, zero-at}
 use Rattle.lines.specs.Digits.{byteAt}
 use Rattle.lines.specs.Lines.{Line, ended, unended, lines}
-use Rattle.gate.specs.Gate.{allBelow, verdict, factGood, ruleGood, foreign, headGood, termGood, termGoodAt, valueTermAt, isPerson, isCrew, isValue, isCrewField, between}
+use Rattle.gate.specs.Gate.{InRange, allBelow, verdict, factGood, ruleGood, foreign, headGood, termGood, termGoodAt, valueTermAt, isPerson, isCrew, isValue, isCrewField, between}
 use Rattle.gate.specs.declared.Sizes.{Sizes}
 use Rattle.gate.specs.declared.Fault.the-variants.{Malformed, Misplaced}
 use Rattle.gate.specs.declared.Verdict.{Verdict}
 use Rattle.gate.specs.declared.Verdict.the-variants.{Good, Bad}
-use Rattle.gate.proofs.PassedLaws.{InRange, and-both, sizes-passed, edge-passed, rule-passed, fact-passed, first-passed, later-passed}
+use Rattle.gate.proofs.PassedLaws.{and-both, sizes-passed, edge-passed, rule-passed, fact-passed, first-passed, later-passed}
 use Rattle.frames.specs.declared.Refusal.{Refusal}
 use Rattle.frames.specs.declared.Refusal.the-variants.{TooLong, BadLine}
 use Rattle.frames.specs.Book.{State, Contents, refused, accepted, contents, nothing, onward, walk, enter, bookOf, knownAfter, juniorsAfter, rulesAfter, ruleOf, termsOf, termAt, noTerm, factOf, factsAfter}
-use Rattle.frames.specs.Fits.{inSizes, termOf, ruleFits}
+use Rattle.frames.specs.Fits.{inSizes, termOf, ruleFits, Each, Short, Accepted}
 
 -- ---------------------------------------------------------------- one induction for every law
 
@@ -66,11 +66,6 @@ module _ (P : State → Type 0) (kept : (s : State) (x : List ℕ) → verdict (
 
 -- ---------------------------------------------------------------- rules
 
--- Each element of a list has a property.
-unfoldable pub Each : {A : Type 0} → (A → Type 0) → List A → Type 0
-Each P [] = Unit
-Each P (x ∷ xs) = P x × Each P xs
-
 each-more : {A : Type 0} (P : A → Type 0) (xs : List A) (x : A) → Each P xs → P x → Each P (xs ++ (x ∷ []))
 unfolding Each
 each-more P [] x e h = (h, tt)
@@ -97,6 +92,22 @@ all-same p q (suc n) h = rw (all-same p q n (λ j l. h j (omega arith)), h n (om
 and-from : (a b : Bool) → a ≡ true → b ≡ true → (a && b) ≡ true
 and-from a b e f = rw (e, f) refl
 
+-- A rule's line that passed has at most eight terms.
+rule-few : (z : Sizes) (x : List ℕ) → ruleGood z x ≡ true → byteAt x 5 ≤ 8
+unfolding ruleGood
+rule-few z x good =
+    let op = byteAt x 1 in
+    let a = byteAt x 3 in
+    let v = byteAt x 4 in
+    let n = byteAt x 5 in
+    let head = and-both (headGood z op (byteAt x 2) a v n) (allBelow (termGoodAt z x) n) good .0 in
+    let aim = ((between 1 4 op && isValue z a v) || (between 5 6 op && isCrewField z a v)) && leb (byteAt x 2) 15 in
+    leb-true n 8 (and-both aim (leb n 8) head .1)
+
+rule-short : (z : Sizes) (x : List ℕ) → ruleGood z x ≡ true → Short (ruleOf x)
+unfolding ruleOf termsOf
+rule-short z x good = record { few = rule-few z x good; room = refl }
+
 -- A rule's line that passed writes a rule within the sizes.
 rule-within : (z : Sizes) (x : List ℕ) → ruleGood z x ≡ true → foreign x ≡ false → ruleFits z (ruleOf x) ≡ true
 unfolding ruleGood foreign ruleFits ruleOf termOf termAt
@@ -104,7 +115,7 @@ rule-within z x good own =
     let op = byteAt x 1 in
     let n = byteAt x 5 in
     let parts = and-both (headGood z op (byteAt x 2) (byteAt x 3) (byteAt x 4) n) (allBelow (termGoodAt z x) n) good in
-    let few : n ≤ 8 = leb-true n 8 (and-both (((between 1 4 op && isValue z (byteAt x 3) (byteAt x 4)) || (between 5 6 op && isCrewField z (byteAt x 3) (byteAt x 4))) && leb (byteAt x 2) 15) (leb n 8) (parts .0) .1) in
+    let few : n ≤ 8 = rule-few z x good in
     let at : (j : ℕ) → j < n → getD (termsOf x) j noTerm ≡ termAt x j = λ j l. terms-at x j (omega arith) in
     and-from _ _
     (and-from _ _ (parts .0)
@@ -166,6 +177,7 @@ pub record Sound (s : State) : Type 0 where
   pub facts-room : length (s .facts) ≡ ledgerSize
   pub facts-bytes : (i : ℕ) → getD (s .facts) i 0 < 256
   pub rules-in : Each (λ r. ruleFits (s .known .sizes) r ≡ true) (s .rules)
+  pub rules-short : Each Short (s .rules)
   pub rules-few : (length (s .rules) ≡ s .known .count) × (s .known .count ≤ 512)
 
 no-edge : (i j : ℕ) → member (getD (replicate 32 0) i 0) j ≡ false
@@ -185,6 +197,7 @@ sound-nothing =
       facts-room = none-length;
       facts-bytes = none-bytes;
       rules-in = tt;
+      rules-short = tt;
       rules-few = (refl, omega arith);
     }
 
@@ -205,6 +218,7 @@ module _ (s : State) (x : List ℕ) (good : verdict (s .known) x ≡ Good) (p : 
         facts-room = rw is (p .facts-room);
         facts-bytes = λ i. rw is (p .facts-bytes i);
         rules-in = rw (is, was .1 .1) tt;
+        rules-short = rw (is, was .1 .1) tt;
         rules-few = rw is (p .rules-few);
       }
 
@@ -282,6 +296,13 @@ module _ (s : State) (x : List ℕ) (good : verdict (s .known) x ≡ Good) (p : 
       ))
       (λ (other : byteAt x 0 ≡ 3 → ⊥). rw (ne-eqb (byteAt x 0) 3 other) (p .rules-in, p .rules-few))
 
+  rules-stay-short : Each Short (rulesAfter (s .rules) x)
+  unfolding rulesAfter
+  rules-stay-short =
+      dite (ℕ-discrete (byteAt x 0) 3)
+      (λ (is : byteAt x 0 ≡ 3). rw is (each-more Short (s .rules) (ruleOf x) (p .rules-short) (rule-short (s .known .sizes) x (rule-passed (s .known) x good is .0))))
+      (λ (other : byteAt x 0 ≡ 3 → ⊥). rw (ne-eqb (byteAt x 0) 3 other) (p .rules-short))
+
   sound-later : Sound (enter s x)
   unfolding enter knownAfter
   sound-later =
@@ -295,6 +316,7 @@ module _ (s : State) (x : List ℕ) (good : verdict (s .known) x ≡ Good) (p : 
         facts-room = facts-shape .0;
         facts-bytes = facts-shape .1;
         rules-in = rw sizes-stay (rules-kept .0);
+        rules-short = rules-stay-short;
         rules-few = rules-kept .1;
       }
     where
@@ -315,20 +337,6 @@ sound-kept s x good p = by-head (s .known .headed) refl
 
 -- ---------------------------------------------------------------- the accepted book
 
-pub record Accepted (t : Contents) : Type 0 where
-  -- Sizes are in their ranges.
-  pub sized : InRange (t .sizes)
-  -- A junior's number is lower than its senior's, and both are crews.
-  pub edges : (i j : ℕ) → member (getD (t .juniors) i 0) j ≡ true → (j < i) × (i < t .sizes .crews)
-  pub edge-room : length (t .juniors) ≡ 32
-  -- The starting facts are a ledger, within the sizes.
-  pub facts-in : (f : Fact) → holds (t .facts) f ≡ true → inSizes (t .sizes) f ≡ true
-  pub facts-room : length (t .facts) ≡ ledgerSize
-  pub facts-bytes : (i : ℕ) → getD (t .facts) i 0 < 256
-  -- At most 512 rules, each within the sizes.
-  pub rules-in : Each (λ r. ruleFits (t .sizes) r ≡ true) (t .rules)
-  pub rules-few : length (t .rules) ≤ 512
-
 pub book-accepted : (chars : List ℕ) (t : Contents) → bookOf chars ≡ accepted t → Accepted t
 book-accepted chars t e = book-keeps Sound sound-kept Accepted given sound-nothing chars t e
   where
@@ -342,5 +350,7 @@ book-accepted chars t e = book-keeps Sound sound-kept Accepted given sound-nothi
           facts-room = p .facts-room;
           facts-bytes = p .facts-bytes;
           rules-in = p .rules-in;
-          rules-few = omega (arith, p .rules-few .0, p .rules-few .1);
+          rules-short = p .rules-short;
+          rules-counted = p .rules-few .0;
+          rules-few = p .rules-few .1;
         }

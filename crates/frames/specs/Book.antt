@@ -39,12 +39,13 @@ abbrev pub refusalLine : Refusal → ℕ
 refusalLine TooLong = 0
 refusalLine (BadLine f line) = line
 
--- What an accepted book says: the sizes; of each crew the set of its direct juniors; the rules in order; the ledger of
--- starting facts; the query.
+-- What an accepted book says: the sizes; of each crew the set of its direct juniors; the rules in order, and how many; the
+-- ledger of starting facts; the query.
 pub record Contents : Type 0 where
   pub sizes : Sizes
   pub juniors : List ℕ
   pub rules : List Rule
+  pub count : ℕ
   pub facts : List ℕ
   pub query : Query
 
@@ -170,7 +171,7 @@ enter s x =
     }
 
 abbrev pub contents : State → Contents
-contents s = record { sizes = s .known .sizes; juniors = s .juniors; rules = s .rules; facts = s .facts; query = s .query }
+contents s = record { sizes = s .known .sizes; juniors = s .juniors; rules = s .rules; count = s .known .count; facts = s .facts; query = s .query }
 
 -- One ended line, judged: refused with its fault at its number, or the answer of what follows it.
 abbrev pub onward : Verdict → ℕ → Answer → Answer
@@ -194,7 +195,7 @@ unfoldable pub listed : Rules → List Rule
 listed rs = take (rs .count) (rs .rules)
 
 unfoldable pub contentsOf : Book → Contents
-contentsOf b = record { sizes = b .sizes; juniors = b .juniors; rules = listed (b .rules); facts = b .facts; query = b .query }
+contentsOf b = record { sizes = b .sizes; juniors = b .juniors; rules = listed (b .rules); count = b .rules .count; facts = b .facts; query = b .query }
 
 abbrev pub answerFor : Outcome → Book → Answer
 answerFor Accepted b = accepted (contentsOf b)

@@ -1,15 +1,19 @@
--- What lies within a book's sizes: a fact, a rule.
-use Prim.Native.Nat.{ℕ}
-use mathlib.Core.Bool.{Bool, _&&_, _||_}
+-- What lies within a book's sizes: a fact, a rule; and the shape of a rule by value.
+use mathlib.Core.Path.{_≡_}
+use Prim.Native.Nat.{ℕ, _≤_, _<_}
+use mathlib.Core.Bool.{Bool, true, _&&_, _||_}
+use mathlib.Core.List.{List, [], _∷_}
 use lib.Dec.{leb}
-use lib.ListN.{getD}
+use lib.ListN.{getD, length}
+use Rattle.sets.specs.Sets.{member}
+use Rattle.facts.specs.Facts.{holds, ledgerSize}
 use Rattle.facts.specs.declared.Fact.{Fact}
 use Rattle.facts.specs.declared.Fact.the-variants.{Holds, CrewHolds, Member}
 use Rattle.gate.specs.declared.Sizes.{Sizes}
-use Rattle.gate.specs.Gate.{allBelow, isPerson, isCrew, isValue, headGood, termGood}
+use Rattle.gate.specs.Gate.{InRange, allBelow, isPerson, isCrew, isValue, headGood, termGood}
 use Rattle.frames.specs.declared.Term.{Term}
 use Rattle.frames.specs.declared.Rule.{Rule}
-use Rattle.frames.specs.Book.{noTerm}
+use Rattle.frames.specs.Book.{Contents, noTerm}
 
 -- A fact about a person, crew, attribute and value of the book.
 unfoldable pub inSizes : Sizes → Fact → Bool
@@ -29,3 +33,30 @@ unfoldable pub ruleFits : Sizes → Rule → Bool
 ruleFits z r =
     headGood z (r .op) (r .role .0) (r .a) (r .v) (r .n) && allBelow (termFits z r) (r .n)
     && (leb 5 (r .op) || allBelow (λ j. leb (termOf r j .kind) 2) (r .n))
+
+-- A rule by value has room for eight terms, and at most eight.
+pub record Short (r : Rule) : Type 0 where
+  pub few : r .n ≤ 8
+  pub room : length (r .terms) ≡ 8
+
+-- Each element of a list has a property.
+unfoldable pub Each : {A : Type 0} → (A → Type 0) → List A → Type 0
+Each P [] = Unit
+Each P (x ∷ xs) = P x × Each P xs
+
+-- What every accepted book has (proofs/BookLaws, `book-accepted`).
+pub record Accepted (t : Contents) : Type 0 where
+  -- Sizes are in their ranges.
+  pub sized : InRange (t .sizes)
+  -- A junior's number is lower than its senior's, and both are crews.
+  pub edges : (i j : ℕ) → member (getD (t .juniors) i 0) j ≡ true → (j < i) × (i < t .sizes .crews)
+  pub edge-room : length (t .juniors) ≡ 32
+  -- The starting facts are a ledger, within the sizes.
+  pub facts-in : (f : Fact) → holds (t .facts) f ≡ true → inSizes (t .sizes) f ≡ true
+  pub facts-room : length (t .facts) ≡ ledgerSize
+  pub facts-bytes : (i : ℕ) → getD (t .facts) i 0 < 256
+  -- At most 512 rules, each within the sizes, of at most eight terms.
+  pub rules-in : Each (λ r. ruleFits (t .sizes) r ≡ true) (t .rules)
+  pub rules-short : Each Short (t .rules)
+  pub rules-counted : length (t .rules) ≡ t .count
+  pub rules-few : t .count ≤ 512

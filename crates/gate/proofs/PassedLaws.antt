@@ -9,13 +9,12 @@ use lib.ListN.{length}
 use borrow.Author.Tests.{leb-true, leb-false, ltb-true, eqb-true, not-false}
 use Rattle.lines.specs.Digits.{byteAt, malformed}
 use Rattle.lines.proofs.DigitLaws.{well-long}
-use Rattle.gate.specs.declared.Sizes.{Sizes}
 use Rattle.gate.specs.declared.Known.{Known}
 use Rattle.gate.specs.declared.Fault.{Fault}
 use Rattle.gate.specs.declared.Verdict.{Verdict}
 use Rattle.gate.specs.declared.Verdict.the-variants.{Good, Bad}
 use Rattle.gate.specs.declared.Fault.the-variants.{Malformed, Misplaced, Mislengthed, Outside, NotJunior, ForeignTerm, TooManyRules}
-use Rattle.gate.specs.Gate.{between, misplaced, mislengthed, sizesGood, sizesVerdict, edgeVerdict, isCrew, ruleGood, foreign, ruleVerdict, factGood, factVerdict, fieldsVerdict, verdict}
+use Rattle.gate.specs.Gate.{InRange, between, misplaced, mislengthed, sizesGood, sizesVerdict, edgeVerdict, isCrew, ruleGood, foreign, ruleVerdict, factGood, factVerdict, fieldsVerdict, verdict}
 
 -- A fault is not Good.
 pub bad-good : (f : Fault) → Bad f ≡ Good → ⊥
@@ -51,16 +50,6 @@ fields-passed k x e =
 pub line-long : (k : Known) (x : List ℕ) → verdict k x ≡ Good → 2 ≤ length x
 unfolding verdict
 line-long k x e = well-long x (past (malformed x) Malformed _ e .0)
-
--- The ranges of the sizes.
-pub record InRange (z : Sizes) : Type 0 where
-  pub persons-some : 1 ≤ z .persons
-  pub persons-most : z .persons ≤ 64
-  pub crews-most : z .crews ≤ 32
-  pub attrs-some : 1 ≤ z .attrs
-  pub attrs-most : z .attrs ≤ 8
-  pub values-some : 1 ≤ z .values
-  pub values-most : z .values ≤ 16
 
 sizes-good : (p g a v : ℕ) → sizesGood p g a v ≡ true → InRange (record { persons = p; crews = g; attrs = a; values = v })
 sizes-good p g a v e =

@@ -1,6 +1,6 @@
 -- The gate of one ended line: which of the refusals 2-9 falls on it, given what the lines above it tell.
 -- Paper 01, "The book" and "Turned back at the gate".
-use Prim.Native.Nat.{ℕ, zero, suc, _+_, _-_, _*_}
+use Prim.Native.Nat.{ℕ, zero, suc, _+_, _-_, _*_, _≤_}
 use mathlib.Core.Bool.{Bool, true, not, cond, _&&_, _||_}
 use mathlib.Core.List.{List}
 use lib.ListN.{length}
@@ -89,6 +89,16 @@ mislengthed x = not (eqb (length x) (2 * lengthOf (byteAt x 0) (byteAt x 1) (byt
 -- "persons 1-64, crews 0-32, attributes 1-8, values of each attribute 1-16"
 abbrev pub sizesGood : ℕ → ℕ → ℕ → ℕ → Bool
 sizesGood p g a v = between 1 64 p && leb g 32 && between 1 8 a && between 1 16 v
+
+-- The same as propositions, of sizes that passed.
+pub record InRange (z : Sizes) : Type 0 where
+  pub persons-some : 1 ≤ z .persons
+  pub persons-most : z .persons ≤ 64
+  pub crews-most : z .crews ≤ 32
+  pub attrs-some : 1 ≤ z .attrs
+  pub attrs-most : z .attrs ≤ 8
+  pub values-some : 1 ≤ z .values
+  pub values-most : z .values ≤ 16
 
 unfoldable pub sizesVerdict : List ℕ → Verdict
 sizesVerdict x = cond (sizesGood (byteAt x 1) (byteAt x 2) (byteAt x 3) (byteAt x 4)) Good (Bad Outside)

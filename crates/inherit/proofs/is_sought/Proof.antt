@@ -1,0 +1,33 @@
+-- `inherit::is_sought` meets its contract: each arm is the definition at its variant. Assumes nothing.
+use mathlib.Core.Path.{ap, sym, _∙_}
+use Rattle.facts.specs.Facts.{holds}
+use Rattle.inherit.specs.Inheritance.{sought}
+use Rattle.inherit.specs.declared.Sought.{Sought}
+use borrow.Author.Needs.{needs}
+use Rattle.inherit.proofs.is_sought.Statement.{statement}
+use Rattle.inherit.proofs.is_sought.Tie as tie
+
+enum-known-w : tie.Need-enum-known-w
+enum-known-w c = search needs
+
+fact-holds-requires : tie.Need-fact-holds-requires
+fact-holds-requires c κs = search needs
+
+enum-known-w-2 : tie.Need-enum-known-w-2
+enum-known-w-2 c = search needs
+
+returns : tie.Need-returns
+unfolding sought
+returns c =
+    let start = c .before .before .before .before .before in
+    c .fact-holds .ensures ∙ sym (ap (λ (w : Sought). sought (holds (start .args .ledger .now)) w (start .args .c)) (c .before .before .w .given .1))
+
+returns-2 : tie.Need-returns-2
+unfolding sought
+returns-2 c =
+    let start = c .before .before .before .before .before in
+    sym (ap (λ (w : Sought). sought (holds (start .args .ledger .now)) w (start .args .c)) (c .before .before .w2 .given .1))
+
+pub is-sought-spec : {M : Type 1} → statement M
+is-sought-spec =
+    tie.close (tie.spec enum-known-w fact-holds-requires enum-known-w-2 returns returns-2)

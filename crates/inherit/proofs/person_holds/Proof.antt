@@ -1,0 +1,35 @@
+-- `inherit::person_holds` meets its contract: what the person does not directly hold is effective by the person's crews, or not at all. Assumes nothing.
+use mathlib.Core.Bool.{true, false}
+use mathlib.Core.Path.{_≡_, sym, _∙_}
+use Rattle.facts.specs.Facts.{holds}
+use Rattle.facts.specs.declared.Fact.the-variants.{Holds}
+use Rattle.inherit.specs.Inheritance.{crewHolds, sought}
+use Rattle.inherit.proofs.InheritanceLaws.{person-holds-direct, by-crews}
+use borrow.Author.Needs.{needs}
+use Rattle.inherit.proofs.person_holds.Statement.{statement}
+use Rattle.inherit.proofs.person_holds.Tie as tie
+
+fact-holds-requires : tie.Need-fact-holds-requires
+fact-holds-requires c κs = search needs
+
+returns : tie.Need-returns
+returns c =
+    let start = c .before .before .before .before in
+    let S = holds (start .args .ledger .now) in
+    let direct : S (Holds (start .args .p) (start .args .a) (start .args .v)) ≡ true = sym (c .before .fact-holds .ensures) ∙ c .if1 .taken in
+    sym (person-holds-direct (start .args .juniors .now) S (start .args .p) (start .args .a) (start .args .v) direct)
+
+person-reaches-requires : tie.Need-person-reaches-requires
+person-reaches-requires c κs = search needs
+
+returns-2 : tie.Need-returns-2
+unfolding crewHolds sought
+returns-2 c =
+    let start = c .before .before .before .before .before in
+    let S = holds (start .args .ledger .now) in
+    let direct : S (Holds (start .args .p) (start .args .a) (start .args .v)) ≡ false = sym (c .before .before .fact-holds .ensures) ∙ c .before .if1 .left in
+    c .person-reaches .ensures ∙ by-crews (start .args .juniors .now) S (start .args .p) (start .args .a) (start .args .v) direct
+
+pub person-holds-spec : {M : Type 1} → statement M
+person-holds-spec =
+    tie.close (tie.spec fact-holds-requires returns person-reaches-requires returns-2)
