@@ -23,10 +23,12 @@ use Rattle.gate.specs.declared.Fault.the-variants.{Malformed, Misplaced}
 use Rattle.gate.specs.declared.Verdict.{Verdict}
 use Rattle.gate.specs.declared.Verdict.the-variants.{Good, Bad}
 use Rattle.gate.proofs.PassedLaws.{and-both, sizes-passed, edge-passed, rule-passed, fact-passed, first-passed, later-passed}
+use Rattle.frames.specs.declared.Reading.{Reading}
+use Rattle.frames.specs.declared.Outcome.the-variants.{Accepted, Refused}
 use Rattle.frames.specs.declared.Refusal.{Refusal}
 use Rattle.frames.specs.declared.Refusal.the-variants.{TooLong, BadLine}
-use Rattle.frames.specs.Book.{State, Contents, refused, accepted, contents, nothing, onward, walk, enter, bookOf, knownAfter, juniorsAfter, rulesAfter, ruleOf, termsOf, termAt, noTerm, factOf, factsAfter}
-use Rattle.frames.specs.Fits.{inSizes, termOf, ruleFits, Each, Short, Accepted}
+use Rattle.frames.specs.Book.{contentsOf, answerOf, State, Contents, refused, accepted, contents, nothing, onward, walk, enter, bookOf, knownAfter, juniorsAfter, rulesAfter, ruleOf, termsOf, termAt, noTerm, factOf, factsAfter}
+use Rattle.frames.specs.Fits.{inSizes, termOf, ruleFits, Each, Short, Admitted}
 
 -- ---------------------------------------------------------------- one induction for every law
 
@@ -337,10 +339,10 @@ sound-kept s x good p = by-head (s .known .headed) refl
 
 -- ---------------------------------------------------------------- the accepted book
 
-pub book-accepted : (chars : List ℕ) (t : Contents) → bookOf chars ≡ accepted t → Accepted t
-book-accepted chars t e = book-keeps Sound sound-kept Accepted given sound-nothing chars t e
+pub book-accepted : (chars : List ℕ) (t : Contents) → bookOf chars ≡ accepted t → Admitted t
+book-accepted chars t e = book-keeps Sound sound-kept Admitted given sound-nothing chars t e
   where
-    given : (s : State) → Sound s → s .known .asked ≡ true → Accepted (contents s)
+    given : (s : State) → Sound s → s .known .asked ≡ true → Admitted (contents s)
     given s p asked =
         record {
           sized = p .sized (p .headed-first asked);
@@ -354,3 +356,17 @@ book-accepted chars t e = book-keeps Sound sound-kept Accepted given sound-nothi
           rules-counted = p .rules-few .0;
           rules-few = p .rules-few .1;
         }
+
+-- ---------------------------------------------------------------- what a reading tells of its book
+
+module _ (chars : List ℕ) (r : Reading) (reads : answerOf r ≡ bookOf chars) where
+  pub read-refused : (x : Refusal) → r .outcome ≡ Refused x → bookOf chars ≡ refused x
+  unfolding answerOf
+  read-refused x e = sym (rw e at reads)
+
+  pub read-accepted : r .outcome ≡ Accepted → bookOf chars ≡ accepted (contentsOf (r .book))
+  unfolding answerOf
+  read-accepted e = sym (rw e at reads)
+
+  pub read-sound : r .outcome ≡ Accepted → Admitted (contentsOf (r .book))
+  read-sound e = book-accepted chars (contentsOf (r .book)) (read-accepted e)

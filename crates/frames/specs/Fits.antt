@@ -45,7 +45,7 @@ Each P [] = Unit
 Each P (x ∷ xs) = P x × Each P xs
 
 -- What every accepted book has (proofs/BookLaws, `book-accepted`).
-pub record Accepted (t : Contents) : Type 0 where
+pub record Admitted (t : Contents) : Type 0 where
   -- Sizes are in their ranges.
   pub sized : InRange (t .sizes)
   -- A junior's number is lower than its senior's, and both are crews.

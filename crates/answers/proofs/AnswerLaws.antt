@@ -1,0 +1,124 @@
+-- The laws of written answers: texts that grow, digits read back, counts, and the room that an answer takes.
+use mathlib.Core.Path.{_≡_, refl, ap, sym, _∙_}
+use mathlib.Core.Bool.{Bool, true, false, _&&_, true≢false}
+use mathlib.Core.List.{List, [], _∷_, _++_, append-assoc}
+use mathlib.Core.Logic.{dite}
+use Prim.Native.Nat.{ℕ, zero, suc, _+_, _*_, _/_, _%_, _≤_, _<_}
+use native.Mathlib.Decide.{decLt}
+use native.Mathlib.Numerals.{add-one}
+use native.Mathlib.Omega.{arith}
+use lib.Dec.{eqb, leb·suc-suc, lit≤}
+use lib.ListN.{length, take, drop, set, getD, drop-of-length-le}
+use lib.Seq.{take-suc-set, drop-cons}
+use borrow.Author.Tests.{eqb-true}
+use Rattle.sets.specs.Sets.{member}
+use Rattle.lines.specs.Digits.{digit, character, nibbleAt, byteAt}
+use Rattle.lines.proofs.DigitLaws.{nibble-in, nibble-out}
+use Rattle.gate.specs.Gate.{allBelow}
+use Rattle.frames.specs.declared.Outcome.{Outcome}
+use Rattle.frames.specs.declared.Outcome.the-variants.{Accepted, Refused}
+use Rattle.frames.specs.declared.Book.{Book}
+use Rattle.answers.specs.Answers.{hex, hexLine, refusalBytes, size, total, count, bookLine, answerLine}
+
+-- ---------------------------------------------------------------- a text that grows
+
+-- A character put at the place i stands behind the first i.
+pub char-behind : (s : List ℕ) (i c : ℕ) → i < length s → take (i + 1) (set s i c) ≡ take i s ++ (c ∷ [])
+char-behind s i c h = rw add-one (take-suc-set s i c h)
+
+-- The digits of two lists of bytes, one behind the other.
+pub hex-append : (xs ys : List ℕ) → hex (xs ++ ys) ≡ hex xs ++ hex ys
+unfolding hex
+hex-append [] ys = refl
+hex-append (x ∷ xs) ys = ap (λ (l : List ℕ). character (x / 16) ∷ character (x % 16) ∷ l) (hex-append xs ys)
+
+-- Bytes written behind bytes are the bytes of both.
+pub bytes-behind :
+    (a : List ℕ) {y z : List ℕ} (xs ys : List ℕ) → y ≡ a ++ hex xs → z ≡ y ++ hex ys → z ≡ a ++ hex (xs ++ ys)
+bytes-behind a xs ys p q = q ∙ rw (p, append-assoc, hex-append)
+
+-- The two digits of a byte, written one behind the other.
+pub digits-behind :
+    (a : List ℕ) {y z : List ℕ} {h l : ℕ} (b : ℕ) →
+    h ≡ character (b / 16) → l ≡ character (b % 16) → y ≡ a ++ (h ∷ []) → z ≡ y ++ (l ∷ []) → z ≡ a ++ hex (b ∷ [])
+unfolding hex
+digits-behind a b d e p q = q ∙ rw (p, append-assoc, d, e)
+
+-- A blank, a byte and the line's end, written one behind the other.
+pub last-behind :
+    (a : List ℕ) {x y z : List ℕ} (b : ℕ) →
+    x ≡ a ++ (32 ∷ []) → y ≡ x ++ hex (b ∷ []) → z ≡ y ++ (10 ∷ []) → z ≡ a ++ (32 ∷ hexLine (b ∷ []))
+unfolding hexLine
+last-behind a b p q s = s ∙ rw (q, p) (simp append-assoc)
+
+-- ---------------------------------------------------------------- digits read back
+
+both-true : (a b : Bool) → (a && b) ≡ true → (a ≡ true) × (b ≡ true)
+both-true true b e = (refl, e)
+both-true false b e = absurd (true≢false (sym e))
+
+back-below : (n : ℕ) → allBelow (λ (d : ℕ). eqb (digit (character d)) d) n ≡ true → (d : ℕ) → d < n → digit (character d) ≡ d
+unfolding allBelow
+back-below zero t d h = omega arith
+back-below (suc n) t d h =
+    let both = both-true _ _ t in
+    dite (decLt d n) (λ (m : d < n). back-below n (both .0) d m)
+    (λ (m : d < n → ⊥). let e : d ≡ n = omega arith in rw e (eqb-true _ n (both .1)))
+
+-- A digit's character has the digit's value: computed for the sixteen.
+pub digit-back : (d : ℕ) → d < 16 → digit (character d) ≡ d
+unfolding allBelow digit character
+digit-back d h = back-below 16 refl d h
+
+nibble-step : (c : ℕ) (x : List ℕ) (i : ℕ) → nibbleAt (c ∷ x) (suc i) ≡ nibbleAt x i
+unfolding nibbleAt
+nibble-step c x i = rw (leb·suc-suc (suc i) (length x))
+
+byte-step : (c d : ℕ) (x : List ℕ) (k : ℕ) → byteAt (c ∷ d ∷ x) (suc k) ≡ byteAt x k
+unfolding byteAt
+byte-step c d x k =
+    let e : 2 * suc k ≡ suc (suc (2 * k)) = omega arith in
+    let f : suc (suc (2 * k)) + 1 ≡ suc (suc (2 * k + 1)) = omega arith in
+    rw (e, f) (simp nibble-step)
+
+-- Reading the digits of bytes back gives the bytes.
+pub read-back : (bs : List ℕ) → ((i : ℕ) → getD bs i 0 < 256) → (k : ℕ) → byteAt (hex bs) k ≡ getD bs k 0
+unfolding hex byteAt
+read-back [] h k = omega (arith, nibble-out [] (2 * k) (omega arith), nibble-out [] (2 * k + 1) (omega arith))
+read-back (b ∷ bs) h zero =
+    let x = hex (b ∷ bs) in
+    let long : length x ≡ suc (suc (length (hex bs))) = refl in
+    let small : b < 256 = h 0 in
+    let high : b / 16 ≡ nibbleAt x 0 = nibble-in x 0 (b / 16) (sym (digit-back (b / 16) (omega arith))) (omega arith) (omega arith) in
+    let low : b % 16 ≡ nibbleAt x 1 = nibble-in x 1 (b % 16) (sym (digit-back (b % 16) (omega arith))) (omega arith) (omega arith) in
+    omega arith
+read-back (b ∷ bs) h (suc k) = byte-step _ _ (hex bs) k ∙ read-back bs (λ i. h (suc i)) k
+
+-- ---------------------------------------------------------------- counts
+
+-- One number more is counted where it is a member.
+pub size-in : (x v : ℕ) → member x v ≡ true → size x (v + 1) ≡ size x v + 1
+unfolding size
+size-in x v e = rw (add-one v, e)
+
+pub size-out : (x v : ℕ) → member x v ≡ false → size x (v + 1) ≡ size x v
+unfolding size
+size-out x v e = rw (add-one v, e) (omega arith)
+
+-- The sets behind the first i, and the one at i.
+pub total-step :
+    (w : ℕ) (xs : List ℕ) (i : ℕ) → i < length xs → total w (drop i xs) ≡ size (getD xs i 0) w + total w (drop (i + 1) xs)
+unfolding total
+total-step w xs i h = rw (add-one, drop-cons xs i 0)
+
+pub total-end : (w : ℕ) (xs : List ℕ) (i : ℕ) → length xs ≤ i → total w (drop i xs) ≡ 0
+unfolding total
+total-end w xs i h = rw (drop-of-length-le xs {i = i} h)
+
+-- ---------------------------------------------------------------- room
+
+-- An answer has its line end at least, and fits a text.
+pub answer-fits : (o : Outcome) (b : Book) → (1 ≤ length (answerLine o b)) × (length (answerLine o b) ≤ 64)
+unfolding answerLine bookLine hexLine refusalBytes count hex
+answer-fits Accepted b = (lit≤ tt, lit≤ tt)
+answer-fits (Refused r) b = (lit≤ tt, lit≤ tt)

@@ -1,0 +1,67 @@
+-- The line that answers a book: "in the book's hexadecimal and line ends".
+use Prim.Native.Nat.{ℕ, zero, suc, _+_, _/_, _%_}
+use mathlib.Core.Path.{_≡_}
+use mathlib.Core.Bool.{cond}
+use mathlib.Core.List.{List, [], _∷_, _++_}
+use lib.ListN.{length, take}
+use Rattle.lines.specs.Digits.{character}
+use Rattle.sets.specs.Sets.{member}
+use Rattle.frames.specs.Book.{refusalNumber, refusalLine}
+use Rattle.frames.specs.declared.Refusal.{Refusal}
+use Rattle.frames.specs.declared.Outcome.{Outcome}
+use Rattle.frames.specs.declared.Outcome.the-variants.{Accepted, Refused}
+use Rattle.frames.specs.declared.Book.{Book}
+use Rattle.frames.specs.declared.Reading.{Reading}
+use Rattle.answers.specs.declared.Text.{Text}
+
+-- The characters of a text.
+abbrev pub chars : Text → List ℕ
+chars t = take (t .len) (t .chars)
+
+-- The text t is the characters cs.
+pub record Writes (t : Text) (cs : List ℕ) : Type 0 where
+  pub long : t .len ≡ length cs
+  pub same : chars t ≡ cs
+
+-- "digits 0-9 and A-F, two a byte": the two digits of each byte.
+unfoldable pub hex : List ℕ → List ℕ
+hex [] = []
+hex (b ∷ bs) = character (b / 16) ∷ character (b % 16) ∷ hex bs
+
+-- "each line ended by byte 0A"
+unfoldable pub hexLine : List ℕ → List ℕ
+hexLine bs = hex bs ++ 10 ∷ []
+
+-- A number as "two bytes".
+abbrev pub pair : ℕ → List ℕ
+pair n = n / 256 % 256 ∷ n % 256 ∷ []
+
+-- "`8F`, refusal number (one byte) and line (two bytes)"
+unfoldable pub refusalBytes : Refusal → List ℕ
+refusalBytes r = 143 ∷ refusalNumber r ∷ pair (refusalLine r)
+
+-- How many numbers below w are members of x.
+unfoldable pub size : ℕ → ℕ → ℕ
+size x zero = 0
+size x (suc w) = size x w + cond (member x w) 1 0
+
+-- How many members the sets of a list have together, counting the numbers below w.
+unfoldable pub total : ℕ → List ℕ → ℕ
+total w [] = 0
+total w (x ∷ xs) = size x w + total w xs
+
+-- A blank, and a number as two bytes.
+unfoldable pub count : ℕ → List ℕ
+count n = 32 ∷ hex (pair n)
+
+-- The line of an accepted book: 01 and the sizes; how many edges, rules and starting facts it has; q.
+unfoldable pub bookLine : Book → List ℕ
+bookLine b =
+    hex (1 ∷ b .sizes .persons ∷ b .sizes .crews ∷ b .sizes .attrs ∷ b .sizes .values ∷ [])
+    ++ count (total 32 (b .juniors)) ++ count (b .rules .count) ++ count (total 8 (b .facts))
+    ++ 32 ∷ hexLine (b .query .q ∷ [])
+
+-- The line that answers a book, by what reading it gave.
+unfoldable pub answerLine : Outcome → Book → List ℕ
+answerLine Accepted b = bookLine b
+answerLine (Refused r) b = hexLine (refusalBytes r)

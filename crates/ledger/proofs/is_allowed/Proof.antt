@@ -1,0 +1,26 @@
+-- `ledger::is_allowed` meets its contract: a request is permitted where the first permitting rule is found before the end of the rules. Assumes nothing.
+use mathlib.Core.Path.{sym, ap, _∙_}
+use lib.Dec.{ltb}
+use Rattle.facts.specs.Facts.{holds}
+use Rattle.rules.specs.Rules.{permits, permitted}
+use Rattle.rules.proofs.SearchLaws.{any-first}
+use Rattle.frames.specs.Book.{contentsOf, listed}
+use Rattle.ledger.specs.Ledger.{allowed}
+use borrow.Author.Needs.{needs}
+use Rattle.ledger.proofs.is_allowed.Statement.{statement}
+use Rattle.ledger.proofs.is_allowed.Tie as tie
+
+slice-aggregate-first-permitting : tie.Need-slice-aggregate-first-permitting
+slice-aggregate-first-permitting c = search needs
+
+first-permitting-requires : tie.Need-first-permitting-requires
+unfolding contentsOf
+first-permitting-requires c κs = let book = c .before .before .before .before .pre in ((book .rules-few, book .rules-short), book .edge-room)
+
+returns : tie.Need-returns
+unfolding allowed permitted contentsOf
+returns c = let start = c .before .before .before .before .before in rw (c .first-permitting .ensures) (sym (any-first (permits (start .args .b .juniors) (holds (start .args .ledger .now)) (start .args .q)) (listed (start .args .b .rules)) ∙ ap (ltb _) (start .pre .rules-counted)))
+
+pub is-allowed-spec : {M : Type 1} → statement M
+is-allowed-spec =
+    tie.close (tie.spec slice-aggregate-first-permitting first-permitting-requires returns)

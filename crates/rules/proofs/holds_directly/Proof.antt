@@ -1,0 +1,39 @@
+-- `rules::holds_directly` meets its contract: each arm is the definition at its variant. Assumes nothing.
+use mathlib.Core.Path.{sym, ap, _∙_}
+use Rattle.rules.specs.declared.Subject.{Subject}
+use Rattle.facts.specs.Facts.{holds}
+use Rattle.rules.specs.Rules.{directly}
+use borrow.Author.Needs.{needs}
+use Rattle.rules.proofs.holds_directly.Statement.{statement}
+use Rattle.rules.proofs.holds_directly.Tie as tie
+
+enum-known-s : tie.Need-enum-known-s
+enum-known-s c = search needs
+
+fact-holds-requires : tie.Need-fact-holds-requires
+fact-holds-requires c κs = search needs
+
+enum-known-s-2 : tie.Need-enum-known-s-2
+enum-known-s-2 c = search needs
+
+fact-holds-requires-2 : tie.Need-fact-holds-requires-2
+fact-holds-requires-2 c κs = search needs
+
+returns : tie.Need-returns
+unfolding directly
+returns c = let at = c .before .before .before .before .before .args in c .fact-holds .ensures ∙ sym (ap (λ (s : Subject). directly (holds (at .ledger .now)) s (at .a) (at .v)) (c .before .before .s .given .1))
+
+returns-2 : tie.Need-returns-2
+unfolding directly
+returns-2 c = let at = c .before .before .before .before .before .args in c .fact-holds2 .ensures ∙ sym (ap (λ (s : Subject). directly (holds (at .ledger .now)) s (at .a) (at .v)) (c .before .before .s2 .given .1))
+
+pub holds-directly-spec : {M : Type 1} → statement M
+holds-directly-spec =
+    tie.close
+    (tie.spec
+    enum-known-s
+    fact-holds-requires
+    enum-known-s-2
+    fact-holds-requires-2
+    returns
+    returns-2)

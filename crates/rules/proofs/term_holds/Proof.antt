@@ -1,0 +1,52 @@
+-- `rules::term_holds` meets its contract: one case a kind. Assumes nothing.
+use borrow.Author.Tests.{eq-eqb, ne-eqb}
+use Rattle.rules.specs.Rules.{termHolds}
+use borrow.Author.Needs.{needs}
+use Rattle.rules.proofs.term_holds.Statement.{statement}
+use Rattle.rules.proofs.term_holds.Tie as tie
+
+holds-directly-requires : tie.Need-holds-directly-requires
+holds-directly-requires c κs = search needs
+
+returns : tie.Need-returns
+unfolding termHolds
+returns c = rw (eq-eqb _ _ (c .before .if1 .taken)) (c .holds-directly .ensures)
+
+holds-effectively-requires : tie.Need-holds-effectively-requires
+holds-effectively-requires c κs = search needs
+
+returns-2 : tie.Need-returns-2
+unfolding termHolds
+returns-2 c = rw (ne-eqb _ _ (c .before .before .if1 .left), eq-eqb _ _ (c .before .if2 .taken)) (c .holds-effectively .ensures)
+
+is-directly-in-requires : tie.Need-is-directly-in-requires
+is-directly-in-requires c κs = search needs
+
+returns-3 : tie.Need-returns-3
+unfolding termHolds
+returns-3 c = rw (ne-eqb _ _ (c .before .before .before .if1 .left), ne-eqb _ _ (c .before .before .if2 .left), eq-eqb _ _ (c .before .if3 .taken)) (c .is-directly-in .ensures)
+
+is-effectively-in-requires : tie.Need-is-effectively-in-requires
+is-effectively-in-requires c κs = search needs
+
+returns-4 : tie.Need-returns-4
+unfolding termHolds
+returns-4 c = rw (ne-eqb _ _ (c .before .before .before .before .if1 .left), ne-eqb _ _ (c .before .before .before .if2 .left), ne-eqb _ _ (c .before .before .if3 .left), eq-eqb _ _ (c .before .if4 .taken)) (c .is-effectively-in .ensures)
+
+returns-5 : tie.Need-returns-5
+unfolding termHolds
+returns-5 c = rw (ne-eqb _ _ (c .before .before .before .if1 .left), ne-eqb _ _ (c .before .before .if2 .left), ne-eqb _ _ (c .before .if3 .left), ne-eqb _ _ (c .if4 .left))
+
+pub term-holds-spec : {M : Type 1} → statement M
+term-holds-spec =
+    tie.close
+    (tie.spec
+    holds-directly-requires
+    returns
+    holds-effectively-requires
+    returns-2
+    is-directly-in-requires
+    returns-3
+    is-effectively-in-requires
+    returns-4
+    returns-5)
