@@ -95,7 +95,7 @@ pub fn open(book: &[u8], ledger: &mut [u8]) -> Outcome
 }
 
 // Whether some rule permits the request in the ledger.
-fn is_allowed(b: Book, ledger: &[u8], q: requests::Request) -> bool
+pub fn is_allowed(b: Book, ledger: &[u8], q: requests::Request) -> bool
     requires { ⌜ Admitted (contentsOf b) ⌝ }
     ensures { λ r. ⌜ r ≡ allowed (contentsOf b) (now (ledger .entry)) q ⌝ }
 {
@@ -155,7 +155,7 @@ fn values_below(ledger: &[u8], juniors: &[u32], p: Person, a: Attr, n: u8) -> u3
 }
 
 // The set of the values of attribute a that the person effectively holds; 0 for an absent attribute.
-fn value_set(z: gate::Sizes, ledger: &[u8], juniors: &[u32], p: Person, a: u8) -> u32
+pub fn value_set(z: gate::Sizes, ledger: &[u8], juniors: &[u32], p: Person, a: u8) -> u32
     requires { ⌜ InRange z × (length (now juniors) ≡ 32) ⌝ }
     ensures { λ r. ⌜ r ≡ valueSet z (now (juniors .entry)) (holds (now (ledger .entry))) p a ⌝ }
 {
