@@ -10,25 +10,25 @@ use lib.Dec.{eqb, ltb, leb}
 use lib.ListN.{length, getD, set, replicate, length-set, length-append}
 use lib.Seq.{getD-set-same, getD-set-other}
 use borrow.Author.Tests.{leb-true, leb-false, le-leb, ne-eqb}
-use Rattle.sets.specs.Sets.{member, put}
+use Rattle.sets.specs.Sets.{member, put, within}
 use Rattle.sets.proofs.SetLaws.{member-put-other, member-zero}
 use Rattle.facts.specs.Facts.{holds, putFact, noFacts, ledgerSize}
 use Rattle.facts.specs.declared.Fact.{Fact}
 use Rattle.facts.proofs.FactLaws.{holds-put-other, holds-none, fact-discrete, put-length, put-bytes, none-length, none-bytes, zero-at}
 use Rattle.lines.specs.Digits.{byteAt}
 use Rattle.lines.specs.Lines.{Line, ended, unended, lines}
-use Rattle.gate.specs.Gate.{InRange, allBelow, verdict, factGood, ruleGood, foreign, headGood, termGood, termGoodAt, valueTermAt, isPerson, isCrew, isValue, isCrewField, between}
+use Rattle.gate.specs.Gate.{queryGood, wantGoodAt, crewsGood, isAttr, valuesOf, InRange, allBelow, verdict, factGood, ruleGood, foreign, headGood, termGood, termGoodAt, valueTermAt, isPerson, isCrew, isValue, isCrewField, between}
 use Rattle.gate.specs.declared.Sizes.{Sizes}
 use Rattle.gate.specs.declared.Fault.the-variants.{Malformed, Misplaced}
 use Rattle.gate.specs.declared.Verdict.{Verdict}
 use Rattle.gate.specs.declared.Verdict.the-variants.{Good, Bad}
-use Rattle.gate.proofs.PassedLaws.{and-both, sizes-passed, edge-passed, rule-passed, fact-passed, first-passed, later-passed}
+use Rattle.gate.proofs.PassedLaws.{query-passed, and-both, sizes-passed, edge-passed, rule-passed, fact-passed, first-passed, later-passed}
 use Rattle.frames.specs.declared.Reading.{Reading}
 use Rattle.frames.specs.declared.Outcome.the-variants.{Accepted, Refused}
 use Rattle.frames.specs.declared.Refusal.{Refusal}
 use Rattle.frames.specs.declared.Refusal.the-variants.{TooLong, BadLine}
-use Rattle.frames.specs.Book.{contentsOf, answerOf, State, Contents, refused, accepted, contents, nothing, onward, walk, enter, bookOf, knownAfter, juniorsAfter, rulesAfter, ruleOf, termsOf, termAt, noTerm, factOf, factsAfter}
-use Rattle.frames.specs.Fits.{inSizes, termOf, ruleFits, Each, Short, Admitted}
+use Rattle.frames.specs.Book.{queryAfter, queryOf, wantsOf, wantAt, noWant, contentsOf, answerOf, State, Contents, refused, accepted, contents, nothing, onward, walk, enter, bookOf, knownAfter, juniorsAfter, rulesAfter, ruleOf, termsOf, termAt, noTerm, factOf, factsAfter}
+use Rattle.frames.specs.Fits.{inSizes, termOf, ruleFits, wantOf, GoodQuery, Each, Short, Admitted}
 
 -- ---------------------------------------------------------------- one induction for every law
 
@@ -144,6 +144,53 @@ rule-within z x good own =
     by-op true false i e f = absurd (true≢false e)
     by-op false v i e f = rw (le-leb 5 (byteAt x 1) (omega (arith, leb-false (byteAt x 1) 4 i))) refl
 
+-- The eight places of a query's sets.
+wants-at : (x : List ℕ) (j : ℕ) → j < 8 → getD (wantsOf x) j noWant ≡ wantAt x j
+unfolding wantsOf
+wants-at x zero h = refl
+wants-at x (suc zero) h = refl
+wants-at x (suc (suc zero)) h = refl
+wants-at x (suc (suc (suc zero))) h = refl
+wants-at x (suc (suc (suc (suc zero)))) h = refl
+wants-at x (suc (suc (suc (suc (suc zero))))) h = refl
+wants-at x (suc (suc (suc (suc (suc (suc zero)))))) h = refl
+wants-at x (suc (suc (suc (suc (suc (suc (suc zero))))))) h = refl
+wants-at x (suc (suc (suc (suc (suc (suc (suc (suc j)))))))) h = absurd (omega arith)
+
+wants-eight : (x : List ℕ) → length (wantsOf x) ≡ 8
+unfolding wantsOf
+wants-eight x = refl
+
+-- A query's line that passed writes a query within the sizes.
+query-within : (z : Sizes) (x : List ℕ) → queryGood z x ≡ true → GoodQuery z (queryOf x)
+unfolding queryGood queryOf wantOf wantAt
+query-within z x good =
+    let mode = between 1 2 (byteAt x 1) in
+    let person = isPerson z (byteAt x 2) in
+    let few = leb (byteAt x 5) 8 in
+    let sets = allBelow (wantGoodAt z x) (byteAt x 5) in
+    let five = and-both (mode && person && few && sets) (crewsGood z x) good in
+    let four = and-both (mode && person && few) sets (five .0) in
+    let three = and-both (mode && person) few (four .0) in
+    let two = and-both mode person (three .0) in
+    let at-most : byteAt x 5 ≤ 8 = leb-true (byteAt x 5) 8 (three .1) in
+    record {
+      mode = two .0;
+      person = two .1;
+      few = at-most;
+      room = length-wants;
+      wants = all-same (λ j. isAttr z (getD (wantsOf x) j noWant .attr .0) && within (getD (wantsOf x) j noWant .set) (valuesOf z (getD (wantsOf x) j noWant .attr .0))) (wantGoodAt z x) (byteAt x 5)
+          (λ j l. want-same j (wants-at x j (omega arith))) ∙ four .1;
+      crews = five .1;
+    }
+  where
+    length-wants : length (wantsOf x) ≡ 8
+    length-wants = wants-eight x
+
+    want-same : (j : ℕ) → getD (wantsOf x) j noWant ≡ wantAt x j
+        → (isAttr z (getD (wantsOf x) j noWant .attr .0) && within (getD (wantsOf x) j noWant .set) (valuesOf z (getD (wantsOf x) j noWant .attr .0))) ≡ wantGoodAt z x j
+    want-same j e = rw e refl
+
 -- A fact's line that passed writes a fact within the sizes.
 or-none : (a : Bool) → (a || false) ≡ true → a ≡ true
 or-none true e = refl
@@ -180,6 +227,7 @@ pub record Sound (s : State) : Type 0 where
   pub facts-bytes : (i : ℕ) → getD (s .facts) i 0 < 256
   pub rules-in : Each (λ r. ruleFits (s .known .sizes) r ≡ true) (s .rules)
   pub rules-short : Each Short (s .rules)
+  pub query-in : s .known .asked ≡ true → GoodQuery (s .known .sizes) (s .query)
   pub rules-few : (length (s .rules) ≡ s .known .count) × (s .known .count ≤ 512)
 
 no-edge : (i j : ℕ) → member (getD (replicate 32 0) i 0) j ≡ false
@@ -200,6 +248,7 @@ sound-nothing =
       facts-bytes = none-bytes;
       rules-in = tt;
       rules-short = tt;
+      query-in = λ e. absurd (true≢false (sym e));
       rules-few = (refl, omega arith);
     }
 
@@ -221,6 +270,7 @@ module _ (s : State) (x : List ℕ) (good : verdict (s .known) x ≡ Good) (p : 
         facts-bytes = λ i. rw is (p .facts-bytes i);
         rules-in = rw (is, was .1 .1) tt;
         rules-short = rw (is, was .1 .1) tt;
+        query-in = λ e. absurd (true≢false (sym (p .headed-first (rw is at e)) ∙ first));
         rules-few = rw is (p .rules-few);
       }
 
@@ -305,6 +355,16 @@ module _ (s : State) (x : List ℕ) (good : verdict (s .known) x ≡ Good) (p : 
       (λ (is : byteAt x 0 ≡ 3). rw is (each-more Short (s .rules) (ruleOf x) (p .rules-short) (rule-short (s .known .sizes) x (rule-passed (s .known) x good is .0))))
       (λ (other : byteAt x 0 ≡ 3 → ⊥). rw (ne-eqb (byteAt x 0) 3 other) (p .rules-short))
 
+  query-kept : knownAfter (s .known) x .asked ≡ true → GoodQuery (s .known .sizes) (queryAfter (s .query) x)
+  unfolding knownAfter queryAfter
+  query-kept e =
+      dite (ℕ-discrete (byteAt x 0) 5)
+      (λ (is : byteAt x 0 ≡ 5).
+      rw is
+      (query-within (s .known .sizes) x
+      (query-passed (s .known) x good (λ z. omega (arith, is, z)) (λ z. omega (arith, is, z)) (λ z. omega (arith, is, z)) (λ z. omega (arith, is, z)))))
+      (λ (other : byteAt x 0 ≡ 5 → ⊥). rw (ne-eqb (byteAt x 0) 5 other) (p .query-in (rw (ne-eqb (byteAt x 0) 5 other) at e)))
+
   sound-later : Sound (enter s x)
   unfolding enter knownAfter
   sound-later =
@@ -319,6 +379,7 @@ module _ (s : State) (x : List ℕ) (good : verdict (s .known) x ≡ Good) (p : 
         facts-bytes = facts-shape .1;
         rules-in = rw sizes-stay (rules-kept .0);
         rules-short = rules-stay-short;
+        query-in = λ e. rw sizes-stay (query-kept e);
         rules-few = rules-kept .1;
       }
     where
@@ -353,6 +414,7 @@ book-accepted chars t e = book-keeps Sound sound-kept Admitted given sound-nothi
           facts-bytes = p .facts-bytes;
           rules-in = p .rules-in;
           rules-short = p .rules-short;
+          query-in = p .query-in asked;
           rules-counted = p .rules-few .0;
           rules-few = p .rules-few .1;
         }

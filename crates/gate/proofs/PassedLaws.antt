@@ -6,7 +6,7 @@ use Prim.Native.Nat.{ℕ, _≤_, _<_}
 use native.Mathlib.Omega.{arith}
 use lib.Dec.{ltb, leb, eqb}
 use lib.ListN.{length}
-use borrow.Author.Tests.{leb-true, leb-false, ltb-true, eqb-true, not-false}
+use borrow.Author.Tests.{leb-true, leb-false, ltb-true, eqb-true, not-false, ne-eqb}
 use Rattle.lines.specs.Digits.{byteAt, malformed}
 use Rattle.lines.proofs.DigitLaws.{well-long}
 use Rattle.gate.specs.declared.Known.{Known}
@@ -14,7 +14,7 @@ use Rattle.gate.specs.declared.Fault.{Fault}
 use Rattle.gate.specs.declared.Verdict.{Verdict}
 use Rattle.gate.specs.declared.Verdict.the-variants.{Good, Bad}
 use Rattle.gate.specs.declared.Fault.the-variants.{Malformed, Misplaced, Mislengthed, Outside, NotJunior, ForeignTerm, TooManyRules}
-use Rattle.gate.specs.Gate.{InRange, between, misplaced, mislengthed, sizesGood, sizesVerdict, edgeVerdict, isCrew, ruleGood, foreign, ruleVerdict, factGood, factVerdict, fieldsVerdict, verdict}
+use Rattle.gate.specs.Gate.{InRange, between, misplaced, mislengthed, sizesGood, sizesVerdict, edgeVerdict, isCrew, ruleGood, foreign, ruleVerdict, factGood, factVerdict, queryGood, queryVerdict, fieldsVerdict, verdict}
 
 -- A fault is not Good.
 pub bad-good : (f : Fault) → Bad f ≡ Good → ⊥
@@ -125,3 +125,12 @@ later-passed k x e h is =
     or-right : (a b : Bool) → (a || b) ≡ false → b ≡ false
     or-right true b f = absurd (true≢false f)
     or-right false b f = f
+
+-- A passed query has its fields in their ranges.
+pub query-passed : (k : Known) (x : List ℕ) → verdict k x ≡ Good → (byteAt x 0 ≡ 1 → ⊥) → (byteAt x 0 ≡ 2 → ⊥) → (byteAt x 0 ≡ 3 → ⊥) → (byteAt x 0 ≡ 4 → ⊥)
+    → queryGood (k .sizes) x ≡ true
+unfolding fieldsVerdict queryVerdict
+query-passed k x e no1 no2 no3 no4 =
+    let f : queryVerdict (k .sizes) x ≡ Good =
+    rw (ne-eqb (byteAt x 0) 1 no1, ne-eqb (byteAt x 0) 2 no2, ne-eqb (byteAt x 0) 3 no3, ne-eqb (byteAt x 0) 4 no4) at (fields-passed k x e) in
+    not-false _ (past (not (queryGood (k .sizes) x)) Outside _ f .0)
