@@ -1,0 +1,12 @@
+pub mod ShownLaws
+pub mod MoveLaws
+pub mod TermLaws
+pub mod RuleLaws
+pub mod ChosenLaws
+pub mod NoteLaws
+pub mod SweepLaws
+pub mod BackSweepLaws
+pub mod BuildLaws
+pub mod SettleLaws
+pub mod LevelLaws
+pub mod UptoLaws

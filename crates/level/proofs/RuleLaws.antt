@@ -1,0 +1,115 @@
+-- The rules of an accepted book are good: what they aim at, and what their terms ask, has a place among a level's facts.
+use mathlib.Core.Path.{_≡_, refl}
+use mathlib.Core.Logic.{dite}
+use mathlib.Core.Bool.{Bool, true, false, _&&_, _||_}
+use mathlib.Core.List.{List, [], _∷_}
+use Prim.Native.Nat.{ℕ, zero, suc, _≤_, _<_}
+use native.Mathlib.Decide.{decLt}
+use native.Mathlib.Omega.{arith}
+use lib.Dec.{eqb, ltb, leb}
+use lib.ListN.{length, getD, take}
+use borrow.Author.Tests.{ltb-true, lt-ltb, le-ltb}
+use Rattle.gate.specs.Gate.{InRange, allBelow, between, valuesOf, isCrew, isAttr, isValue, isCrewField, headGood, termGood}
+use Rattle.gate.specs.declared.Sizes.{Sizes}
+use Rattle.gate.proofs.PassedLaws.{and-both, between-true}
+use Rattle.frames.specs.Book.{noTerm, listed}
+use Rattle.frames.specs.Fits.{termOf, termFits, ruleFits, Short, Each}
+use Rattle.frames.specs.declared.Term.{Term}
+use Rattle.frames.specs.declared.Rule.{Rule}
+use Rattle.frames.specs.declared.Rules.{Rules}
+use Rattle.level.specs.Moves.{placeOf}
+use Rattle.level.specs.Terms.{TermInRange, GoodRule}
+use Rattle.level.specs.Chosen.{noRule, ruleAt, GoodRules}
+
+or-either : {A : Type 0} (a b : Bool) → (a || b) ≡ true → (a ≡ true → A) → (b ≡ true → A) → A
+or-either true b e f g = f refl
+or-either false b e f g = g e
+
+all-at : (p : ℕ → Bool) (n i : ℕ) → allBelow p n ≡ true → i < n → p i ≡ true
+unfolding allBelow
+all-at p zero i e h = absurd (omega arith)
+all-at p (suc n) i e h =
+    let both = and-both (allBelow p n) (p n) e in
+    dite (decLt i n)
+    (λ (l : i < n). all-at p n i (both .0) l)
+    (λ (l : i < n → ⊥). let q : i ≡ n = omega arith in rw q (both .1))
+
+each-at : (P : Rule → Type 0) (rs : List Rule) (n i : ℕ) → i < n → n ≤ length rs → Each P (take n rs) → P (getD rs i noRule)
+unfolding Each
+each-at P [] n i h f e = absurd (omega arith)
+each-at P (r ∷ rs) zero i h f e = absurd (omega arith)
+each-at P (r ∷ rs) (suc n) zero h f e = e .0
+each-at P (r ∷ rs) (suc n) (suc i) h f e = each-at P rs n i (omega arith) (omega arith) (e .1)
+
+module _ (z : Sizes) (sized : InRange z) where
+  -- A value of an accepted book is one of 16 of one of 8 attributes.
+  value-in : (a v : ℕ) → isValue z a v ≡ true → (a < 8) × (v < 16)
+  unfolding valuesOf
+  value-in a v e =
+      let both = and-both (isAttr z a) (ltb v (valuesOf z a)) e in
+      (omega (arith, ltb-true a (z .attrs) (both .0), sized .attrs-most), omega (arith, ltb-true v (valuesOf z a) (both .1), sized .values-most))
+
+  -- A crew of an accepted book is one of 32.
+  crew-in : (a v : ℕ) → isCrewField z a v ≡ true → a < 32
+  crew-in a v e = omega (arith, ltb-true a (z .crews) (and-both (isCrew z a) (eqb v 0) e .0), sized .crews-most)
+
+  -- What a rule aims at is a fact of a level.
+  aims-in : (op role a v n : ℕ) → headGood z op role a v n ≡ true → placeOf op a v < 160
+  unfolding placeOf
+  aims-in op role a v n e =
+      let value = between 1 4 op && isValue z a v in
+      let crew = between 5 6 op && isCrewField z a v in
+      let fields = and-both (value || crew) (leb role 15) (and-both ((value || crew) && leb role 15) (leb n 8) e .0) .0 in
+      or-either value crew fields
+      (λ x.
+      let both = and-both (between 1 4 op) (isValue z a v) x in
+      let low : op < 5 = omega (arith, between-true 1 4 op (both .0)) in
+      rw (lt-ltb op 5 low) (omega (arith, value-in a v (both .1))))
+      (λ x.
+      let both = and-both (between 5 6 op) (isCrewField z a v) x in
+      rw (le-ltb op 5 (omega (arith, between-true 5 6 op (both .0)))) (omega (arith, crew-in a v (both .1))))
+
+  -- What a term asks is a fact of a level.
+  term-in : (t : Term) → termGood z (t .kind) (t .a) (t .v) ≡ true → TermInRange t
+  term-in t e =
+      let kind = t .kind in
+      let value = between 1 2 kind && isValue z (t .a) (t .v) in
+      let crew = between 3 4 kind && isCrewField z (t .a) (t .v) in
+      or-either value crew e
+      (λ x.
+      let both = and-both (between 1 2 kind) (isValue z (t .a) (t .v)) x in
+      let here = value-in (t .a) (t .v) (both .1) in
+      record { value = λ _. here; value-2 = λ _. here; crew = λ n₁ n₂. absurd (apart kind (between-true 1 2 kind (both .0)) n₁ n₂) })
+      (λ x.
+      let both = and-both (between 3 4 kind) (isCrewField z (t .a) (t .v)) x in
+      let high = between-true 3 4 kind (both .0) in
+      record { value = λ q. absurd (omega (arith, high)); value-2 = λ q. absurd (omega (arith, high)); crew = λ n₁ n₂. crew-in (t .a) (t .v) (both .1) })
+    where
+      apart : (k : ℕ) → (1 ≤ k) × (k ≤ 2) → (k ≡ 1 → ⊥) → (k ≡ 2 → ⊥) → ⊥
+      apart k l n₁ n₂ = dite (decLt k 2) (λ (m : k < 2). n₁ (omega (arith, l))) (λ (m : k < 2 → ⊥). n₂ (omega (arith, l)))
+
+  -- A rule within an accepted book's sizes is good.
+  pub rule-good : (r : Rule) → ruleFits z r ≡ true → Short r → GoodRule r
+  unfolding ruleFits termOf
+  rule-good r fits short =
+      let head = headGood z (r .op) (r .role .0) (r .a) (r .v) (r .n) in
+      let terms = allBelow (termFits z r) (r .n) in
+      let kinds = leb 5 (r .op) || allBelow (λ j. leb (termOf r j .kind) 2) (r .n) in
+      let both = and-both head terms (and-both (head && terms) kinds fits .0) in
+      record {
+        few = short .few;
+        size = short .room;
+        aims = aims-in (r .op) (r .role .0) (r .a) (r .v) (r .n) (both .0);
+        terms = λ j l. term-in (getD (r .terms) j noTerm) (all-at (termFits z r) (r .n) j (both .1) l);
+      }
+
+  -- The rules of an accepted book are good.
+  pub rules-good : (rs : Rules) → rs .count ≤ 512 → length (rs .rules) ≡ 512 → Each (λ r. ruleFits z r ≡ true) (listed rs) → Each Short (listed rs) → GoodRules rs
+  unfolding listed ruleAt
+  rules-good rs few room fit short =
+      record {
+        few = few;
+        good = λ i l. rule-good (getD (rs .rules) i noRule)
+            (each-at (λ r. ruleFits z r ≡ true) (rs .rules) (rs .count) i l (omega arith) fit)
+            (each-at Short (rs .rules) (rs .count) i l (omega arith) short);
+      }

@@ -1,0 +1,115 @@
+-- Laws of terms: what is shown at a term's place is what the term asks, so a move is met where its rule's terms hold.
+use mathlib.Core.Path.{_≡_, refl, sym, ap, _∙_}
+use mathlib.Core.Logic.{dite}
+use mathlib.Core.Bool.{Bool, true}
+use mathlib.Core.List.{List, [], _∷_}
+use Prim.Native.Nat.{ℕ, zero, suc, _+_, _-_, _*_, _≤_, _<_}
+use native.Mathlib.Decide.{decLt, ℕ-discrete}
+use native.Mathlib.Omega.{arith}
+use lib.ListN.{length, getD, take, set, length-set}
+use lib.Seq.{getD-set-same, getD-set-other}
+use borrow.Author.Tests.{lt-ltb, le-ltb, eq-eqb, ne-eqb}
+use Rattle.theory.specs.Facts.{State, _⊆_}
+use Rattle.theory.proofs.FactLaws.{at}
+use Rattle.level.specs.Shown.{shown}
+use Rattle.level.specs.Monotone.{shown-mono}
+use Rattle.level.specs.Moves.{all, placesOf, met, placeOf}
+use Rattle.level.specs.declared.Move.{Move}
+use Rattle.frames.specs.declared.Term.{Term}
+use Rattle.frames.specs.declared.Rule.{Rule}
+use Rattle.frames.specs.Book.{noTerm}
+use Rattle.level.specs.Terms.{GoodRule, MoveOf, TermInRange, codeOf, effective, ruleShown, termShown}
+
+shown-direct : (T : List Bool) (S : State) (k : ℕ) → k < 160 → shown T S k ≡ S k
+unfolding shown
+shown-direct T S k h = rw (lt-ltb k 160 h)
+
+shown-effective : (T : List Bool) (S : State) (k : ℕ) → shown T S (160 + k) ≡ effective T S k
+unfolding shown effective
+shown-effective T S k = let e : 160 + k - 160 ≡ k = omega arith in rw (le-ltb (160 + k) 160 (omega arith), e)
+
+-- A term in range has a place.
+pub code-lt : (t : Term) → TermInRange t → codeOf (t .kind) (t .a) (t .v) < 320
+unfolding codeOf
+code-lt t r = dite (ℕ-discrete (t .kind) 1) (λ (e : t .kind ≡ 1). rw (eq-eqb (t .kind) 1 e) (omega (arith, r .value e)))
+    (λ (n₁ : t .kind ≡ 1 → ⊥). dite (ℕ-discrete (t .kind) 2) (λ (e : t .kind ≡ 2). rw (ne-eqb (t .kind) 1 n₁, eq-eqb (t .kind) 2 e) (omega (arith, r .value-2 e)))
+    (λ (n₂ : t .kind ≡ 2 → ⊥). dite (ℕ-discrete (t .kind) 3) (λ (e : t .kind ≡ 3). rw (ne-eqb (t .kind) 1 n₁, ne-eqb (t .kind) 2 n₂, eq-eqb (t .kind) 3 e) (omega (arith, r .crew n₁ n₂)))
+    (λ (n₃ : t .kind ≡ 3 → ⊥). rw (ne-eqb (t .kind) 1 n₁, ne-eqb (t .kind) 2 n₂, ne-eqb (t .kind) 3 n₃) (omega (arith, r .crew n₁ n₂)))))
+
+-- What is shown at a term's place is whether the term holds.
+pub term-place : (T : List Bool) (S : State) (t : Term) → TermInRange t → shown T S (codeOf (t .kind) (t .a) (t .v)) ≡ termShown T S t
+unfolding codeOf termShown
+term-place T S t r = dite (ℕ-discrete (t .kind) 1) (λ (e : t .kind ≡ 1). rw (eq-eqb (t .kind) 1 e) (shown-direct T S (16 * t .a + t .v) (omega (arith, r .value e))))
+    (λ (n₁ : t .kind ≡ 1 → ⊥). dite (ℕ-discrete (t .kind) 2) (λ (e : t .kind ≡ 2). rw (ne-eqb (t .kind) 1 n₁, eq-eqb (t .kind) 2 e) (shown-effective T S (16 * t .a + t .v)))
+    (λ (n₂ : t .kind ≡ 2 → ⊥). dite (ℕ-discrete (t .kind) 3) (λ (e : t .kind ≡ 3). rw (ne-eqb (t .kind) 1 n₁, ne-eqb (t .kind) 2 n₂, eq-eqb (t .kind) 3 e) (shown-direct T S (128 + t .a) (omega (arith, r .crew n₁ n₂))))
+    (λ (n₃ : t .kind ≡ 3 → ⊥). rw (ne-eqb (t .kind) 1 n₁, ne-eqb (t .kind) 2 n₂, ne-eqb (t .kind) 3 n₃) (crew (t .a)))))
+  where
+    crew : (a : ℕ) → shown T S (288 + a) ≡ effective T S (128 + a)
+    crew a = let e : 288 + a ≡ 160 + (128 + a) = omega arith in rw e (shown-effective T S (128 + a))
+
+-- More facts break no term.
+pub term-mono : (T : List Bool) {S Z : State} (t : Term) → TermInRange t → S ⊆ Z → termShown T S t ≡ true → termShown T Z t ≡ true
+term-mono T {S} {Z} t r le h = sym (term-place T Z t r) ∙ shown-mono T le (codeOf (t .kind) (t .a) (t .v)) (term-place T S t r ∙ h)
+
+all-zip : (p : ℕ → Bool) (q : Term → Bool) (n : ℕ) (ks : List ℕ) (ts : List Term) → n ≤ length ks → n ≤ length ts → ((j : ℕ) → j < n → p (getD ks j 0) ≡ q (getD ts j noTerm)) → all p (take n ks) ≡ all q (take n ts)
+unfolding all
+all-zip p q zero ks ts a b h = refl
+all-zip p q (suc n) [] ts a b h = absurd (omega arith)
+all-zip p q (suc n) (k ∷ ks) [] a b h = absurd (omega arith)
+all-zip p q (suc n) (k ∷ ks) (t ∷ ts) a b h = rw (h 0 (omega arith), all-zip p q n ks ts (omega arith) (omega arith) (λ j l. h (suc j) (omega arith)))
+
+-- The move's terms hold just where the rule's do.
+pub move-met : (T : List Bool) (S : State) {r : Rule} {m : Move} → GoodRule r → MoveOf r m → met T S m ≡ ruleShown T S r
+unfolding met ruleShown placesOf
+move-met T S {r} {m} g k = rw (k .n) (all-zip (shown T S) (termShown T S) (r .n) (m .terms) (r .terms) (omega (arith, g .few, k .fine .size)) (omega (arith, g .few, g .size))
+    (λ j l. ap (shown T S) (k .places j l) ∙ term-place T S (getD (r .terms) j noTerm) (g .terms j l)))
+
+-- The places of the first `j` terms are written, and no others.
+pub record PlacesSoFar (r : Rule) (ks : List ℕ) (j : ℕ) : Type 0 where
+  pub size : length ks ≡ 8
+  pub fits : j ≤ r .n
+  pub done : (i : ℕ) → i < j → getD ks i 0 ≡ codeOf (getD (r .terms) i noTerm .kind) (getD (r .terms) i noTerm .a) (getD (r .terms) i noTerm .v)
+  pub rest : (i : ℕ) → j ≤ i → getD ks i 0 ≡ 0
+
+module _ {r : Rule} {ks : List ℕ} {j : ℕ} (p : PlacesSoFar r ks j) (g : GoodRule r) where
+  -- The place of one term more.
+  pub places-more : (k : ℕ) → j < r .n → k ≡ codeOf (getD (r .terms) j noTerm .kind) (getD (r .terms) j noTerm .a) (getD (r .terms) j noTerm .v) → PlacesSoFar r (set ks j k) (j + 1)
+  places-more k h e = record {
+    size = simp length-set (p .size);
+    fits = omega arith;
+    done = λ i l. at (λ i. i < j + 1 → getD (set ks j k) i 0 ≡ codeOf (getD (r .terms) i noTerm .kind) (getD (r .terms) i noTerm .a) (getD (r .terms) i noTerm .v)) j i
+        (λ _. getD-set-same ks j k 0 (omega (arith, p .size, g .few)) ∙ e) (λ n l′. getD-set-other ks j i k 0 n ∙ p .done i (omega arith)) l;
+    rest = λ i l. getD-set-other ks j i k 0 (omega arith) ∙ p .rest i (omega arith);
+  }
+
+  -- With all places written the move is made.
+  pub move-made : r .n ≤ j → (f : ℕ) → f ≡ placeOf (r .op) (r .a) (r .v) → MoveOf r (record { fact = f; n = r .n; op = r .op; role = r .role .0; a = r .a; v = r .v; terms = ks })
+  move-made h f e = record {
+    fine = record { aim = e; fact = rw e (g .aims); few = g .few; size = p .size; places = small };
+    op = refl;
+    role = refl;
+    a = refl;
+    v = refl;
+    n = refl;
+    places = λ i l. p .done i (omega arith);
+  }
+    where
+      small : (i : ℕ) → getD ks i 0 < 320
+      small i = dite (decLt i (r .n)) (λ (l : i < r .n). rw (p .done i (omega arith)) (code-lt (getD (r .terms) i noTerm) (g .terms i l)))
+          (λ (l : i < r .n → ⊥). rw (p .rest i (omega (arith, p .fits))) (omega arith))
+
+-- Before the first term no place is written.
+pub places-first : (r : Rule) (ks : List ℕ) → length ks ≡ 8 → ((i : ℕ) → getD ks i 0 ≡ 0) → PlacesSoFar r ks 0
+places-first r ks e z = record { size = e; fits = omega arith; done = λ i l. absurd (omega arith); rest = λ i l. z i }
+
+-- Eight places that are 0.
+pub zeros : (i : ℕ) → _≡_ {A = ℕ} (getD (0 ∷ 0 ∷ 0 ∷ 0 ∷ 0 ∷ 0 ∷ 0 ∷ 0 ∷ []) i 0) 0
+zeros zero = refl
+zeros (suc zero) = refl
+zeros (suc (suc zero)) = refl
+zeros (suc (suc (suc zero))) = refl
+zeros (suc (suc (suc (suc zero)))) = refl
+zeros (suc (suc (suc (suc (suc zero))))) = refl
+zeros (suc (suc (suc (suc (suc (suc zero)))))) = refl
+zeros (suc (suc (suc (suc (suc (suc (suc zero))))))) = refl
+zeros (suc (suc (suc (suc (suc (suc (suc (suc i)))))))) = refl

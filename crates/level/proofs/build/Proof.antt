@@ -1,0 +1,86 @@
+-- Flags built fact by fact: after `f` facts those below `f` are put in. The measure is the facts left. Assumes nothing.
+use native.Mathlib.Omega.{arith}
+use mathlib.Core.Path.{sym, _∙_}
+use Prim.Native.Nat.{_-_}
+use Rattle.level.proofs.BuildLaws.{BuiltSoFar, build-first, build-put, build-skip, build-all}
+use Rattle.level.proofs.build.Statement.{statement}
+use Rattle.level.proofs.build.Tie as tie
+
+abbrev Inv-loop : tie.InvT-loop
+Inv-loop table d x₀ f₀ x f = BuiltSoFar table d x f
+
+abbrev μ-loop : tie.MeasureT-loop
+μ-loop table d x₀ f₀ x f = 160 - f
+
+blank-requires : tie.Need-blank-requires Inv-loop μ-loop
+blank-requires c κs =
+    let at-start = c .before .before .before .before in
+    (at-start .pre .0, at-start .pre .1 .0)
+
+loop-holds : tie.Need-loop-holds Inv-loop μ-loop
+loop-holds c =
+    let at-blank = c .before .before in
+    let at-start = at-blank .before .before .before .before .before in
+    build-first (at-start .args .d .now) (at-blank .blank .ensures)
+
+shared-slice-read-if1 : tie.Need-shared-slice-read-if1 Inv-loop μ-loop
+shared-slice-read-if1 c = omega arith
+
+put-requires : tie.Need-put-requires Inv-loop μ-loop
+put-requires c κs =
+    let at-loop-test = c .before .before .before in
+    let at-loop = at-loop-test .before in
+    (at-loop-test .loop-test .taken, (at-loop .loop .inv .whole .size, at-loop .loop .inv .whole .rows))
+
+add-f : tie.Need-add-f Inv-loop μ-loop
+add-f c = omega arith
+
+loop-less : tie.Need-loop-less Inv-loop μ-loop
+loop-less c = omega arith
+
+loop-again : tie.Need-loop-again Inv-loop μ-loop
+loop-again c =
+    let at-put = c .before .before in
+    let at-if1 = at-put .before .before in
+    let at-loop-test = at-if1 .before .before in
+    let at-loop = at-loop-test .before in
+    build-put (at-loop .loop .inv) (at-loop-test .loop-test .taken) (at-if1 .if1 .taken) (at-put .put .ensures)
+
+add-f-2 : tie.Need-add-f-2 Inv-loop μ-loop
+add-f-2 c = omega arith
+
+loop-less-2 : tie.Need-loop-less-2 Inv-loop μ-loop
+loop-less-2 c = omega arith
+
+loop-again-2 : tie.Need-loop-again-2 Inv-loop μ-loop
+loop-again-2 c =
+    let at-loop-test = c .before .before in
+    let at-loop = at-loop-test .before in
+    build-skip (at-loop .loop .inv) (at-loop-test .loop-test .taken) (c .if1 .left)
+
+same-length : tie.Need-same-length Inv-loop μ-loop
+same-length c =
+    let at-start = c .before .before .before .before .before .before .before .before .before in
+    c .before .loop .inv .whole .size ∙ sym (at-start .pre .0)
+
+returns : tie.Need-returns Inv-loop μ-loop
+returns c = build-all (c .before .loop .inv) (c .loop-test .left)
+
+pub build-spec : {M : Type 1} → statement M
+build-spec =
+    tie.close
+    (tie.spec
+    Inv-loop
+    μ-loop
+    blank-requires
+    loop-holds
+    shared-slice-read-if1
+    put-requires
+    add-f
+    loop-less
+    loop-again
+    add-f-2
+    loop-less-2
+    loop-again-2
+    same-length
+    returns)

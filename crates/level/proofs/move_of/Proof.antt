@@ -1,0 +1,84 @@
+-- The move of a rule: the places of the first `j` terms are written. The measure is the terms left. Assumes nothing.
+use native.Mathlib.Omega.{arith}
+use borrow.Author.Needs.{needs}
+use mathlib.Core.Path.{refl}
+use Prim.Native.Nat.{_-_}
+use Rattle.level.proofs.TermLaws.{PlacesSoFar, places-first, zeros, places-more, move-made}
+use Rattle.level.proofs.move_of.Statement.{statement}
+use Rattle.level.proofs.move_of.Tie as tie
+
+abbrev Inv-loop : tie.InvT-loop
+Inv-loop r n terms₀ j₀ terms j = PlacesSoFar r terms j
+
+abbrev μ-loop : tie.MeasureT-loop
+μ-loop r n terms₀ j₀ terms j = n - j
+
+cast-n : tie.Need-cast-n Inv-loop μ-loop
+cast-n c = search needs
+
+loop-holds : tie.Need-loop-holds Inv-loop μ-loop
+loop-holds c = places-first _ _ refl zeros
+
+mul-t : tie.Need-mul-t Inv-loop μ-loop
+mul-t c =
+    let at-start = c .before .before in
+    omega (arith, at-start .pre .few)
+
+element-copy-out-t : tie.Need-element-copy-out-t Inv-loop μ-loop
+element-copy-out-t c =
+    let at-start = c .before .before in
+    omega (arith, at-start .pre .few)
+
+place-requires : tie.Need-place-requires Inv-loop μ-loop
+place-requires c κs = search needs
+
+mul-terms : tie.Need-mul-terms Inv-loop μ-loop
+mul-terms c =
+    let at-start = c .before .before .before .before in
+    omega (arith, at-start .pre .few)
+
+array-write-terms : tie.Need-array-write-terms Inv-loop μ-loop
+array-write-terms c =
+    let at-start = c .before .before .before .before in
+    omega (arith, at-start .pre .few)
+
+add-j : tie.Need-add-j Inv-loop μ-loop
+add-j c = omega arith
+
+loop-less : tie.Need-loop-less Inv-loop μ-loop
+loop-less c = omega arith
+
+loop-again : tie.Need-loop-again Inv-loop μ-loop
+loop-again c =
+    let at-loop-test = c .before .before in
+    let at-loop = at-loop-test .before in
+    let at-start = at-loop .before in
+    places-more (at-loop .loop .inv) (at-start .pre) (c .place .result) (at-loop-test .loop-test .taken) (c .place .ensures)
+
+aim-requires : tie.Need-aim-requires Inv-loop μ-loop
+aim-requires c κs = search needs
+
+returns : tie.Need-returns Inv-loop μ-loop
+returns c =
+    let at-loop = c .before .before in
+    let at-start = at-loop .before in
+    move-made (at-loop .loop .inv) (at-start .pre) (c .before .loop-test .left) (c .aim .result) (c .aim .ensures)
+
+pub move-of-spec : {M : Type 1} → statement M
+move-of-spec =
+    tie.close
+    (tie.spec
+    Inv-loop
+    μ-loop
+    cast-n
+    loop-holds
+    mul-t
+    element-copy-out-t
+    place-requires
+    mul-terms
+    array-write-terms
+    add-j
+    loop-less
+    loop-again
+    aim-requires
+    returns)

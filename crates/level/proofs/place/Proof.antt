@@ -1,0 +1,63 @@
+-- The place of a term, by its kind. Assumes nothing.
+use borrow.Author.Tests.{eq-eqb, ne-eqb}
+use Rattle.level.specs.Terms.{codeOf}
+use borrow.Author.Needs.{needs}
+use Rattle.level.proofs.place.Statement.{statement}
+use Rattle.level.proofs.place.Tie as tie
+
+mul-result : tie.Need-mul-result
+mul-result c = search needs
+
+add-result : tie.Need-add-result
+add-result c = search needs
+
+returns : tie.Need-returns
+unfolding codeOf
+returns c = simp (eq-eqb _ _ (c .if1 .taken))
+
+mul-result-2 : tie.Need-mul-result-2
+mul-result-2 c = search needs
+
+add-result-2 : tie.Need-add-result-2
+add-result-2 c = search needs
+
+add-result-3 : tie.Need-add-result-3
+add-result-3 c = search needs
+
+returns-2 : tie.Need-returns-2
+unfolding codeOf
+returns-2 c = simp (ne-eqb _ _ (c .before .if1 .left), eq-eqb _ _ (c .if2 .taken))
+
+add-result-4 : tie.Need-add-result-4
+add-result-4 c = search needs
+
+returns-3 : tie.Need-returns-3
+unfolding codeOf
+returns-3 c =
+    let at-if1 = c .before .before in
+    simp (ne-eqb _ _ (at-if1 .if1 .left), ne-eqb _ _ (c .before .if2 .left), eq-eqb _ _ (c .if3 .taken))
+
+add-result-5 : tie.Need-add-result-5
+add-result-5 c = search needs
+
+returns-4 : tie.Need-returns-4
+unfolding codeOf
+returns-4 c =
+    let at-if1 = c .before .before in
+    simp (ne-eqb _ _ (at-if1 .if1 .left), ne-eqb _ _ (c .before .if2 .left), ne-eqb _ _ (c .if3 .left))
+
+pub place-spec : {M : Type 1} → statement M
+place-spec =
+    tie.close
+    (tie.spec
+    mul-result
+    add-result
+    returns
+    mul-result-2
+    add-result-2
+    add-result-3
+    returns-2
+    add-result-4
+    returns-3
+    add-result-5
+    returns-4)

@@ -1,0 +1,51 @@
+-- The moves of one side, additions or deletions: those of the rules with one of two ops and one of the query's roles.
+use mathlib.Core.Path.{_≡_}
+use mathlib.Core.Bool.{Bool, true, _&&_, _||_}
+use mathlib.Core.List.{[]}
+use Prim.Native.Nat.{ℕ, _+_, _≤_, _<_}
+use lib.Dec.{eqb}
+use lib.ListN.{length, getD}
+use Rattle.level.specs.Moves.{moveAt}
+use Rattle.level.specs.Terms.{GoodRule, MoveOf}
+use Rattle.level.specs.declared.Move.{Move}
+use Rattle.level.specs.declared.Moves.{Moves}
+use Rattle.frames.specs.declared.Rule.{Rule}
+use Rattle.frames.specs.declared.Rules.{Rules}
+use Rattle.sets.specs.Sets.{member}
+
+-- The rule has one of two ops, and its role is one of the roles.
+unfoldable pub chosenIn : ℕ → ℕ → ℕ → Rule → Bool
+chosenIn one two roles r = (eqb (r .op) one || eqb (r .op) two) && member roles (r .role .0)
+
+-- A list by value with no moves.
+pub record Empty (ms : Moves) : Type 0 where
+  pub count : ms .count ≡ 0
+  pub size : length (ms .moves) ≡ 512
+
+-- The moves `ms` and then `m`.
+pub record Pushed (ms : Moves) (m : Move) (r : Moves) : Type 0 where
+  pub count : r .count ≡ ms .count + 1
+  pub size : length (r .moves) ≡ 512
+  pub same : (i : ℕ) → i < ms .count → moveAt r i ≡ moveAt ms i
+  pub new : moveAt r (ms .count) ≡ m
+
+-- What stands past the end of the rules by value.
+abbrev pub noRule : Rule
+noRule = record { op = 0; role = record { 0 = 0 }; a = 0; v = 0; n = 0; terms = [] }
+
+-- Rule `i` of a list by value.
+unfoldable pub ruleAt : Rules → ℕ → Rule
+ruleAt rs i = getD (rs .rules) i noRule
+
+-- At most 512 rules, and each is good.
+pub record GoodRules (rs : Rules) : Type 0 where
+  pub few : rs .count ≤ 512
+  pub good : (i : ℕ) → i < rs .count → GoodRule (ruleAt rs i)
+
+-- Each move is of a chosen rule of the first `i`, and each chosen rule of the first `i` has a move.
+pub record MovesOf (rs : Rules) (one two : ℕ) (roles : ℕ) (ms : Moves) (i : ℕ) : Type 0 where
+  pub fits : i ≤ rs .count
+  pub few : ms .count ≤ i
+  pub size : length (ms .moves) ≡ 512
+  pub each : (k : ℕ) → k < ms .count → (j : ℕ) × (j < i) × (chosenIn one two roles (ruleAt rs j) ≡ true) × MoveOf (ruleAt rs j) (moveAt ms k)
+  pub every : (j : ℕ) → j < i → chosenIn one two roles (ruleAt rs j) ≡ true → (k : ℕ) × (k < ms .count) × MoveOf (ruleAt rs j) (moveAt ms k)

@@ -1,0 +1,13 @@
+pub mod Shown
+pub mod Moves
+pub mod Monotone
+pub mod World
+pub mod Terms
+pub mod Chosen
+pub mod Notes
+pub mod Sweep
+pub mod BackSweep
+pub mod Build
+pub mod Settle
+pub mod Levels
+pub mod Upto

@@ -1,0 +1,62 @@
+-- The moves of a level: rules whose terms are places. A move is met when all its places are shown.
+use mathlib.Core.Path.{_≡_}
+use mathlib.Core.Bool.{Bool, true, false, cond, _&&_, _||_}
+use mathlib.Core.List.{List, [], _∷_}
+use Prim.Native.Nat.{ℕ, _+_, _*_, _≤_, _<_}
+use lib.Dec.{ltb}
+use lib.ListN.{length, getD, take}
+use Rattle.theory.specs.Facts.{State}
+use Rattle.theory.specs.Plan.{Ask}
+use Rattle.level.specs.Shown.{shown, touches}
+use Rattle.level.specs.declared.Move.{Move}
+use Rattle.level.specs.declared.Moves.{Moves}
+
+-- Whether all of a list pass a test.
+unfoldable pub all : {A : Type 0} → (A → Bool) → List A → Bool
+all p [] = true
+all p (x ∷ xs) = p x && all p xs
+
+-- The fact that a request's op, a and v name.
+unfoldable pub placeOf : ℕ → ℕ → ℕ → ℕ
+placeOf op a v = cond (ltb op 5) (16 * a + v) (128 + a)
+
+-- The move names a fact, and its terms places.
+pub record Fine (m : Move) : Type 0 where
+  pub aim : m .fact ≡ placeOf (m .op) (m .a) (m .v)
+  pub fact : m .fact < 160
+  pub few : m .n ≤ 8
+  pub size : length (m .terms) ≡ 8
+  pub places : (j : ℕ) → getD (m .terms) j 0 < 320
+
+-- The places of a move's terms.
+unfoldable pub placesOf : Move → List ℕ
+placesOf m = take (m .n) (m .terms)
+
+-- Whether all terms of a move hold of a subject's direct facts.
+unfoldable pub met : List Bool → State → Move → Bool
+met T S m = all (shown T S) (placesOf m)
+
+-- Whether all its terms hold of a subject's flags.
+unfoldable pub flagsMet : Move → List Bool → Bool
+flagsMet m x = all (λ k. getD x k false) (placesOf m)
+
+-- Whether all its terms hold of a subject's flags with the move's own fact put in.
+unfoldable pub flagsWith : Move → List Bool → List Bool → Bool
+flagsWith m T x = all (λ k. getD x k false || touches T (m .fact) k) (placesOf m)
+
+-- What stands past the end of the moves.
+abbrev pub noMove : Move
+noMove = record { fact = 0; n = 0; op = 0; role = 0; a = 0; v = 0; terms = [] }
+
+-- Move `i` of a list by value.
+unfoldable pub moveAt : Moves → ℕ → Move
+moveAt ms i = getD (ms .moves) i noMove
+
+-- At most 512 moves, and each is fine.
+pub record Sound (ms : Moves) : Type 0 where
+  pub few : ms .count ≤ 512
+  pub fine : (i : ℕ) → i < ms .count → Fine (moveAt ms i)
+
+-- What a move asks for the subject `p`.
+abbrev pub askOf : ℕ → Move → Ask
+askOf p m = record { fact = m .fact; op = m .op; role = m .role; subject = p; a = m .a; v = m .v }

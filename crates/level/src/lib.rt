@@ -1,0 +1,575 @@
+// One level of the planner: the facts of one crew, or of the query's person, the moves that rules permit on them, and the rounds that settle the level.
+use frames::Rule;
+use frames::Rules;
+ghost use mathlib.Core.Path.{_≡_};
+ghost use mathlib.Core.Bool.{true, false, not, _&&_, _||_};
+ghost use Prim.Native.Nat.{_+_, _*_, _≤_, _<_};
+ghost use lib.ListN.{length, getD};
+ghost use Rattle.theory.specs.Facts.{_⊆_};
+ghost use Rattle.level.specs.Shown.{touches, More, rowFlags, Put, direct};
+ghost use Rattle.level.specs.Moves.{flagsMet, flagsWith, placeOf, Fine, Sound, askOf};
+ghost use Rattle.level.specs.Chosen.{chosenIn, Empty, Pushed, GoodRules, MovesOf};
+ghost use Rattle.level.specs.Terms.{codeOf, GoodRule, MoveOf};
+ghost use Rattle.level.specs.Notes.{Noted};
+ghost use Rattle.level.specs.Build.{Blank, Built, Stripped, Copied, Lacks};
+ghost use Rattle.level.specs.Sweep.{firesIn, Next, Ready, Closed};
+ghost use Rattle.level.specs.BackSweep.{backsIn, ReadyBack, ClosedBack};
+ghost use Rattle.level.specs.Settle.{Sizes, Rounded, Result};
+
+// A rule as a move: the fact that it adds or deletes, the bytes of its request, and the places of its terms.
+pub struct Move {
+    pub fact: usize,
+    pub n: usize,
+    pub op: u8,
+    pub role: u8,
+    pub a: u8,
+    pub v: u8,
+    pub terms: [u16; 8],
+}
+
+// The moves of one side, additions or deletions: the first `count`.
+pub struct Moves {
+    pub count: usize,
+    pub moves: [Move; 512],
+}
+
+// ---------------------------------------------------------------- from rules to moves
+
+// The place of what a term asks.
+pub fn place(kind: u8, a: u8, v: u8) -> u16
+    ensures { λ r. ⌜ r ≡ codeOf kind a v ⌝ }
+{
+    let x = a as u16;
+    let y = v as u16;
+    if kind == 1 {
+        return 16 * x + y;
+    }
+    if kind == 2 {
+        return 160 + (16 * x + y);
+    }
+    if kind == 3 {
+        return 128 + x;
+    }
+    288 + x
+}
+
+// The fact that a request's op, a and v name.
+pub fn aim(op: u8, a: u8, v: u8) -> usize
+    ensures { λ r. ⌜ r ≡ placeOf op a v ⌝ }
+{
+    let x = a as usize;
+    let y = v as usize;
+    if op < 5 {
+        return 16 * x + y;
+    }
+    128 + x
+}
+
+// The move of a rule.
+pub fn move_of(r: Rule) -> Move
+    requires { ⌜ GoodRule r ⌝ }
+    ensures { λ m. ⌜ MoveOf r m ⌝ }
+{
+    let n = r.n as usize;
+    let mut terms = [0u16; 8];
+    let mut j: usize = 0;
+    while j < n {
+        let t = r.terms[j];
+        terms[j] = place(t.kind, t.a, t.v);
+        j += 1;
+    }
+    let fact = aim(r.op, r.a, r.v);
+    Move {
+        fact,
+        n,
+        op: r.op,
+        role: r.role.0,
+        a: r.a,
+        v: r.v,
+        terms,
+    }
+}
+
+// No moves.
+pub fn none() -> Moves
+    ensures { λ r. ⌜ Empty r ⌝ }
+{
+    let ts = [0u16; 8];
+    let m = Move {
+        fact: 0,
+        n: 0,
+        op: 0,
+        role: 0,
+        a: 0,
+        v: 0,
+        terms: ts,
+    };
+    let ms = [m; 512];
+    Moves {
+        count: 0,
+        moves: ms,
+    }
+}
+
+// One move more.
+pub fn push(ms: Moves, m: Move) -> Moves
+    requires { ⌜ (ms .count < 512) × (length (ms .moves) ≡ 512) ⌝ }
+    ensures { λ r. ⌜ Pushed ms m r ⌝ }
+{
+    let mut out = ms;
+    let at = ms.count;
+    out.moves[at] = m;
+    out.count = at + 1;
+    out
+}
+
+// Whether the rule has one of two ops and one of the roles.
+pub fn chosen(r: Rule, one: u8, two: u8, roles: u32) -> bool
+    ensures { λ x. ⌜ x ≡ chosenIn one two roles r ⌝ }
+{
+    let given = sets::has(roles, r.role.0);
+    if r.op == one {
+        return given;
+    }
+    if r.op == two {
+        return given;
+    }
+    false
+}
+
+// The moves of the rules that have one of two ops and one of the roles, in the rules' order.
+pub fn moves_of(rs: Rules, one: u8, two: u8, roles: u32) -> Moves
+    requires { ⌜ GoodRules rs ⌝ }
+    ensures { λ r. ⌜ MovesOf rs one two roles r (rs .count) ⌝ }
+{
+    let n = rs.count;
+    let mut ms = none();
+    let mut i: usize = 0;
+    while i < n {
+        let r = rs.rules[i];
+        if chosen(r, one, two, roles) {
+            let m = move_of(r);
+            ms = push(ms, m);
+            i += 1;
+        } else {
+            i += 1;
+        }
+    }
+    ms
+}
+
+// ---------------------------------------------------------------- the flags of a subject
+
+// A term's place as an index.
+fn wide(x: u16) -> usize
+    ensures { λ r. ⌜ r ≡ x ⌝ }
+{
+    x as usize
+}
+
+// Whether all terms of the move hold of the flags `x`.
+pub fn meets(m: Move, x: &[bool]) -> bool
+    requires { ⌜ Fine m × (length (now x) ≡ 320) ⌝ }
+    ensures { λ r. ⌜ r ≡ flagsMet m (now (x .entry)) ⌝ }
+{
+    let n = m.n;
+    let mut j: usize = 0;
+    while j < n {
+        let k = wide(m.terms[j]);
+        if !x[k] {
+            return false;
+        }
+        j += 1;
+    }
+    true
+}
+
+// What the fact `f` adds at the place `k`.
+pub fn touch(table: &[bool], f: usize, k: usize) -> bool
+    requires { ⌜ (f < 160) × ((k < 320) × (length (now table) ≡ 5280)) ⌝ }
+    ensures { λ r. ⌜ r ≡ touches (now (table .entry)) f k ⌝ }
+{
+    if k < 160 {
+        return k == f;
+    }
+    if k - 160 == f {
+        return true;
+    }
+    if f < 128 {
+        return false;
+    }
+    table[160 * (f - 128) + (k - 160)]
+}
+
+// Either of two flags.
+fn either(a: bool, b: bool) -> bool
+    ensures { λ r. ⌜ r ≡ a || b ⌝ }
+{
+    if a {
+        return true;
+    }
+    b
+}
+
+// Adds the row of crew `c` to the effective flags.
+pub fn add_row(table: &[bool], c: usize, x: &mut [bool])
+    requires { ⌜ (c < 32) × ((length (now x) ≡ 320) × (length (now table) ≡ 5280)) ⌝ }
+    ensures { λ _. ⌜ More (now (x .entry)) (rowFlags (now (table .entry)) c) (now (x .exit)) ⌝ }
+{
+    let mut k: usize = 0;
+    while k < 160 {
+        let old = x[160 + k];
+        let new = table[160 * c + k];
+        x[160 + k] = either(old, new);
+        k += 1;
+    }
+}
+
+// Puts the fact `f` in.
+pub fn put(table: &[bool], f: usize, x: &mut [bool])
+    requires { ⌜ (f < 160) × ((length (now x) ≡ 320) × (length (now table) ≡ 5280)) ⌝ }
+    ensures { λ _. ⌜ Put (now (table .entry)) (now (x .entry)) f (now (x .exit)) ⌝ }
+{
+    x[f] = true;
+    x[160 + f] = true;
+    if f < 128 {
+        return;
+    }
+    add_row(table, f - 128, x);
+}
+
+// Writes the request of a move, as request `k`.
+pub fn note(m: Move, subject: u8, k: usize, out: &mut [u8])
+    requires { ⌜ Fine m × (5 * k + 5 ≤ length (now out)) ⌝ }
+    ensures { λ _. ⌜ Noted (now (out .entry)) k (askOf subject m) (now (out .exit)) ⌝ }
+{
+    let at = 5 * k;
+    out[at] = m.op;
+    out[at + 1] = m.role;
+    out[at + 2] = subject;
+    out[at + 3] = m.a;
+    out[at + 4] = m.v;
+}
+
+// ---------------------------------------------------------------- the two sweeps
+
+// Whether the move adds a fact that is allowed and not there yet, and its terms hold.
+pub fn fires(m: Move, allowed: &[bool], x: &[bool]) -> bool
+    requires { ⌜ Fine m × ((length (now x) ≡ 320) × (length (now allowed) ≡ 160)) ⌝ }
+    ensures { λ r. ⌜ r ≡ firesIn m (now (allowed .entry)) (now (x .entry)) ⌝ }
+{
+    let f = m.fact;
+    if x[f] {
+        return false;
+    }
+    if allowed[f] {
+        return meets(m, x);
+    }
+    false
+}
+
+// The place after `i` in a round of `n`.
+fn next(i: usize, n: usize) -> usize
+    requires { ⌜ i < n ⌝ }
+    ensures { λ r. ⌜ Next i n r ⌝ }
+{
+    if i + 1 == n {
+        return 0;
+    }
+    i + 1
+}
+
+// Adds to `x` what the moves can add within `allowed`, until nothing is left, and notes each request in `out` from request `start` on. Returns how many.
+pub fn close(
+    adds: Moves,
+    subject: u8,
+    table: &[bool],
+    allowed: &[bool],
+    x: &mut [bool],
+    start: usize,
+    out: &mut [u8],
+) -> usize
+    requires { ⌜ Sound adds ⌝ }
+    requires { ⌜ Ready (now table) (now allowed) (now x) (length (now out)) start ⌝ }
+    ensures { λ r. ⌜ Closed adds subject (now (table .entry)) (now (allowed .entry)) (now (x .entry)) (now (x .exit)) start (now (out .entry)) (now (out .exit)) r ⌝ }
+{
+    let count = adds.count;
+    let mut n: usize = 0;
+    let mut quiet: usize = 0;
+    let mut i: usize = 0;
+    while quiet < count {
+        let m = adds.moves[i];
+        if fires(m, allowed, x) {
+            put(table, m.fact, x);
+            note(m, subject, start + n, out);
+            n += 1;
+            quiet = 0;
+            i = next(i, count);
+        } else {
+            quiet += 1;
+            i = next(i, count);
+        }
+    }
+    n
+}
+
+// Whether `x` with the fact `f` put in shows the place `k`.
+pub fn lit(table: &[bool], f: usize, k: usize, x: &[bool]) -> bool
+    requires { ⌜ (f < 160) × ((k < 320) × ((length (now x) ≡ 320) × (length (now table) ≡ 5280))) ⌝ }
+    ensures { λ r. ⌜ r ≡ getD (now (x .entry)) k false || touches (now (table .entry)) f k ⌝ }
+{
+    if x[k] {
+        return true;
+    }
+    touch(table, f, k)
+}
+
+// Whether all terms of the move hold of `x` with the move's own fact put in.
+pub fn meets_with(m: Move, table: &[bool], x: &[bool]) -> bool
+    requires { ⌜ Fine m × ((length (now x) ≡ 320) × (length (now table) ≡ 5280)) ⌝ }
+    ensures { λ r. ⌜ r ≡ flagsWith m (now (table .entry)) (now (x .entry)) ⌝ }
+{
+    let n = m.n;
+    let f = m.fact;
+    let mut j: usize = 0;
+    while j < n {
+        let k = wide(m.terms[j]);
+        if !lit(table, f, k, x) {
+            return false;
+        }
+        j += 1;
+    }
+    true
+}
+
+// Whether the move deletes a fact of `x` that is not in `y`, and its terms hold of `y` with that fact.
+pub fn backs(m: Move, table: &[bool], x: &[bool], y: &[bool]) -> bool
+    requires { ⌜ Fine m × ((length (now x) ≡ 320) × ((length (now y) ≡ 320) × (length (now table) ≡ 5280))) ⌝ }
+    ensures { λ r. ⌜ r ≡ backsIn m (now (table .entry)) (now (x .entry)) (now (y .entry)) ⌝ }
+{
+    let f = m.fact;
+    if y[f] {
+        return false;
+    }
+    if x[f] {
+        return meets_with(m, table, y);
+    }
+    false
+}
+
+// Puts back into `y` what of `x` the moves can delete, until nothing is left, and notes each request in `out`, downwards from request `end`. Returns where the notes begin.
+pub fn back(
+    dels: Moves,
+    subject: u8,
+    table: &[bool],
+    bad: &[bool],
+    x: &[bool],
+    y: &mut [bool],
+    end: usize,
+    out: &mut [u8],
+) -> usize
+    requires { ⌜ Sound dels ⌝ }
+    requires { ⌜ ReadyBack (now table) (now bad) (now x) (now y) (length (now out)) end ⌝ }
+    ensures { λ r. ⌜ ClosedBack dels subject (now (table .entry)) (now (bad .entry)) (now (x .entry)) (now (y .exit)) end (now (out .entry)) (now (out .exit)) r ⌝ }
+{
+    let count = dels.count;
+    let mut at = end;
+    let mut quiet: usize = 0;
+    let mut i: usize = 0;
+    while quiet < count {
+        let m = dels.moves[i];
+        if backs(m, table, x, y) {
+            put(table, m.fact, y);
+            at -= 1;
+            note(m, subject, at, out);
+            quiet = 0;
+            i = next(i, count);
+        } else {
+            quiet += 1;
+            i = next(i, count);
+        }
+    }
+    at
+}
+
+// ---------------------------------------------------------------- the rounds
+
+// The flags of a subject with no direct facts.
+pub fn blank(table: &[bool], x: &mut [bool])
+    requires { ⌜ (length (now x) ≡ 320) × (length (now table) ≡ 5280) ⌝ }
+    ensures { λ _. ⌜ Blank (now (table .entry)) (now (x .exit)) ⌝ }
+{
+    let mut k: usize = 0;
+    while k < 160 {
+        let b = table[5120 + k];
+        x[k] = false;
+        x[160 + k] = b;
+        k += 1;
+    }
+}
+
+// The flags of the subject whose direct facts are `d`.
+pub fn build(table: &[bool], d: &[bool], x: &mut [bool])
+    requires { ⌜ (length (now x) ≡ 320) × ((length (now table) ≡ 5280) × (length (now d) ≡ 160)) ⌝ }
+    ensures { λ _. ⌜ Built (now (table .entry)) (now (d .entry)) (now (x .exit)) ⌝ }
+{
+    blank(table, x);
+    let mut f: usize = 0;
+    while f < 160 {
+        if d[f] {
+            put(table, f, x);
+            f += 1;
+        } else {
+            f += 1;
+        }
+    }
+}
+
+// The first flag without the second.
+fn without(a: bool, b: bool) -> bool
+    ensures { λ r. ⌜ r ≡ a && not b ⌝ }
+{
+    if a {
+        return !b;
+    }
+    false
+}
+
+// Writes to `d` the facts of `x` that are not forbidden.
+pub fn strip(x: &[bool], bad: &[bool], d: &mut [bool])
+    requires { ⌜ (length (now x) ≡ 320) × ((length (now bad) ≡ 160) × (length (now d) ≡ 160)) ⌝ }
+    ensures { λ _. ⌜ Stripped (now (x .entry)) (now (bad .entry)) (now (d .exit)) ⌝ }
+{
+    let mut k: usize = 0;
+    while k < 160 {
+        d[k] = without(x[k], bad[k]);
+        k += 1;
+    }
+}
+
+// Writes the facts of `y` to `u`.
+pub fn keep(y: &[bool], u: &mut [bool])
+    requires { ⌜ (length (now y) ≡ 320) × (length (now u) ≡ 160) ⌝ }
+    ensures { λ _. ⌜ Copied (now (y .entry)) (now (u .exit)) ⌝ }
+{
+    let mut k: usize = 0;
+    while k < 160 {
+        u[k] = y[k];
+        k += 1;
+    }
+}
+
+// The first fact of `a` that `b` lacks, or 160.
+pub fn lacks(a: &[bool], b: &[bool]) -> usize
+    requires { ⌜ (160 ≤ length (now a)) × (160 ≤ length (now b)) ⌝ }
+    ensures { λ r. ⌜ Lacks (now (a .entry)) (now (b .entry)) r ⌝ }
+{
+    let mut k: usize = 0;
+    while k < 160 {
+        if without(a[k], b[k]) {
+            return k;
+        }
+        k += 1;
+    }
+    k
+}
+
+// How many requests a round added, and where its deletions begin.
+pub struct Ends {
+    pub ups: usize,
+    pub at: usize,
+}
+
+// One round: what can be added to `s` within `u`, to `x`, and what of that can be put back, to `y`.
+pub fn round(
+    adds: Moves,
+    dels: Moves,
+    subject: u8,
+    table: &[bool],
+    bad: &[bool],
+    s: &[bool],
+    u: &[bool],
+    x: &mut [bool],
+    y: &mut [bool],
+    d: &mut [bool],
+    start: usize,
+    up: &mut [u8],
+    end: usize,
+    down: &mut [u8],
+) -> Ends
+    requires { ⌜ Sound adds × Sound dels ⌝ }
+    requires { ⌜ Sizes (now table) (now bad) (now s) (now u) (now x) (now y) (now d) start (now up) end (now down) ⌝ }
+    requires { ⌜ (direct (now s) ⊆ direct (now u)) ⌝ }
+    ensures { λ r. ⌜ Rounded adds dels subject (now (table .entry)) (now (bad .entry)) (now (s .entry)) (now (u .entry)) (now (x .exit)) (now (y .exit)) (now (d .exit)) start (now (up .entry)) (now (up .exit)) (r .ups) end (now (down .entry)) (now (down .exit)) (r .at) ⌝ }
+{
+    build(table, s, x);
+    let n = close(adds, subject, table, u, x, start, up);
+    strip(x, bad, d);
+    build(table, d, y);
+    let at = back(dels, subject, table, bad, x, y, end, down);
+    Ends { ups: n, at }
+}
+
+// What a level comes to: whether it is settled, how many requests were added, and where the deletions begin.
+pub struct Outcome {
+    pub found: bool,
+    pub ups: usize,
+    pub at: usize,
+}
+
+// The level: rounds until what was put in can all be put back, or a starting fact is lost. `u` is what is allowed at first; `y` and `d` are room to work in.
+pub fn settle(
+    adds: Moves,
+    dels: Moves,
+    subject: u8,
+    table: &[bool],
+    bad: &[bool],
+    s: &[bool],
+    u: &mut [bool],
+    x: &mut [bool],
+    y: &mut [bool],
+    d: &mut [bool],
+    start: usize,
+    up: &mut [u8],
+    end: usize,
+    down: &mut [u8],
+) -> Outcome
+    requires { ⌜ Sound adds × Sound dels ⌝ }
+    requires { ⌜ Sizes (now table) (now bad) (now s) (now u) (now x) (now y) (now d) start (now up) end (now down) ⌝ }
+    requires { ⌜ (direct (now s) ⊆ direct (now u)) ⌝ }
+    ensures { λ r. ⌜ Result adds dels subject (now (table .entry)) (now (bad .entry)) (now (s .entry)) (now (u .entry)) (now (x .exit)) start (now (up .entry)) (now (up .exit)) end (now (down .entry)) (now (down .exit)) (r .found) (r .ups) (r .at) ⌝ }
+{
+    loop {
+        let e = round(
+            adds,
+            dels,
+            subject,
+            table,
+            bad,
+            s,
+            u,
+            x,
+            y,
+            d,
+            start,
+            up,
+            end,
+            down,
+        );
+        if lacks(x, y) == 160 {
+            return Outcome {
+                found: true,
+                ups: e.ups,
+                at: e.at,
+            };
+        }
+        if lacks(s, y) < 160 {
+            return Outcome {
+                found: false,
+                ups: 0,
+                at: end,
+            };
+        }
+        keep(y, u);
+    }
+}

@@ -1,0 +1,105 @@
+-- The depot as a world of the theory: its permission is monotone, and turns on the facts of its own level and those below.
+use mathlib.Core.Path.{_≡_, sym, _∙_}
+use mathlib.Core.Bool.{Bool, true}
+use Prim.Native.Nat.{ℕ, _+_, _*_, _/_, _≤_, _<_}
+use native.Mathlib.Omega.{arith}
+use Rattle.facts.specs.declared.Person.{Person}
+use Rattle.facts.specs.declared.Fact.{Fact}
+use Rattle.facts.specs.declared.Fact.the-variants.{Holds, CrewHolds, Member}
+use Rattle.frames.specs.Book.{Contents}
+use Rattle.frames.specs.declared.Term.{Term}
+use Rattle.requests.specs.declared.Request.{Request}
+use Rattle.rules.specs.Rules.{subjectOf, termHolds, permitted}
+use Rattle.ledger.proofs.LedgerLaws.{SameOf, permitted-mono, permitted-local, term-of-crew, term-of-person}
+use Rattle.theory.specs.Facts.{State, _⊆_}
+use Rattle.theory.specs.Plan.{Ask, Req, req, World}
+use Rattle.theory.specs.Tiers.{Tiers}
+use Rattle.reach.specs.Tracked.{personLevel, tracked, numberOf, lift, asked, May}
+use Rattle.reach.proofs.TrackLaws.{tracked-value, tracked-crew, tracked-member, level-low, lift-mono, lift-same}
+
+-- The world of a book's query.
+abbrev pub depot : Contents → World
+depot b = record {
+  May = may;
+  mono = up;
+  F = 5280;
+  known = in-F;
+}
+  where
+    may : State → Req → Type 0
+    may S (req on q) = May b S on q
+
+    up : {S T : State} (r : Req) → S ⊆ T → may S r → may T r
+    up {S} {T} (req on q) le m =
+        record {
+          formed = m .formed;
+          role = m .role;
+          adding = m .adding;
+          of-fact = m .of-fact;
+          number = m .number;
+          bounded = m .bounded;
+          allows = permitted-mono (b .juniors) (lift-mono b le) (b .rules) (asked q) (m .allows);
+        }
+
+    in-F : (S : State) (on : Bool) (q : Ask) → may S (req on q) → q .fact < 5280
+    in-F S on q m = m .bounded
+
+-- Two states that agree up to a level.
+abbrev pub Upto : ℕ → State → State → Type 0
+Upto k S T = (g : ℕ) → g / 160 ≤ k → S g ≡ T g
+
+module _ (b : Contents) (S T : State) where
+  -- A term about a tracked subject reads facts of its level and those below alone.
+  terms-agree : (f : Fact) → tracked b f ≡ true → Upto (numberOf b f / 160) S T
+      → (t : Term) → termHolds (b .juniors) (lift b S) (subjectOf f) t ≡ termHolds (b .juniors) (lift b T) (subjectOf f) t
+  unfolding subjectOf numberOf
+  terms-agree (Holds p a v) e agree t =
+      let h = tracked-value b p a v e in
+      let k : (160 * personLevel b + (16 * a .0 + v)) / 160 ≡ personLevel b = omega (arith, h .1 .0, h .1 .1) in
+      term-of-person (b .juniors) (lift b S) (lift b T) p (all-of p (λ f i. agree (numberOf b f) (omega (arith, level-low b f i, k)))) t
+    where
+      all-of : (p : Person) → ((f : Fact) → tracked b f ≡ true → S (numberOf b f) ≡ T (numberOf b f)) → SameOf (lift b S) (lift b T) p
+      all-of p h =
+          record {
+            value = λ a v. lift-same b S T (Holds p a v) (h (Holds p a v));
+            crew-of = λ c. lift-same b S T (Member p c) (h (Member p c));
+            crews = λ x a v. lift-same b S T (CrewHolds (record { 0 = x }) a v) (h (CrewHolds (record { 0 = x }) a v));
+          }
+  terms-agree (CrewHolds c a v) e agree t =
+      let h = tracked-crew b c a v e in
+      let k : (160 * c .0 + (16 * a .0 + v)) / 160 ≡ c .0 = omega (arith, h .1 .0, h .1 .1) in
+      term-of-crew (b .juniors) (lift b S) (lift b T) c
+      (record {
+        crew = λ x a′ v′ le. lift-same b S T (CrewHolds (record { 0 = x }) a′ v′) (λ i.
+            let j = tracked-crew b (record { 0 = x }) a′ v′ i in
+            agree (160 * x + (16 * a′ .0 + v′)) (omega (arith, j .1 .0, j .1 .1, k, le)));
+      }) t
+  terms-agree (Member p c) e agree t =
+      let h = tracked-member b p c e in
+      let k : (160 * personLevel b + (128 + c .0)) / 160 ≡ personLevel b = omega (arith, h .1) in
+      term-of-person (b .juniors) (lift b S) (lift b T) p
+      (record {
+        value = λ a v. lift-same b S T (Holds p a v) (λ i. agree (numberOf b (Holds p a v)) (omega (arith, level-low b (Holds p a v) i, k)));
+        crew-of = λ d. lift-same b S T (Member p d) (λ i. agree (numberOf b (Member p d)) (omega (arith, level-low b (Member p d) i, k)));
+        crews = λ x a v. lift-same b S T (CrewHolds (record { 0 = x }) a v) (λ i. agree (numberOf b (CrewHolds (record { 0 = x }) a v)) (omega (arith, level-low b (CrewHolds (record { 0 = x }) a v) i, k)));
+      }) t
+
+  -- So does a permission.
+  pub permitted-agree : (r : Request) → tracked b (r .fact) ≡ true → Upto (numberOf b (r .fact) / 160) S T
+      → permitted (b .juniors) (b .rules) (lift b S) r ≡ permitted (b .juniors) (b .rules) (lift b T) r
+  permitted-agree r e agree = permitted-local (b .juniors) (lift b S) (lift b T) (b .rules) r (terms-agree (r .fact) e agree)
+
+-- The levels of the depot are tiers of the theory.
+abbrev pub levels : (b : Contents) → Tiers (depot b)
+levels b = record {
+  tier = λ g. g / 160;
+  local = λ {S} {T} on q agree m. record {
+    formed = m .formed;
+    role = m .role;
+    adding = m .adding;
+    of-fact = m .of-fact;
+    number = m .number;
+    bounded = m .bounded;
+    allows = sym (permitted-agree b S T (asked q) (m .of-fact) (λ g h. agree g (rw (m .number) at h))) ∙ m .allows;
+  };
+}

@@ -1,0 +1,4 @@
+pub mod TrackLaws
+pub mod DepotLaws
+pub mod ChainLaws
+pub mod GoalLaws

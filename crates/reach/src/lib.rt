@@ -1,0 +1,1 @@
+// The depot as a world of the theory: see specs/ and proofs/.

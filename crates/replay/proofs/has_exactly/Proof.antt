@@ -1,0 +1,120 @@
+-- `replay::has_exactly` meets its contract: the invariant says that the named sets from j on decide; the measure is how many are left.
+-- Assumes nothing.
+use mathlib.Core.Path.{_≡_, refl, ap, sym, _∙_}
+use mathlib.Core.Bool.{Bool, true, false}
+use mathlib.Core.List.{List}
+use Prim.Native.Nat.{ℕ, _≤_, _-_}
+use lib.Dec.{eqb}
+use lib.ListN.{length, getD, take, drop}
+use borrow.Author.Tests.{eq-eqb, ne-eqb}
+use Rattle.facts.specs.Facts.{holds}
+use Rattle.gate.specs.declared.Sizes.{Sizes}
+use Rattle.frames.specs.declared.Want.{Want}
+use Rattle.frames.specs.declared.Query.{Query}
+use Rattle.frames.specs.Book.{contentsOf}
+use Rattle.rules.specs.Search.{all}
+use Rattle.rules.proofs.SearchLaws.{all-out, all-pass, all-fail}
+use Rattle.ledger.specs.Show.{valueSet}
+use Rattle.replay.specs.Met.{wants}
+use borrow.Author.Needs.{needs}
+use native.Mathlib.Omega.{arith}
+use Rattle.replay.proofs.has_exactly.Statement.{statement}
+use Rattle.replay.proofs.has_exactly.Tie as tie
+
+-- What stands past the end of the places.
+abbrev none : Want
+none = record { attr = record { 0 = 0 }; set = 0 }
+
+-- The test of one named set.
+abbrev test : List ℕ → Sizes → List ℕ → Query → Want → Bool
+test ledger z juniors query w = eqb (valueSet z juniors (holds ledger) (query .person) (w .attr .0)) (w .set)
+
+abbrev Inv-loop : tie.InvT-loop
+Inv-loop ledger z juniors query n j₀ j =
+    (j ≤ n) × (all (test ledger z juniors query) (take n (query .wants)) ≡ all (test ledger z juniors query) (drop j (take n (query .wants))))
+
+abbrev μ-loop : tie.MeasureT-loop
+μ-loop ledger z juniors query n j₀ j = n - j
+
+named-requires : tie.Need-named-requires Inv-loop μ-loop
+named-requires c κs = search needs
+
+loop-holds : tie.Need-loop-holds Inv-loop μ-loop
+loop-holds c = (omega arith, refl)
+
+mul-w : tie.Need-mul-w Inv-loop μ-loop
+mul-w c = omega (arith, c .loop-test .taken, c .before .before .named .ensures .1 .0)
+
+element-copy-out-w : tie.Need-element-copy-out-w Inv-loop μ-loop
+element-copy-out-w c = omega (arith, c .loop-test .taken, c .before .before .named .ensures .1 .0)
+
+slice-aggregate-value-set : tie.Need-slice-aggregate-value-set Inv-loop μ-loop
+slice-aggregate-value-set c = search needs
+
+value-set-requires : tie.Need-value-set-requires Inv-loop μ-loop
+unfolding contentsOf
+value-set-requires c κs = (c .before .before .before .before .before .before .before .before .before .before .pre .sized, c .before .before .before .before .before .before .before .before .before .before .pre .edge-room)
+
+returns : tie.Need-returns Inv-loop μ-loop
+unfolding wants contentsOf
+returns c =
+    let start = c .before .before .before .before .before .before .before .before .before .before .before .before .before in
+    let b = start .args .b in
+    let P = test (start .args .ledger .now) (b .sizes) (b .juniors) (b .query) in
+    let n = c .before .before .before .before .before .before .before .before .named .result in
+    let named = c .before .before .before .before .before .before .before .before .named .ensures in
+    let j = c .before .before .before .before .before .before .before .loop .j in
+    let inv = c .before .before .before .before .before .before .before .loop .inv .1 in
+    let room : n ≤ length (b .query .wants) = omega (arith, named .0, named .1 .0) in
+    let failed : P (getD (b .query .wants) j none) ≡ false = rw (← c .before .before .value-set .ensures) (ne-eqb _ _ (c .if1 .taken)) in
+    sym (ap (all P) (sym (named .1 .1)) ∙ inv ∙ all-fail P (b .query .wants) n room j none (c .before .before .before .before .before .before .loop-test .taken) failed)
+
+add-j : tie.Need-add-j Inv-loop μ-loop
+add-j c = search needs
+
+loop-less : tie.Need-loop-less Inv-loop μ-loop
+loop-less c = search needs
+
+loop-again : tie.Need-loop-again Inv-loop μ-loop
+loop-again c =
+    let start = c .before .before .before .before .before .before .before .before .before .before .before .before .before in
+    let b = start .args .b in
+    let P = test (start .args .ledger .now) (b .sizes) (b .juniors) (b .query) in
+    let n = c .before .before .before .before .before .before .before .before .named .result in
+    let named = c .before .before .before .before .before .before .before .before .named .ensures in
+    let j = c .before .before .before .before .before .before .before .loop .j in
+    let inv = c .before .before .before .before .before .before .before .loop .inv .1 in
+    let room : n ≤ length (b .query .wants) = omega (arith, named .0, named .1 .0) in
+    let passed : P (getD (b .query .wants) j none) ≡ true = rw (← c .before .before .value-set .ensures) (eq-eqb _ _ (c .if1 .left)) in
+    (omega (arith, c .before .before .before .before .before .before .loop-test .taken), inv ∙ all-pass P (b .query .wants) n room j none (c .before .before .before .before .before .before .loop-test .taken) passed)
+
+returns-2 : tie.Need-returns-2 Inv-loop μ-loop
+unfolding wants contentsOf
+returns-2 c =
+    let start = c .before .before .before .before .before .before .before in
+    let b = start .args .b in
+    let P = test (start .args .ledger .now) (b .sizes) (b .juniors) (b .query) in
+    let n = c .before .before .named .result in
+    let named = c .before .before .named .ensures in
+    let j = c .before .loop .j in
+    let inv = c .before .loop .inv .1 in
+    let room : n ≤ length (b .query .wants) = omega (arith, named .0, named .1 .0) in
+    sym (ap (all P) (sym (named .1 .1)) ∙ inv ∙ all-out P (b .query .wants) n room j (omega (arith, c .loop-test .left)))
+
+pub has-exactly-spec : {M : Type 1} → statement M
+has-exactly-spec =
+    tie.close
+    (tie.spec
+    Inv-loop
+    μ-loop
+    named-requires
+    loop-holds
+    mul-w
+    element-copy-out-w
+    slice-aggregate-value-set
+    value-set-requires
+    returns
+    add-j
+    loop-less
+    loop-again
+    returns-2)
