@@ -3,7 +3,6 @@ ghost use mathlib.Core.Path.{_≡_};
 ghost use mathlib.Core.Bool.{cond};
 ghost use Prim.Native.Nat.{_≤_};
 ghost use lib.Dec.{eqb};
-ghost use lib.ListN.{length, take};
 ghost use Rattle.facts.specs.Facts.{holds};
 ghost use Rattle.frames.specs.Book.{contentsOf};
 ghost use Rattle.frames.specs.Fits.{Admitted};
@@ -18,7 +17,6 @@ use facts::Crew;
 use facts::Fact;
 use facts::Person;
 use frames::Book;
-use frames::Query;
 
 // What a list of requests comes to. Stops names the first request that does not go, counted from 1.
 pub enum Judgement {
@@ -122,17 +120,6 @@ fn direct_crews(ledger: &[u8], p: Person, n: u8) -> u32
     set
 }
 
-// How many attributes a query names; its places are eight.
-fn named(query: Query) -> usize
-    ensures { λ r. ⌜ (length (query .wants) ≡ 8) × ((r ≤ 8) × (take r (query .wants) ≡ take (query .q) (query .wants))) ⌝ }
-{
-    let q = query.q;
-    if q < 8 {
-        return q as usize;
-    }
-    8
-}
-
 // Mode 01: the person holds at least each named set.
 fn has_at_least(b: Book, ledger: &[u8]) -> bool
     requires { ⌜ Admitted (contentsOf b) ⌝ }
@@ -141,7 +128,7 @@ fn has_at_least(b: Book, ledger: &[u8]) -> bool
     let z = b.sizes;
     let juniors = b.juniors;
     let query = b.query;
-    let n = named(query);
+    let n = query.q as usize;
     let mut j: usize = 0;
     while j < n {
         let w = query.wants[j];
@@ -162,7 +149,7 @@ fn has_exactly(b: Book, ledger: &[u8]) -> bool
     let z = b.sizes;
     let juniors = b.juniors;
     let query = b.query;
-    let n = named(query);
+    let n = query.q as usize;
     let mut j: usize = 0;
     while j < n {
         let w = query.wants[j];
@@ -176,7 +163,7 @@ fn has_exactly(b: Book, ledger: &[u8]) -> bool
 }
 
 // Whether the query is met, by its mode.
-fn is_met(b: Book, ledger: &[u8]) -> bool
+pub fn is_met(b: Book, ledger: &[u8]) -> bool
     requires { ⌜ Admitted (contentsOf b) ⌝ }
     ensures { λ r. ⌜ r ≡ met (contentsOf b) (holds (now (ledger .entry))) ⌝ }
 {

@@ -1,6 +1,6 @@
 -- `replay::has_at_least` meets its contract: the invariant says that the named sets from j on decide; the measure is how many are left.
 -- Assumes nothing.
-use mathlib.Core.Path.{_≡_, refl, ap, sym, _∙_}
+use mathlib.Core.Path.{_≡_, refl, sym, _∙_}
 use mathlib.Core.Bool.{Bool, true, false}
 use mathlib.Core.List.{List}
 use Prim.Native.Nat.{ℕ, _≤_, _-_}
@@ -36,24 +36,26 @@ Inv-loop ledger z juniors query n j₀ j =
 abbrev μ-loop : tie.MeasureT-loop
 μ-loop ledger z juniors query n j₀ j = n - j
 
-named-requires : tie.Need-named-requires Inv-loop μ-loop
-named-requires c κs = search needs
+cast-n : tie.Need-cast-n Inv-loop μ-loop
+cast-n c = search needs
 
 loop-holds : tie.Need-loop-holds Inv-loop μ-loop
 loop-holds c = (omega arith, refl)
 
 mul-w : tie.Need-mul-w Inv-loop μ-loop
-mul-w c = omega (arith, c .loop-test .taken, c .before .before .named .ensures .1 .0)
+unfolding contentsOf
+mul-w c = omega (arith, c .loop-test .taken, c .before .before .before .before .before .before .pre .query-in .few)
 
 element-copy-out-w : tie.Need-element-copy-out-w Inv-loop μ-loop
-element-copy-out-w c = omega (arith, c .loop-test .taken, c .before .before .named .ensures .1 .0)
+unfolding contentsOf
+element-copy-out-w c = omega (arith, c .loop-test .taken, c .before .before .before .before .before .before .pre .query-in .few)
 
 slice-aggregate-value-set : tie.Need-slice-aggregate-value-set Inv-loop μ-loop
 slice-aggregate-value-set c = search needs
 
 value-set-requires : tie.Need-value-set-requires Inv-loop μ-loop
 unfolding contentsOf
-value-set-requires c κs = (c .before .before .before .before .before .before .before .before .before .before .pre .sized, c .before .before .before .before .before .before .before .before .before .before .pre .edge-room)
+value-set-requires c κs = (c .before .before .before .before .before .before .before .before .before .pre .sized, c .before .before .before .before .before .before .before .before .before .pre .edge-room)
 
 is-subset-requires : tie.Need-is-subset-requires Inv-loop μ-loop
 is-subset-requires c κs = search needs
@@ -61,16 +63,15 @@ is-subset-requires c κs = search needs
 returns : tie.Need-returns Inv-loop μ-loop
 unfolding metAtLeast wants contentsOf
 returns c =
-    let start = c .before .before .before .before .before .before .before .before .before .before .before .before .before in
+    let start = c .before .before .before .before .before .before .before .before .before .before .before .before in
     let b = start .args .b in
     let P = test (start .args .ledger .now) (b .sizes) (b .juniors) (b .query) in
-    let n = c .before .before .before .before .before .before .before .before .named .result in
-    let named = c .before .before .before .before .before .before .before .before .named .ensures in
+    let n = b .query .q in
     let j = c .before .before .before .before .before .before .before .loop .j in
     let inv = c .before .before .before .before .before .before .before .loop .inv .1 in
-    let room : n ≤ length (b .query .wants) = omega (arith, named .0, named .1 .0) in
+    let room : n ≤ length (b .query .wants) = omega (arith, start .pre .query-in .few, start .pre .query-in .room) in
     let failed : P (getD (b .query .wants) j none) ≡ false = rw (← c .before .before .value-set .ensures) (sym (c .before .is-subset .ensures) ∙ not-true _ (c .if1 .taken)) in
-    sym (ap (all P) (sym (named .1 .1)) ∙ inv ∙ all-fail P (b .query .wants) n room j none (c .before .before .before .before .before .before .loop-test .taken) failed)
+    sym (inv ∙ all-fail P (b .query .wants) n room j none (c .before .before .before .before .before .before .loop-test .taken) failed)
 
 add-j : tie.Need-add-j Inv-loop μ-loop
 add-j c = search needs
@@ -79,30 +80,29 @@ loop-less : tie.Need-loop-less Inv-loop μ-loop
 loop-less c = search needs
 
 loop-again : tie.Need-loop-again Inv-loop μ-loop
+unfolding contentsOf
 loop-again c =
-    let start = c .before .before .before .before .before .before .before .before .before .before .before .before .before in
+    let start = c .before .before .before .before .before .before .before .before .before .before .before .before in
     let b = start .args .b in
     let P = test (start .args .ledger .now) (b .sizes) (b .juniors) (b .query) in
-    let n = c .before .before .before .before .before .before .before .before .named .result in
-    let named = c .before .before .before .before .before .before .before .before .named .ensures in
+    let n = b .query .q in
     let j = c .before .before .before .before .before .before .before .loop .j in
     let inv = c .before .before .before .before .before .before .before .loop .inv .1 in
-    let room : n ≤ length (b .query .wants) = omega (arith, named .0, named .1 .0) in
+    let room : n ≤ length (b .query .wants) = omega (arith, start .pre .query-in .few, start .pre .query-in .room) in
     let passed : P (getD (b .query .wants) j none) ≡ true = rw (← c .before .before .value-set .ensures) (sym (c .before .is-subset .ensures) ∙ not-false _ (c .if1 .left)) in
     (omega (arith, c .before .before .before .before .before .before .loop-test .taken), inv ∙ all-pass P (b .query .wants) n room j none (c .before .before .before .before .before .before .loop-test .taken) passed)
 
 returns-2 : tie.Need-returns-2 Inv-loop μ-loop
 unfolding metAtLeast wants contentsOf
 returns-2 c =
-    let start = c .before .before .before .before .before .before .before in
+    let start = c .before .before .before .before .before .before in
     let b = start .args .b in
     let P = test (start .args .ledger .now) (b .sizes) (b .juniors) (b .query) in
-    let n = c .before .before .named .result in
-    let named = c .before .before .named .ensures in
+    let n = b .query .q in
     let j = c .before .loop .j in
     let inv = c .before .loop .inv .1 in
-    let room : n ≤ length (b .query .wants) = omega (arith, named .0, named .1 .0) in
-    sym (ap (all P) (sym (named .1 .1)) ∙ inv ∙ all-out P (b .query .wants) n room j (omega (arith, c .loop-test .left)))
+    let room : n ≤ length (b .query .wants) = omega (arith, start .pre .query-in .few, start .pre .query-in .room) in
+    sym (inv ∙ all-out P (b .query .wants) n room j (omega (arith, c .loop-test .left)))
 
 pub has-at-least-spec : {M : Type 1} → statement M
 has-at-least-spec =
@@ -110,7 +110,7 @@ has-at-least-spec =
     (tie.spec
     Inv-loop
     μ-loop
-    named-requires
+    cast-n
     loop-holds
     mul-w
     element-copy-out-w

@@ -1,7 +1,6 @@
 -- `replay::run_plan` meets its contract: the invariant says that what is left of the requests, on the ledger as it stands, decides the
 -- run; the measure is how many are left. Assumes nothing.
 use mathlib.Core.Path.{_≡_, refl, ap, sym, _∙_}
-use mathlib.Core.List.{List}
 use Prim.Native.Nat.{ℕ, _+_, _*_, _-_, _≤_}
 use lib.ListN.{length, take, drop}
 use borrow.Author.Tests.{not-true, not-false}
