@@ -1,0 +1,142 @@
+-- The laws of the planner's flags: lists of flags written one by one, and what each list then is.
+use mathlib.Core.Path.{_≡_, refl, ap, sym, _∙_}
+use mathlib.Core.Logic.{dite}
+use mathlib.Core.Bool.{Bool, false, cond, _&&_, _||_}
+use mathlib.Core.List.{List}
+use Prim.Native.Nat.{ℕ, _+_, _-_, _*_, _/_, _%_, _≤_, _<_}
+use native.Mathlib.Decide.{ℕ-discrete, decLt}
+use native.Mathlib.Omega.{arith}
+use lib.Dec.{eqb, ltb}
+use lib.ListN.{length, getD, set, length-set, List·getD-eq-default}
+use lib.Seq.{getD-set-same, getD-set-other}
+use borrow.Author.Tests.{ltb-true, lt-ltb, le-ltb, eq-eqb}
+use Rattle.sets.specs.Sets.{within}
+use Rattle.facts.specs.Facts.{holds}
+use Rattle.facts.specs.declared.Fact.{Fact}
+use Rattle.gate.specs.Gate.{allBelow, isAttr, valuesOf}
+use Rattle.gate.proofs.GateLaws.{all-more}
+use Rattle.frames.specs.declared.Query.{Query}
+use Rattle.frames.specs.Book.{Contents}
+use Rattle.frames.specs.Fits.{Admitted, wantOf, wantFits}
+use Rattle.inherit.proofs.InheritanceLaws.{and-both, any-same}
+use Rattle.requests.proofs.RequestLaws.{all-at}
+use Rattle.reach.specs.Tracked.{personLevel, factAt, isNumber, track}
+use Rattle.flags.specs.Flags.{Written, hasFact, factIn, startFlag, StartFlags, juniorHas, juniorsHave, CrewTable, PersonTable, rowFlag, FilledRow, FirstRows, SmallWants, wantFlag}
+
+-- ---------------------------------------------------------------- flags written one by one
+
+-- Nothing is written yet.
+pub written-none : (x : List Bool) (base : ℕ) (p : ℕ → Bool) → Written x base p 0 x
+written-none x base p = record { size = refl; at = λ f l. absurd (omega arith); below = λ j l. refl; above = λ j l. refl }
+
+-- One more is written, at the next place n.
+pub written-more : {before x : List Bool} {base i : ℕ} {p : ℕ → Bool} (v : Bool) (n : ℕ) → Written before base p i x → n ≡ base + i → n < length before → v ≡ p i
+    → Written before base p (i + 1) (set x n v)
+written-more {before} {x} {base} {i} {p} v n w z h e = record {
+  size = simp length-set (w .size);
+  at = λ f l. dite (ℕ-discrete f i)
+      (λ (q : f ≡ i). rw (q, ← z) (getD-set-same x n v false (omega (arith, w .size)) ∙ e))
+      (λ (q : f ≡ i → ⊥). getD-set-other x n (base + f) v false (omega arith) ∙ w .at f (omega arith));
+  below = λ j l. getD-set-other x n j v false (omega arith) ∙ w .below j l;
+  above = λ j l. getD-set-other x n j v false (omega arith) ∙ w .above j (omega arith);
+}
+
+-- The count may be named otherwise.
+pub written-end : {before x : List Bool} {base i n : ℕ} {p : ℕ → Bool} → Written before base p i x → i ≡ n → Written before base p n x
+written-end w e = rw e at w
+
+-- ---------------------------------------------------------------- what a level starts with
+
+-- A tracked fact by its level and its place there.
+pub track-level : (b : Contents) (F : Fact → Bool) (k f : ℕ) → k ≤ personLevel b → f < 160
+    → track b F (160 * k + f) ≡ hasFact (personLevel b) k f && F (factIn (personLevel b) (b .query .person) k f)
+unfolding track isNumber factAt hasFact factIn
+track-level b F k f h l =
+    let d : (160 * k + f) / 160 ≡ k = omega arith in
+    let m : (160 * k + f) % 160 ≡ f = omega arith in
+    rw (d, m)
+    (dite (decLt k (personLevel b))
+    (λ (low : k < personLevel b). rw (lt-ltb k (personLevel b) low))
+    (λ (high : k < personLevel b → ⊥). rw (le-ltb k (personLevel b) (omega arith), eq-eqb k (personLevel b) (omega arith))))
+
+-- All 160 flags written are the level's starting facts.
+pub start-all : (b : Contents) (k : ℕ) {before s : List Bool} → k ≤ b .sizes .crews → length before ≡ 160
+    → Written before 0 (startFlag (b .facts) (b .sizes .crews) (b .query .person) k) 160 s → StartFlags b k s
+unfolding startFlag
+start-all b k {before} {s} h e w = record {
+  size = w .size ∙ e;
+  at = λ f l. let z : 0 + f ≡ f = omega arith in ap (λ j. getD s j false) (sym z) ∙ w .at f l ∙ sym (track-level b (holds (b .facts)) k f h l);
+}
+
+-- ---------------------------------------------------------------- tables and rows
+
+-- What the last row says where all of it is written.
+pub crew-table-all : {js : List ℕ} {k : ℕ} {rows before table : List Bool} → length before ≡ 5280
+    → Written before 5120 (juniorsHave js k rows) 160 table → CrewTable js k rows before table
+crew-table-all e w = record { size = w .size ∙ e; kept = w .below; last = w .at }
+
+-- Where all is copied, past the rows nothing is left.
+pub person-table-all : {rows before table : List Bool} → length rows ≡ 5120 → length before ≡ 5280
+    → Written before 0 (λ i. getD rows i false) 5280 table → PersonTable rows table
+person-table-all {rows} {before} {table} r e w = record {
+  size = w .size ∙ e;
+  same = λ j l. all j (omega arith);
+  last = λ j l. dite (decLt j 5280)
+      (λ (m : j < 5280). all j m ∙ List·getD-eq-default rows false (omega (arith, r)))
+      (λ (m : j < 5280 → ⊥). List·getD-eq-default table false (omega (arith, w .size, e)));
+}
+  where
+    all : (j : ℕ) → j < 5280 → getD table j false ≡ getD rows j false
+    all j l = let z : 0 + j ≡ j = omega arith in ap (λ i. getD table i false) (sym z) ∙ w .at j l
+
+-- A crew's row leans on its juniors' rows, which are below it.
+pub row-same : (js : List ℕ) (k : ℕ) (x rows before : List Bool) (f : ℕ) → f < 160
+    → ((j : ℕ) → j < 160 * k → getD rows j false ≡ getD before j false) → rowFlag js k x rows f ≡ rowFlag js k x before f
+unfolding rowFlag
+row-same js k x rows before f l h =
+    ap (λ u. cond (ltb f 128) (getD x (160 + f) false) (eqb k (f - 128) || u))
+    (any-same (juniorHas js k rows f) (juniorHas js k before f) k (λ j m. rw (h (160 * j + f) (omega arith))))
+
+-- What row k says where all of it is written.
+pub fill-all : {js : List ℕ} {k : ℕ} {x before rows : List Bool} → length before ≡ 5120
+    → Written before (160 * k) (rowFlag js k x before) 160 rows → FilledRow js k x before rows
+unfolding rowFlag
+fill-all {js} {k} {x} {before} {rows} e w = record {
+  size = w .size ∙ e;
+  values = λ f l. w .at f (omega arith) ∙ rw (lt-ltb f 128 l);
+  crews = λ d l. let z : 128 + d - 128 ≡ d = omega arith in w .at (128 + d) (omega arith) ∙ rw (le-ltb (128 + d) 128 (omega arith), z);
+  below = w .below;
+  above = w .above;
+}
+
+-- Place i of the rows is the own crew of its row.
+abbrev pub isOwn : ℕ → Bool
+isOwn i = eqb (i % 160) (128 + i / 160)
+
+-- What the rows say where all of them are written.
+pub first-rows-all : {before rows : List Bool} → length before ≡ 5120 → Written before 0 isOwn 5120 rows → FirstRows rows
+first-rows-all {before} {rows} e w = record {
+  size = w .size ∙ e;
+  at = λ c h f l.
+      let z : 0 + (160 * c + f) ≡ 160 * c + f = omega arith in
+      let d : (160 * c + f) / 160 ≡ c = omega arith in
+      let m : (160 * c + f) % 160 ≡ f = omega arith in
+      ap (λ i. getD rows i false) (sym z) ∙ w .at (160 * c + f) (omega arith) ∙ rw (d, m);
+}
+
+-- ---------------------------------------------------------------- the goal
+
+-- The sets of an accepted book's query are small.
+pub small-wants : {t : Contents} → Admitted t → SmallWants (t .query)
+small-wants {t} b = record {
+  few = b .query-in .few;
+  room = b .query-in .room;
+  attrs = λ j l.
+      let fits = all-at (wantFits (t .sizes) (t .query)) (t .query .q) j (b .query-in .wants) l in
+      let attr = and-both (isAttr (t .sizes) (wantOf (t .query) j .attr .0)) (within (wantOf (t .query) j .set) (valuesOf (t .sizes) (wantOf (t .query) j .attr .0))) fits .0 in
+      omega (arith, ltb-true (wantOf (t .query) j .attr .0) (t .sizes .attrs) attr, b .sized .attrs-most);
+}
+
+-- One more set of a query with small wants is tested.
+pub wants-more : {q : Query} → SmallWants q → (x : List Bool) (j : ℕ) (b t : Bool) → b ≡ allBelow (wantFlag q x) j → t ≡ wantFlag q x j → (b && t) ≡ allBelow (wantFlag q x) (j + 1)
+wants-more {q} w x j b t e f = all-more (wantFlag q x) j b t e f

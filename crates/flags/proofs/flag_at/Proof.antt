@@ -1,0 +1,19 @@
+-- `flags::flag_at` meets its contract: past the end a flag is false. Assumes nothing.
+use mathlib.Core.Path.{sym}
+use mathlib.Core.Bool.{false}
+use lib.ListN.{List·getD-eq-default}
+use borrow.Author.Needs.{needs}
+use Rattle.flags.proofs.flag_at.Statement.{statement}
+use Rattle.flags.proofs.flag_at.Tie as tie
+
+returns : tie.Need-returns
+returns c = sym (List·getD-eq-default (c .before .args .rows .now) false (c .if1 .taken))
+
+shared-slice-read-result : tie.Need-shared-slice-read-result
+shared-slice-read-result c = search needs
+
+returns-2 : tie.Need-returns-2
+returns-2 c = search needs
+
+pub flag-at-spec : {M : Type 1} → statement M
+flag-at-spec = tie.close (tie.spec returns shared-slice-read-result returns-2)

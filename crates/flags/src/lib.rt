@@ -1,0 +1,320 @@
+// Flags of the planner: what a level starts with and what the query forbids there, what its subject inherits, the rows of the crews,
+// and whether the query's goal is reached. A level has 160 flags: value v of attribute a at 16·a + v, membership in crew c at 128 + c. Level k is crew k, the level
+// above all crews the query's person. Row c of `rows`, at 160·c, is what crew c effectively holds, and which crews it reaches.
+ghost use mathlib.Core.Path.{_≡_};
+ghost use mathlib.Core.Bool.{false};
+ghost use Prim.Native.Nat.{_≤_, _<_};
+ghost use lib.ListN.{length, getD};
+ghost use Rattle.frames.specs.Book.{contentsOf};
+ghost use Rattle.frames.specs.Fits.{Admitted};
+ghost use Rattle.flags.specs.Flags.{Written, hasFact, factIn, startFlag, StartFlags, juniorsHave, CrewTable, PersonTable, rowFlag, FilledRow, FirstRows, SmallWants, wantFlags, wantsFlags, crewsFlags, goalFlags, bannedValue, forbidFlag, badFlag, BadFlags, listedReach, Reaching};
+ghost use Rattle.reach.specs.Goal.{belowListed};
+use facts::Attr;
+use facts::Crew;
+use facts::Fact;
+use facts::Person;
+use frames::Book;
+use frames::Query;
+use frames::Want;
+
+// Whether level k has a fact f: a crew has values alone.
+fn has_fact(crews: u8, k: u8, f: u8) -> bool
+    ensures { λ r. ⌜ r ≡ hasFact crews k f ⌝ }
+{
+    !(k < crews) | (f < 128)
+}
+
+// Fact f of level k.
+fn fact_at(crews: u8, person: Person, k: u8, f: u8) -> Fact
+    ensures { λ r. ⌜ r ≡ factIn crews person k f ⌝ }
+{
+    if k < crews {
+        return Fact::CrewHolds(Crew(k), Attr(f / 16), f % 16);
+    }
+    if f < 128 {
+        return Fact::Holds(person, Attr(f / 16), f % 16);
+    }
+    Fact::Member(person, Crew(f - 128))
+}
+
+// Whether fact f of level k is there, and among the facts.
+fn is_started(facts: &[u8], crews: u8, person: Person, k: u8, f: u8) -> bool
+    ensures { λ r. ⌜ r ≡ startFlag (now (facts .entry)) crews person k f ⌝ }
+{
+    if !has_fact(crews, k, f) {
+        return false;
+    }
+    facts::fact_holds(facts, fact_at(crews, person, k, f))
+}
+
+fn write_start(facts: &[u8], crews: u8, person: Person, k: u8, s: &mut [bool])
+    requires { ⌜ length (now s) ≡ 160 ⌝ }
+    ensures { λ _. ⌜ Written (now (s .entry)) 0 (startFlag (now (facts .entry)) crews person k) 160 (now (s .exit)) ⌝ }
+{
+    let mut f: u8 = 0;
+    while f < 160 {
+        s[f as usize] = is_started(facts, crews, person, k, f);
+        f += 1;
+    }
+}
+
+// The starting facts of level k.
+pub fn start_flags(b: Book, k: u8, s: &mut [bool])
+    requires { ⌜ Admitted (contentsOf b) × ((k ≤ b .sizes .crews) × (length (now s) ≡ 160)) ⌝ }
+    ensures { λ _. ⌜ StartFlags (contentsOf b) k (now (s .exit)) ⌝ }
+{
+    let facts = b.facts;
+    let z = b.sizes;
+    let q = b.query;
+    write_start(&facts, z.crews, q.person, k, s);
+}
+
+// Whether the row of some direct junior of crew k has flag f.
+fn juniors_have(juniors: &[u32], k: u8, rows: &[bool], f: usize) -> bool
+    requires { ⌜ (k < 32) × ((f < 160) × ((length (now juniors) ≡ 32) × (length (now rows) ≡ 5120))) ⌝ }
+    ensures { λ r. ⌜ r ≡ juniorsHave (now (juniors .entry)) k (now (rows .entry)) f ⌝ }
+{
+    let mut j: u8 = 0;
+    while j < k {
+        let direct = sets::has(juniors[k as usize], j);
+        let held = rows[160 * (j as usize) + f];
+        if direct & held {
+            return true;
+        }
+        j += 1;
+    }
+    false
+}
+
+// The last row of the table is what crew k has by its juniors.
+pub fn crew_table(juniors: &[u32], k: u8, rows: &[bool], table: &mut [bool])
+    requires { ⌜ (k < 32) × ((length (now juniors) ≡ 32) × ((length (now rows) ≡ 5120) × (length (now table) ≡ 5280))) ⌝ }
+    ensures { λ _. ⌜ CrewTable (now (juniors .entry)) k (now (rows .entry)) (now (table .entry)) (now (table .exit)) ⌝ }
+{
+    let mut f: usize = 0;
+    while f < 160 {
+        table[5120 + f] = juniors_have(juniors, k, rows, f);
+        f += 1;
+    }
+}
+
+// Flag i; past the end there is none.
+fn flag_at(rows: &[bool], i: usize) -> bool
+    ensures { λ r. ⌜ r ≡ getD (now (rows .entry)) i false ⌝ }
+{
+    if i >= rows.len() {
+        return false;
+    }
+    rows[i]
+}
+
+// The person's table: the crews' rows, and a last row of nothing.
+pub fn person_table(rows: &[bool], table: &mut [bool])
+    requires { ⌜ (length (now rows) ≡ 5120) × (length (now table) ≡ 5280) ⌝ }
+    ensures { λ _. ⌜ PersonTable (now (rows .entry)) (now (table .exit)) ⌝ }
+{
+    let mut i: usize = 0;
+    while i < 5280 {
+        table[i] = flag_at(rows, i);
+        i += 1;
+    }
+}
+
+// Flag f of crew k's row: a value where its effective flags have it, a crew where it is crew k or a junior of k reaches it.
+fn row_flag(juniors: &[u32], k: u8, x: &[bool], rows: &[bool], f: usize) -> bool
+    requires { ⌜ (k < 32) × ((f < 160) × ((length (now juniors) ≡ 32) × ((length (now x) ≡ 320) × (length (now rows) ≡ 5120)))) ⌝ }
+    ensures { λ r. ⌜ r ≡ rowFlag (now (juniors .entry)) k (now (x .entry)) (now (rows .entry)) f ⌝ }
+{
+    if f < 128 {
+        return x[160 + f];
+    }
+    if k as usize == f - 128 {
+        return true;
+    }
+    juniors_have(juniors, k, rows, f)
+}
+
+// Row k from the flags `x` of level k.
+pub fn fill_row(juniors: &[u32], k: u8, x: &[bool], rows: &mut [bool])
+    requires { ⌜ (k < 32) × ((length (now juniors) ≡ 32) × ((length (now x) ≡ 320) × (length (now rows) ≡ 5120))) ⌝ }
+    ensures { λ _. ⌜ FilledRow (now (juniors .entry)) k (now (x .entry)) (now (rows .entry)) (now (rows .exit)) ⌝ }
+{
+    let mut f: usize = 0;
+    while f < 160 {
+        let on = row_flag(juniors, k, x, rows, f);
+        rows[160 * (k as usize) + f] = on;
+        f += 1;
+    }
+}
+
+// Each crew's row has the crew itself, and nothing else.
+pub fn first_rows(rows: &mut [bool])
+    requires { ⌜ length (now rows) ≡ 5120 ⌝ }
+    ensures { λ _. ⌜ FirstRows (now (rows .exit)) ⌝ }
+{
+    let mut i: usize = 0;
+    while i < 5120 {
+        rows[i] = i % 160 == 128 + i / 160;
+        i += 1;
+    }
+}
+
+// Whether each value of the named set is effective.
+fn is_want_held(w: Want, x: &[bool]) -> bool
+    requires { ⌜ (w .attr .0 < 8) × (length (now x) ≡ 320) ⌝ }
+    ensures { λ r. ⌜ r ≡ wantFlags (now (x .entry)) w ⌝ }
+{
+    let a = w.attr.0;
+    let set = w.set;
+    let mut good = true;
+    let mut v: u8 = 0;
+    while v < 16 {
+        let asked = sets::has(set, v);
+        let held = x[160 + (16 * (a as usize) + (v as usize))];
+        good = good & (!asked | held);
+        v += 1;
+    }
+    good
+}
+
+// Whether each named set is effective.
+fn are_wants_held(q: Query, x: &[bool]) -> bool
+    requires { ⌜ SmallWants q × (length (now x) ≡ 320) ⌝ }
+    ensures { λ r. ⌜ r ≡ wantsFlags q (now (x .entry)) ⌝ }
+{
+    let n = q.q;
+    let mut good = true;
+    let mut j: u8 = 0;
+    while j < n {
+        let w = q.wants[j as usize];
+        let held = is_want_held(w, x);
+        good = good & held;
+        j += 1;
+    }
+    good
+}
+
+// Whether each listed crew is there directly.
+fn are_crews_held(crews: u32, x: &[bool]) -> bool
+    requires { ⌜ length (now x) ≡ 320 ⌝ }
+    ensures { λ r. ⌜ r ≡ crewsFlags crews (now (x .entry)) ⌝ }
+{
+    let mut good = true;
+    let mut c: u8 = 0;
+    while c < 32 {
+        let asked = sets::has(crews, c);
+        let held = x[128 + (c as usize)];
+        good = good & (!asked | held);
+        c += 1;
+    }
+    good
+}
+
+// Whether the flags of the person's level reach the query's goal.
+pub fn is_reached(b: Book, x: &[bool]) -> bool
+    requires { ⌜ Admitted (contentsOf b) × (length (now x) ≡ 320) ⌝ }
+    ensures { λ r. ⌜ r ≡ goalFlags (contentsOf b) (now (x .entry)) ⌝ }
+{
+    let q = b.query;
+    let least = are_wants_held(q, x);
+    if q.mode == 1 {
+        return least;
+    }
+    let crews = are_crews_held(q.crews, x);
+    crews & least
+}
+
+// Whether some named set of attribute a lacks value v.
+fn is_banned(q: Query, a: u8, v: u8) -> bool
+    requires { ⌜ SmallWants q ⌝ }
+    ensures { λ r. ⌜ r ≡ bannedValue q a v ⌝ }
+{
+    let n = q.q;
+    let mut j: u8 = 0;
+    while j < n {
+        let w = q.wants[j as usize];
+        let there = sets::has(w.set, v);
+        if (w.attr.0 == a) & !there {
+            return true;
+        }
+        j += 1;
+    }
+    false
+}
+
+// Whether mode 02 forbids fact f of level k. `below`: crew k is listed, or lies below a listed crew.
+fn is_forbidden(q: Query, crews: u8, k: u8, below: bool, f: u8) -> bool
+    requires { ⌜ SmallWants q ⌝ }
+    ensures { λ r. ⌜ r ≡ forbidFlag q crews k below f ⌝ }
+{
+    if k < crews {
+        let banned = is_banned(q, f / 16, f % 16);
+        return banned & below;
+    }
+    if f < 128 {
+        return is_banned(q, f / 16, f % 16);
+    }
+    !sets::has(q.crews, f - 128)
+}
+
+// Whether the query forbids fact f of level k. Mode 01 forbids nothing.
+fn is_bad(q: Query, crews: u8, k: u8, below: bool, f: u8) -> bool
+    requires { ⌜ SmallWants q ⌝ }
+    ensures { λ r. ⌜ r ≡ badFlag q crews k below f ⌝ }
+{
+    if !has_fact(crews, k, f) {
+        return false;
+    }
+    if q.mode == 1 {
+        return false;
+    }
+    is_forbidden(q, crews, k, below, f)
+}
+
+fn write_bad(q: Query, crews: u8, k: u8, below: bool, bad: &mut [bool])
+    requires { ⌜ SmallWants q × (length (now bad) ≡ 160) ⌝ }
+    ensures { λ _. ⌜ Written (now (bad .entry)) 0 (badFlag q crews k below) 160 (now (bad .exit)) ⌝ }
+{
+    let mut f: u8 = 0;
+    while f < 160 {
+        bad[f as usize] = is_bad(q, crews, k, below, f);
+        f += 1;
+    }
+}
+
+// The facts of level k that the query forbids. At a crew's level `below` says whether the crew is listed or lies below a listed one.
+pub fn bad_flags(b: Book, k: u8, below: bool, bad: &mut [bool])
+    requires { ⌜ Admitted (contentsOf b) × ((k ≤ b .sizes .crews) × (length (now bad) ≡ 160)) ⌝ }
+    requires { ⌜ (k < b .sizes .crews → below ≡ belowListed (contentsOf b) k) ⌝ }
+    ensures { λ _. ⌜ BadFlags (contentsOf b) k (now (bad .exit)) ⌝ }
+{
+    let z = b.sizes;
+    let q = b.query;
+    write_bad(q, z.crews, k, below, bad);
+}
+
+// Whether the row of some listed crew reaches crew c.
+fn do_listed_reach(listed: u32, rows: &[bool], c: u8) -> bool
+    requires { ⌜ (c < 32) × (length (now rows) ≡ 5120) ⌝ }
+    ensures { λ r. ⌜ r ≡ listedReach listed (now (rows .entry)) c ⌝ }
+{
+    let mut d: u8 = 0;
+    while d < 32 {
+        let named = sets::has(listed, d);
+        let reached = rows[160 * (d as usize) + (128 + (c as usize))];
+        if named & reached {
+            return true;
+        }
+        d += 1;
+    }
+    false
+}
+
+// Whether crew c is listed or lies below a listed crew, by rows that say which crews each crew reaches.
+pub fn is_below_listed(b: Book, rows: &[bool], c: u8) -> bool
+    requires { ⌜ (c < 32) × ((length (now rows) ≡ 5120) × Reaching (b .juniors) (now rows)) ⌝ }
+    ensures { λ r. ⌜ r ≡ belowListed (contentsOf b) c ⌝ }
+{
+    let q = b.query;
+    do_listed_reach(q.crews, rows, c)
+}
