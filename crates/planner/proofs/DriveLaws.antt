@@ -1,0 +1,297 @@
+-- From level to level: the first, a crew's, and the query's person's.
+use mathlib.Core.Path.{_≡_, refl, ap, sym, fun-ext, _∙_}
+use mathlib.Core.Logic.{⊎-elim, dite}
+use mathlib.Core.Bool.{Bool, true, false, _&&_, _||_, true≢false}
+use mathlib.Core.List.{List, [], _∷_, _++_, map}
+use Prim.Native.Nat.{ℕ, zero, suc, _+_, _-_, _*_, _/_, _%_, _≤_, _<_}
+use native.Mathlib.Decide.{ℕ-discrete, decLt}
+use native.Mathlib.Omega.{arith}
+use lib.Dec.{eqb, leb}
+use lib.ListN.{length, getD}
+use borrow.Author.Tests.{le-ltb, le-leb, lt-leb, eq-eqb, ne-eqb, eqb-true}
+use Rattle.sets.specs.Sets.{member}
+use Rattle.facts.specs.declared.Attr.{Attr}
+use Rattle.facts.specs.declared.Fact.the-variants.{CrewHolds}
+use Rattle.inherit.specs.Inheritance.{isJunior, anyBelow, downward, crewHolds}
+use Rattle.inherit.proofs.InheritanceLaws.{and-both, any-same, any-cases, downward-step, crew-holds-cases}
+use Rattle.frames.specs.declared.Rules.{Rules}
+use Rattle.frames.specs.Book.{Contents, listed}
+use Rattle.frames.specs.Fits.{Admitted}
+use Rattle.theory.specs.Facts.{State, _⊆_, Clear}
+use Rattle.theory.specs.Plan.{Ask, Req, Runs, end, Best}
+use Rattle.theory.proofs.PlanLaws.{bounds-first}
+use Rattle.level.specs.declared.Moves.{Moves}
+use Rattle.level.specs.Shown.{row, shown, direct, Whole}
+use Rattle.level.specs.Terms.{effective}
+use Rattle.level.specs.World.{world}
+use Rattle.level.specs.Levels.{onLevel, toWhole, Within}
+use Rattle.level.specs.Notes.{askAt, asks}
+use Rattle.level.specs.Settle.{Settled, Stuck}
+use Rattle.level.specs.Upto.{Upto}
+use Rattle.level.proofs.ShownLaws.{direct-low, direct-in}
+use Rattle.level.proofs.NoteLaws.{asks-same}
+use Rattle.level.proofs.LevelLaws.{on-level-in, on-level-out, stuck-none}
+use Rattle.level.proofs.UptoLaws.{upto-first, upto-next, upto-best}
+use Rattle.reach.specs.Tracked.{personLevel, tracked, numberOf, lift, track, isNumber, bytesOf, May}
+use Rattle.reach.specs.Goal.{bad}
+use Rattle.reach.proofs.TrackLaws.{tracked-crew, level-low}
+use Rattle.reach.proofs.DepotLaws.{depot, levels}
+use Rattle.flags.specs.Flags as flags
+use Rattle.planner.specs.Tables.{CrewTable, PersonTable}
+use Rattle.planner.specs.Drive.{starts, Rows, Driving}
+use Rattle.planner.proofs.TermBridge.{crew-effective, lower-holds}
+
+-- What is shown behind the direct facts is what is effective.
+shown-at : (T : List Bool) (S : State) (f : ℕ) → shown T S (160 + f) ≡ effective T S f
+unfolding shown effective
+shown-at T S f = let e : 160 + f - 160 ≡ f = omega arith in rw (le-ltb (160 + f) 160 (omega arith), e) refl
+
+not-true : (x : Bool) → (x ≡ true → ⊥) → x ≡ false
+not-true true h = absurd (h refl)
+not-true false h = refl
+
+-- ---------------------------------------------------------------- numbers that are no crew's
+
+module _ (b : Contents) (ok : Admitted b) where
+  no-juniors : (c j : ℕ) → b .sizes .crews ≤ c → isJunior (b .juniors) c j ≡ false
+  unfolding isJunior
+  no-juniors c j far = not-true (member (getD (b .juniors) c 0) j) (λ e. omega (arith, ok .edges c j e .1))
+
+  crew-none : (S : State) (a : Attr) (v c : ℕ) → b .sizes .crews ≤ c → crewHolds (b .juniors) (lift b S) a v c ≡ false
+  unfolding lift
+  crew-none S a v c far =
+      not-true (crewHolds (b .juniors) (λ f. tracked b f && S (numberOf b f)) a v c)
+      (λ e. ⊎-elim
+      (λ d. let t = tracked-crew b (record { 0 = c }) a v (and-both (tracked b (CrewHolds (record { 0 = c }) a v)) (S (numberOf b (CrewHolds (record { 0 = c }) a v))) d .0) in omega (arith, t .0))
+      (λ w. true≢false (sym (w .1 .0) ∙ no-juniors c (w .0) far))
+      (crew-holds-cases (b .juniors) (λ f. tracked b f && S (numberOf b f)) a v c e))
+
+  reach-none : (d c : ℕ) → b .sizes .crews ≤ c → downward (b .juniors) (λ x. eqb x d) c ≡ eqb c d
+  reach-none d c far =
+      downward-step (b .juniors) (λ x. eqb x d) c
+      ∙ ap (λ (x : Bool). eqb c d || x)
+      (not-true (anyBelow (λ j. isJunior (b .juniors) c j && downward (b .juniors) (λ x. eqb x d) j) c)
+      (λ e. let w = any-cases (λ j. isJunior (b .juniors) c j && downward (b .juniors) (λ x. eqb x d) j) c e in
+      true≢false (sym (and-both (isJunior (b .juniors) c (w .0)) (downward (b .juniors) (λ x. eqb x d) (w .0)) (w .1 .1) .0) ∙ no-juniors c (w .0) far)))
+      ∙ or-none (eqb c d)
+    where
+      or-none : (x : Bool) → (x || false) ≡ x
+      or-none true = refl
+      or-none false = refl
+
+  -- ---------------------------------------------------------------- the first level
+
+  starts-low : (g : ℕ) → starts b g ≡ true → leb (g / 160) (personLevel b) ≡ true
+  unfolding track isNumber
+  starts-low g e =
+      dite (decLt (g / 160) (personLevel b))
+      (λ (h : g / 160 < personLevel b). le-leb (g / 160) (personLevel b) (omega arith))
+      (λ (h : g / 160 < personLevel b → ⊥).
+      let n = and-both (isNumber b g) _ e .0 in
+      le-leb (g / 160) (personLevel b) (omega (arith, eqb-true (g / 160) (personLevel b) (rw (le-ltb (g / 160) (personLevel b) (omega arith)) at n))))
+
+  allFacts : State
+  allFacts g = leb (g / 160) (personLevel b)
+
+  pub drive-first : (rows : List Bool) (up down : List ℕ) → flags.FirstRows rows → length up ≡ 26400 → length down ≡ 26400 → Driving b 0 rows 0 up 5280 down
+  unfolding allFacts asks
+  drive-first rows up down first size-up size-down =
+      record {
+        R = allFacts;
+        us = [];
+        ds = [];
+        upto = upto-first (depot b) (levels b) (λ g. refl) (bad b) (starts b) (bounds-first (depot b) (bad b) (starts b) allFacts within-all permitted-all) within-all;
+        full = λ g low high. le-leb (g / 160) (personLevel b) high;
+        none = λ g high. lt-leb (g / 160) (personLevel b) high;
+        rows-right = record {
+          size = first .size;
+          values = λ c f l low h.
+              first .at c l f (omega arith) ∙ ne-eqb f (128 + c) (omega arith) ∙ sym (crew-none allFacts (record { 0 = f / 16 }) (f % 16) c (far c low));
+          crews = λ c d l low h. first .at c l (128 + d) (omega arith) ∙ shifted d c ∙ sym (reach-none d c (far c low));
+        };
+        bytes-up = refl;
+        bytes-down = refl;
+        few-up = omega arith;
+        size-up = size-up;
+        few-down = omega arith;
+        most-down = omega arith;
+        size-down = size-down;
+      }
+    where
+      far : (c : ℕ) → (c < b .sizes .crews → c < 0) → b .sizes .crews ≤ c
+      far c low = dite (decLt c (b .sizes .crews)) (λ (h : c < b .sizes .crews). absurd (omega (arith, low h))) (λ (h : c < b .sizes .crews → ⊥). omega arith)
+
+      shifted : (d c : ℕ) → eqb (128 + d) (128 + c) ≡ eqb c d
+      shifted d c = dite (ℕ-discrete c d) (λ (e : c ≡ d). rw e (eq-eqb (128 + d) (128 + d) refl ∙ sym (eq-eqb d d refl)))
+          (λ (e : c ≡ d → ⊥). ne-eqb (128 + d) (128 + c) (λ q. e (omega arith)) ∙ sym (ne-eqb c d e))
+
+      within-all : starts b ⊆ allFacts
+      within-all g e = starts-low g e
+
+      permitted-all : (S : State) (q : Ask) → May b S true q → allFacts (q .fact) ≡ true
+      permitted-all S q may = le-leb (q .fact / 160) (personLevel b) (rw (may .number) at (level-low b _ (may .of-fact)))
+
+  -- ---------------------------------------------------------------- tables from rows
+
+  -- The table of crew k out of the rows below it.
+  pub crew-table : {R : State} {k : ℕ} {rows before table : List Bool} → Rows b R k rows → k < b .sizes .crews → flags.CrewTable (b .juniors) k rows before table
+      → ((j : ℕ) → j < 5120 → getD before j false ≡ false) → CrewTable b R k table
+  unfolding row
+  crew-table {R} {k} {rows} right is-crew made blank =
+      record {
+        rows = λ c f l h. made .kept (160 * c + f) (omega arith) ∙ blank (160 * c + f) (omega arith);
+        own = λ f h. made .last f (omega arith)
+            ∙ any-same (λ j. isJunior (b .juniors) k j && getD rows (160 * j + f) false) (λ j. isJunior (b .juniors) k j && crewHolds (b .juniors) (lift b R) (record { 0 = f / 16 }) (f % 16) j) k
+            (λ j l. ap (λ (x : Bool). isJunior (b .juniors) k j && x) (right .values j f (omega (arith, ok .sized .crews-most)) (λ i. l) h));
+      }
+
+  -- The table of the query's person out of all rows.
+  pub person-table : {R : State} {rows table : List Bool} → Rows b R (personLevel b) rows → flags.PersonTable rows table → PersonTable b R table
+  unfolding row
+  person-table {R} right made =
+      record {
+        values = λ c f l h. made .same (160 * c + f) (omega arith) ∙ right .values c f l (λ i. i) h;
+        crews = λ c d l h. made .same (160 * c + (128 + d)) (omega arith) ∙ right .crews c d l (λ i. i) h;
+        own = λ f h. made .last (160 * 32 + f) (omega arith);
+      }
+
+  -- The rows after crew k, with its row filled from its flags.
+  pub rows-next : {R : State} {k : ℕ} {rows table x rows′ : List Bool} → Rows b R k rows → k < b .sizes .crews → CrewTable b R k table → Whole table x
+      → flags.FilledRow (b .juniors) k x rows rows′ → Rows b (onLevel k R (direct x)) (suc k) rows′
+  rows-next {R} {k} {rows} {table} {x} {rows′} right is-crew tab whole filled =
+      record { size = filled .size; values = values; crews = crews }
+    where
+      stays : (c f : ℕ) → (c ≡ k → ⊥) → f < 160 → getD rows′ (160 * c + f) false ≡ getD rows (160 * c + f) false
+      stays c f other h = dite (decLt c k) (λ (l : c < k). filled .below (160 * c + f) (omega arith)) (λ (l : c < k → ⊥). filled .above (160 * c + f) (omega arith))
+
+      flag : (f : ℕ) → f < 128 → getD x (160 + f) false ≡ crewHolds (b .juniors) (lift b (onLevel k R (direct x))) (record { 0 = f / 16 }) (f % 16) k
+      flag f h =
+          let e : 16 * (f / 16) + f % 16 ≡ f = omega arith in
+          whole .shows (160 + f) (omega arith) ∙ shown-effective f ∙ ap (effective table (direct x)) (sym e)
+          ∙ crew-effective b R (direct x) k table tab is-crew (record { 0 = f / 16 }) (f % 16) (omega arith) (omega arith)
+        where
+          shown-effective : (f : ℕ) → shown table (direct x) (160 + f) ≡ effective table (direct x) f
+          shown-effective f = shown-at table (direct x) f
+
+      values : (c f : ℕ) → c < 32 → (c < b .sizes .crews → c < suc k) → f < 128
+          → getD rows′ (160 * c + f) false ≡ crewHolds (b .juniors) (lift b (onLevel k R (direct x))) (record { 0 = f / 16 }) (f % 16) c
+      values c f l low h =
+          dite (ℕ-discrete c k)
+          (λ (e : c ≡ k). rw e (filled .values f h ∙ flag f h))
+          (λ (other : c ≡ k → ⊥).
+          dite (decLt c (b .sizes .crews))
+          (λ (i : c < b .sizes .crews).
+          let below : c < k = omega (arith, low i) in
+          stays c f other (omega arith) ∙ right .values c f l (λ j. below) h
+          ∙ sym (lower-holds b R (direct x) k c (record { 0 = f / 16 }) (f % 16) (λ y p q. omega arith)))
+          (λ (i : c < b .sizes .crews → ⊥).
+          stays c f other (omega arith) ∙ right .values c f l (λ j. absurd (i j)) h
+          ∙ crew-none R (record { 0 = f / 16 }) (f % 16) c (omega arith) ∙ sym (crew-none (onLevel k R (direct x)) (record { 0 = f / 16 }) (f % 16) c (omega arith))))
+
+      crews : (c d : ℕ) → c < 32 → (c < b .sizes .crews → c < suc k) → d < 32 → getD rows′ (160 * c + (128 + d)) false ≡ downward (b .juniors) (λ y. eqb y d) c
+      crews c d l low h =
+          dite (ℕ-discrete c k)
+          (λ (e : c ≡ k).
+          rw e (filled .crews d h
+          ∙ sym (downward-step (b .juniors) (λ y. eqb y d) k
+          ∙ ap (λ (y : Bool). eqb k d || y)
+          (any-same (λ j. isJunior (b .juniors) k j && downward (b .juniors) (λ y. eqb y d) j) (λ j. isJunior (b .juniors) k j && getD rows (160 * j + (128 + d)) false) k
+          (λ j m. ap (λ (y : Bool). isJunior (b .juniors) k j && y) (sym (right .crews j d (omega (arith, ok .sized .crews-most)) (λ i. m) h)))))))
+          (λ (other : c ≡ k → ⊥).
+          stays c (128 + d) other (omega arith)
+          ∙ right .crews c d l (λ i. omega (arith, low i)) h)
+
+  -- ---------------------------------------------------------------- the requests written
+
+  bytes-whole : (k : ℕ) (qs : List Ask) → map bytesOf (map (toWhole k) qs) ≡ map bytesOf qs
+  bytes-whole k [] = refl
+  bytes-whole k (q ∷ qs) = ap (λ (xs : List (List ℕ)). bytesOf q ∷ xs) (bytes-whole k qs)
+
+  map-append : (xs ys : List Ask) → map bytesOf (xs ++ ys) ≡ map bytesOf xs ++ map bytesOf ys
+  map-append [] ys = refl
+  map-append (x ∷ xs) ys = ap (λ (zs : List (List ℕ)). bytesOf x ∷ zs) (map-append xs ys)
+
+  asks-append : (out : List ℕ) (k m n : ℕ) → asks out k (m + n) ≡ asks out k m ++ asks out (k + m) n
+  unfolding asks
+  asks-append out k zero n = let z : 0 + n ≡ n = omega arith in let e : k + 0 ≡ k = omega arith in rw (z, e) refl
+  asks-append out k (suc m) n = let z : suc m + n ≡ suc (m + n) = omega arith in let e : k + suc m ≡ suc k + m = omega arith in rw (z, e) (ap (λ (xs : List Ask). askAt out k ∷ xs) (asks-append out (suc k) m n))
+
+  -- ---------------------------------------------------------------- one level more
+
+  module _ (rs : Rules) (same-rules : b .rules ≡ listed rs) (few : rs .count ≤ 512) (room : length (rs .rules) ≡ 512) where
+    -- What a level is handed: its starting facts, its forbidden facts, and leave to add everything.
+    pub record Handed (k : ℕ) (bads s u : List Bool) : Type 0 where
+      pub bad-at : (f : ℕ) → f < 160 → getD bads f false ≡ bad b (160 * k + f)
+      pub start-at : (f : ℕ) → f < 160 → getD s f false ≡ starts b (160 * k + f)
+      pub all-at : (f : ℕ) → f < 160 → getD u f false ≡ true
+
+    module _ {k : ℕ} {rows : List Bool} {ups : ℕ} {up₀ : List ℕ} {at : ℕ} {down₀ : List ℕ} (drive : Driving b k rows ups up₀ at down₀) (low : k ≤ personLevel b)
+        {T : List Bool} {adds dels : Moves} {p : ℕ} (w : Within (depot b) (world T adds dels p) k (drive .R)) {bads s u : List Bool} (handed : Handed k bads s u) where
+      same-bad : (f : ℕ) → f < 160 → direct bads f ≡ bad b (160 * k + f)
+      same-bad f h = direct-low bads f h ∙ handed .bad-at f h
+
+      same-s : (f : ℕ) → f < 160 → direct s f ≡ starts b (160 * k + f)
+      same-s f h = direct-low s f h ∙ handed .start-at f h
+
+      same-u : (f : ℕ) → f < 160 → direct u f ≡ drive .R (160 * k + f)
+      same-u f h = direct-low u f h ∙ handed .all-at f h ∙ sym (drive .full (160 * k + f) (omega arith) (omega arith))
+
+      whole-u : onLevel k (drive .R) (direct u) ≡ drive .R
+      whole-u = fun-ext λ g. dite (ℕ-discrete (g / 160) k)
+          (λ (e : g / 160 ≡ k). on-level-in k (drive .R) (direct u) g e ∙ same-u (g % 160) (omega arith) ∙ ap (drive .R) (omega arith))
+          (λ (e : g / 160 ≡ k → ⊥). on-level-out k (drive .R) (direct u) g e)
+
+      -- A level that is stuck: no chain ends clear.
+      pub drive-stuck : Stuck adds dels p T bads s u → (rs : List Req) → Runs (depot b .May) (starts b) rs → Clear (bad b) (end (starts b) rs) → ⊥
+      drive-stuck stuck =
+          let f = stuck .fact in
+          let h : f < 160 = direct-in s f (stuck .held) in
+          stuck-none w (bad b) (direct bads) same-bad (starts b) (direct s) (λ g e. same-s (g % 160) (omega arith) ∙ e) (λ g e i. drive .upto .starts g i)
+          f h (sym (same-s f h) ∙ stuck .held) (stuck .missing) (stuck .rounds) (rw whole-u (drive .upto .bounds))
+
+      module _ {x : List Bool} {up down : List ℕ} {n at′ : ℕ} (settled : Settled adds dels p T bads s u x ups up₀ up n at down₀ down at′) where
+        next-upto : Upto (depot b) (levels b) (bad b) (starts b) (suc k) (onLevel k (drive .R) (direct x))
+            (drive .us ++ map (toWhole k) (asks up ups n)) (map (toWhole k) (asks down at′ (at - at′)) ++ drive .ds)
+        next-upto =
+            upto-next (depot b) (levels b) (λ g. refl) (bad b) (starts b) (drive .upto) (world T adds dels p) w (direct s) (direct u) (direct x) (asks up ups n) (asks down at′ (at - at′)) (direct bads)
+            same-bad same-s same-u (settled .rounds) (settled .additions) (settled .deletions) (settled .grown)
+
+        pub up-next : map bytesOf (drive .us ++ map (toWhole k) (asks up ups n)) ≡ map bytesOf (asks up 0 (ups + n))
+        up-next =
+            map-append (drive .us) (map (toWhole k) (asks up ups n))
+            ∙ rw (bytes-whole k (asks up ups n), drive .bytes-up, asks-same up₀ up 0 ups (λ j l h. sym (settled .stands-up j (omega arith))))
+            (sym (ap (map bytesOf) (asks-append up 0 ups n) ∙ map-append (asks up 0 ups) (asks up (0 + ups) n) ∙ ap (λ (i : ℕ). map bytesOf (asks up 0 ups) ++ map bytesOf (asks up i n)) (omega arith)))
+
+        pub down-next : map bytesOf (map (toWhole k) (asks down at′ (at - at′)) ++ drive .ds) ≡ map bytesOf (asks down at′ (5280 - at′))
+        down-next =
+            let e : at - at′ + (5280 - at) ≡ 5280 - at′ = omega (arith, settled .down-to, drive .most-down) in
+            let f : at′ + (at - at′) ≡ at = omega (arith, settled .down-to) in
+            map-append (map (toWhole k) (asks down at′ (at - at′))) (drive .ds)
+            ∙ rw (bytes-whole k (asks down at′ (at - at′)), drive .bytes-down, asks-same down₀ down at (5280 - at) (λ j l h. sym (settled .stands-down j l)))
+            (sym (ap (λ (i : ℕ). map bytesOf (asks down at′ i)) (sym e) ∙ ap (map bytesOf) (asks-append down at′ (at - at′) (5280 - at)) ∙ map-append (asks down at′ (at - at′)) (asks down (at′ + (at - at′)) (5280 - at))
+            ∙ ap (λ (i : ℕ). map bytesOf (asks down at′ (at - at′)) ++ map bytesOf (asks down i (5280 - at))) f))
+
+        -- A settled level: everything but the rows.
+        pub drive-next : {rows′ : List Bool} → Rows b (onLevel k (drive .R) (direct x)) (suc k) rows′ → length up ≡ 26400 → length down ≡ 26400 → Driving b (suc k) rows′ (ups + n) up at′ down
+        drive-next right size-up size-down =
+            record {
+              R = onLevel k (drive .R) (direct x);
+              us = drive .us ++ map (toWhole k) (asks up ups n);
+              ds = map (toWhole k) (asks down at′ (at - at′)) ++ drive .ds;
+              upto = next-upto;
+              full = λ g h l. on-level-out k (drive .R) (direct x) g (omega arith) ∙ drive .full g (omega arith) l;
+              none = λ g h. on-level-out k (drive .R) (direct x) g (omega arith) ∙ drive .none g h;
+              rows-right = right;
+              bytes-up = up-next;
+              bytes-down = down-next;
+              few-up = omega (arith, drive .few-up, settled .few-up);
+              size-up = size-up;
+              few-down = omega (arith, drive .few-down, settled .few-down, settled .down-to);
+              most-down = omega (arith, drive .most-down, settled .down-to);
+              size-down = size-down;
+            }
+
+        -- After the last level there is the best plan.
+        pub drive-best : k ≡ personLevel b → Best (depot b) (bad b) (starts b) (drive .us ++ map (toWhole k) (asks up ups n)) (map (toWhole k) (asks down at′ (at - at′)) ++ drive .ds)
+        drive-best last = upto-best (depot b) (levels b) (λ g. refl) (bad b) (starts b) {n = suc k}
+            (λ g h. on-level-out k (drive .R) (direct x) g (omega arith) ∙ drive .none g (omega arith)) next-upto

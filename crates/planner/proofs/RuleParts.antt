@@ -1,0 +1,69 @@
+-- What a rule within the sizes says, field by field.
+use mathlib.Core.Path.{_≡_, refl}
+use mathlib.Core.Logic.{_⊎_, inl, inr, ⊎-elim}
+use mathlib.Core.Bool.{Bool, true, false, _&&_, _||_}
+use Prim.Native.Nat.{ℕ, _≤_, _<_}
+use native.Mathlib.Omega.{arith}
+use lib.Dec.{eqb, ltb, leb}
+use borrow.Author.Tests.{leb-true, ltb-true, eqb-true}
+use Rattle.gate.specs.declared.Sizes.{Sizes}
+use Rattle.gate.specs.Gate.{InRange, allBelow, between, isCrew, isAttr, isValue, isCrewField, valuesOf, headGood}
+use Rattle.gate.proofs.PassedLaws.{and-both, between-true}
+use Rattle.requests.proofs.RequestLaws.{all-at}
+use Rattle.frames.specs.declared.Rule.{Rule}
+use Rattle.frames.specs.Fits.{termOf, termFits, ruleFits}
+
+pub or-cases : (a b : Bool) → (a || b) ≡ true → (a ≡ true) ⊎ (b ≡ true)
+or-cases true b e = inl refl
+or-cases false b e = inr e
+
+-- The parts of a rule within the sizes.
+pub record Parts (z : Sizes) (r : Rule) : Type 0 where
+  pub aims : ((between 1 4 (r .op) ≡ true) × (isValue z (r .a) (r .v) ≡ true)) ⊎ ((between 5 6 (r .op) ≡ true) × (isCrewField z (r .a) (r .v) ≡ true))
+  pub role : leb (r .role .0) 15 ≡ true
+  pub kinds : (j : ℕ) → j < r .n → (1 ≤ termOf r j .kind) × (termOf r j .kind ≤ 4)
+  pub own : r .op ≤ 4 → (j : ℕ) → j < r .n → termOf r j .kind ≤ 2
+
+pub rule-parts : (z : Sizes) (r : Rule) → ruleFits z r ≡ true → Parts z r
+unfolding ruleFits
+rule-parts z r e =
+    let aim = (between 1 4 (r .op) && isValue z (r .a) (r .v)) || (between 5 6 (r .op) && isCrewField z (r .a) (r .v)) in
+    let three = and-both (headGood z (r .op) (r .role .0) (r .a) (r .v) (r .n) && allBelow (termFits z r) (r .n)) (leb 5 (r .op) || allBelow (λ j. leb (termOf r j .kind) 2) (r .n)) e in
+    let two = and-both (headGood z (r .op) (r .role .0) (r .a) (r .v) (r .n)) (allBelow (termFits z r) (r .n)) (three .0) in
+    let head = and-both (aim && leb (r .role .0) 15) (leb (r .n) 8) (two .0) in
+    let first = and-both aim (leb (r .role .0) 15) (head .0) in
+    record {
+      aims = ⊎-elim (λ x. inl (and-both (between 1 4 (r .op)) (isValue z (r .a) (r .v)) x)) (λ x. inr (and-both (between 5 6 (r .op)) (isCrewField z (r .a) (r .v)) x))
+          (or-cases (between 1 4 (r .op) && isValue z (r .a) (r .v)) (between 5 6 (r .op) && isCrewField z (r .a) (r .v)) (first .0));
+      role = first .1;
+      kinds = λ j l. kind-of j (all-at (termFits z r) (r .n) j (two .1) l);
+      own = λ few j l. ⊎-elim (λ x. absurd (omega (arith, leb-true 5 (r .op) x))) (λ x. leb-true (termOf r j .kind) 2 (all-at (λ j. leb (termOf r j .kind) 2) (r .n) j x l))
+          (or-cases (leb 5 (r .op)) (allBelow (λ j. leb (termOf r j .kind) 2) (r .n)) (three .1));
+    }
+  where
+    kind-of : (j : ℕ) → termFits z r j ≡ true → (1 ≤ termOf r j .kind) × (termOf r j .kind ≤ 4)
+    kind-of j x =
+        ⊎-elim
+        (λ y. let k = between-true 1 2 (termOf r j .kind) (and-both (between 1 2 (termOf r j .kind)) (isValue z (termOf r j .a) (termOf r j .v)) y .0) in (k .0, omega (arith, k .1)))
+        (λ y. let k = between-true 3 4 (termOf r j .kind) (and-both (between 3 4 (termOf r j .kind)) (isCrewField z (termOf r j .a) (termOf r j .v)) y .0) in (omega (arith, k .0), k .1))
+        (or-cases (between 1 2 (termOf r j .kind) && isValue z (termOf r j .a) (termOf r j .v)) (between 3 4 (termOf r j .kind) && isCrewField z (termOf r j .a) (termOf r j .v)) x)
+
+module _ (z : Sizes) (range : InRange z) where
+  -- A value of the book is below 16, of an attribute below 8; a crew is below 32.
+  pub value-low : (a v : ℕ) → isValue z a v ≡ true → (a < 8) × (v < 16)
+  unfolding valuesOf
+  value-low a v e =
+      let both = and-both (isAttr z a) (ltb v (valuesOf z a)) e in
+      (omega (arith, ltb-true a (z .attrs) (both .0), range .attrs-most), omega (arith, ltb-true v (z .values) (both .1), range .values-most))
+
+  pub crew-low : (a v : ℕ) → isCrewField z a v ≡ true → (a < 32) × (v ≡ 0)
+  crew-low a v e =
+      let both = and-both (isCrew z a) (eqb v 0) e in
+      (omega (arith, ltb-true a (z .crews) (both .0), range .crews-most), eqb-true v 0 (both .1))
+
+  -- A rule of op 01-04 names a value, one of op 05 or 06 a crew.
+  pub rule-value : (r : Rule) → Parts z r → r .op ≤ 4 → isValue z (r .a) (r .v) ≡ true
+  rule-value r p few = ⊎-elim (λ x. x .1) (λ x. absurd (omega (arith, between-true 5 6 (r .op) (x .0) .0))) (p .aims)
+
+  pub rule-crew : (r : Rule) → Parts z r → 5 ≤ r .op → isCrewField z (r .a) (r .v) ≡ true
+  rule-crew r p many = ⊎-elim (λ x. absurd (omega (arith, between-true 1 4 (r .op) (x .0) .1))) (λ x. x .1) (p .aims)

@@ -1,0 +1,289 @@
+-- A level's world is the depot's at that level.
+use mathlib.Core.Path.{_≡_, refl, ap, sym, subst, _∙_}
+use mathlib.Core.Logic.{_⊎_, ⊎-elim, dite}
+use mathlib.Core.Bool.{Bool, true, false, cond, _&&_, _||_, true≢false}
+use mathlib.Core.List.{List, [], _∷_}
+use Prim.Native.Nat.{ℕ, zero, suc, _+_, _*_, _/_, _%_, _≤_, _<_}
+use native.Mathlib.Decide.{decLt}
+use native.Mathlib.Omega.{arith}
+use lib.Dec.{eqb, leb}
+use lib.ListN.{length, getD, take}
+use lib.Seq.{getD-take, length-take-le}
+use borrow.Author.Tests.{eqb-true, eq-eqb, le-leb, lt-leb}
+use Rattle.sets.specs.Sets.{member}
+use Rattle.facts.specs.declared.Fact.{Fact}
+use Rattle.facts.specs.declared.Fact.the-variants.{Holds, CrewHolds, Member}
+use Rattle.gate.specs.Gate.{between, isPerson, isCrew, isValue, isCrewField}
+use Rattle.gate.proofs.PassedLaws.{and-both, between-true}
+use Rattle.frames.specs.declared.Rule.{Rule}
+use Rattle.frames.specs.declared.Rules.{Rules}
+use Rattle.frames.specs.Book.{Contents, listed, noTerm}
+use Rattle.frames.specs.Fits.{ruleFits, Each, Short, Admitted}
+use Rattle.requests.specs.Requests.{adds, aimed, requestOf, fieldsGood, wellFormed}
+use Rattle.rules.specs.declared.Subject.{Subject}
+use Rattle.rules.specs.Search as search-in
+use Rattle.rules.specs.Rules.{subjectOf, aOf, vOf, termHolds, names, permits, permitted}
+use Rattle.rules.proofs.SearchLaws.{each-at}
+use Rattle.theory.specs.Facts.{State}
+use Rattle.theory.specs.Plan.{Ask, req}
+use Rattle.level.specs.declared.Move.{Move}
+use Rattle.level.specs.declared.Moves.{Moves}
+use Rattle.level.specs.Moves.{all, placeOf, moveAt, askOf}
+use Rattle.level.specs.World.{Some, world}
+use Rattle.level.specs.Terms.{termShown, ruleShown, GoodRule}
+use Rattle.level.specs.Chosen.{noRule, ruleAt, GoodRules, MovesOf}
+use Rattle.level.specs.Levels.{onLevel, toWhole, toLevel, Within}
+use Rattle.level.proofs.TermLaws.{move-met}
+use Rattle.level.proofs.RuleLaws.{rules-good}
+use Rattle.level.proofs.ChosenLaws.{chosen-parts, chosen-from}
+use Rattle.reach.specs.Tracked.{tracked, numberOf, lift, bytesOf, asked, May}
+use Rattle.reach.proofs.DepotLaws.{depot}
+use Rattle.planner.proofs.RuleParts.{Parts, rule-parts, or-cases, crew-low, rule-crew}
+
+-- ---------------------------------------------------------------- tests over lists
+
+-- The two crates' tests of all of a list are one.
+all-one : {A : Type 0} (p q : A → Bool) (d : A) (xs : List A) → ((j : ℕ) → j < length xs → p (getD xs j d) ≡ q (getD xs j d)) → all p xs ≡ search-in.all q xs
+unfolding all search-in.all
+all-one p q d [] h = refl
+all-one p q d (x ∷ xs) h = rw (h 0 (omega arith), all-one p q d xs (λ j l. h (suc j) (omega arith))) refl
+
+any-at : {A : Type 0} (p : A → Bool) (d : A) (xs : List A) (j : ℕ) → j < length xs → p (getD xs j d) ≡ true → search-in.any p xs ≡ true
+unfolding search-in.any
+any-at p d [] j l e = absurd (omega arith)
+any-at p d (x ∷ xs) zero l e = rw e refl
+any-at p d (x ∷ xs) (suc j) l e = or-right (p x) (any-at p d xs j (omega arith) e)
+  where
+    or-right : (b : Bool) → search-in.any p xs ≡ true → (b || search-in.any p xs) ≡ true
+    or-right true f = refl
+    or-right false f = f
+
+any-of : {A : Type 0} (p : A → Bool) (d : A) (xs : List A) → search-in.any p xs ≡ true → (j : ℕ) × ((j < length xs) × (p (getD xs j d) ≡ true))
+unfolding search-in.any
+any-of p d [] e = absurd (true≢false (sym e))
+any-of p d (x ∷ xs) e = by-head (p x) refl e (any-of p d xs)
+  where
+    by-head : (b : Bool) → p x ≡ b → (b || search-in.any p xs) ≡ true → (search-in.any p xs ≡ true → (j : ℕ) × ((j < length xs) × (p (getD xs j d) ≡ true)))
+        → (j : ℕ) × ((j < suc (length xs)) × (p (getD (x ∷ xs) j d) ≡ true))
+    by-head true i f go = (0, (omega arith, i))
+    by-head false i f go = let r = go f in (suc (r .0), (omega (arith, r .1 .0), r .1 .1))
+
+and-true : (a b : Bool) → a ≡ true → b ≡ true → (a && b) ≡ true
+and-true a b e f = rw (e, f) refl
+
+-- A request with a move's fields is the move's.
+ask-same : (q : Ask) (m : Move) (p : ℕ) → m .fact ≡ q .fact % 160 → m .op ≡ q .op → m .role ≡ q .role → q .subject ≡ p → m .a ≡ q .a → m .v ≡ q .v → toLevel q ≡ askOf p m
+ask-same q m p f o r s a v = rw (f, o, r, s, a, v) refl
+
+-- ---------------------------------------------------------------- the fields of an aimed fact
+
+a-of-aimed : (op s a v : ℕ) → aOf (aimed op s a v) ≡ a
+unfolding aOf aimed
+a-of-aimed op s a v = by-op (leb op 2) (leb op 4)
+  where
+    by-op : (x y : Bool) → aOf (cond x (Holds (record { 0 = s }) (record { 0 = a }) v) (cond y (CrewHolds (record { 0 = s }) (record { 0 = a }) v) (Member (record { 0 = s }) (record { 0 = a })))) ≡ a
+    by-op true y = refl
+    by-op false true = refl
+    by-op false false = refl
+
+v-of-aimed : (op s a v : ℕ) → (5 ≤ op → v ≡ 0) → vOf (aimed op s a v) ≡ v
+unfolding vOf aimed
+v-of-aimed op s a v h =
+    dite (decLt op 3)
+    (λ (two : op < 3). rw (le-leb op 2 (omega arith)) refl)
+    (λ (more : op < 3 → ⊥).
+    dite (decLt op 5)
+    (λ (four : op < 5). rw (lt-leb op 2 (omega arith), le-leb op 4 (omega arith)) refl)
+    (λ (five : op < 5 → ⊥). rw (lt-leb op 2 (omega arith), lt-leb op 4 (omega arith)) (sym (h (omega arith)))))
+
+module _ (b : Contents) (ok : Admitted b) (rs : Rules) (same-rules : b .rules ≡ listed rs) (few : rs .count ≤ 512) (room : length (rs .rules) ≡ 512) where
+  rules-fit : Each (λ r. ruleFits (b .sizes) r ≡ true) (listed rs)
+  rules-fit = rw same-rules at (ok .rules-in)
+
+  rules-short : Each Short (listed rs)
+  rules-short = rw same-rules at (ok .rules-short)
+
+  pub all-good : GoodRules rs
+  all-good = rules-good (b .sizes) (ok .sized) rs few room rules-fit rules-short
+
+  fits-at : (j : ℕ) → j < rs .count → ruleFits (b .sizes) (ruleAt rs j) ≡ true
+  unfolding listed ruleAt
+  fits-at j l = each-at (λ r. ruleFits (b .sizes) r ≡ true) (rs .rules) (rs .count) j noRule l (omega arith) rules-fit
+
+  listed-at : (j : ℕ) → j < rs .count → getD (b .rules) j noRule ≡ ruleAt rs j
+  unfolding listed ruleAt
+  listed-at j l = rw same-rules (getD-take (rs .count) (rs .rules) j noRule l)
+
+  listed-length : length (b .rules) ≡ rs .count
+  unfolding listed
+  listed-length = rw same-rules (length-take-le (rs .count) (rs .rules) (omega arith))
+
+  -- What a level is: its number, its subject, and the ops that act on it.
+  pub record LevelIs (Op : ℕ → Type 0) (k p : ℕ) (s : Subject) : Type 0 where
+    pub low : k ≤ 32
+    pub good : (r : Rule) → Parts (b .sizes) r → Op (r .op) → fieldsGood (b .sizes) (r .op) (r .role .0) p (r .a) (r .v) ≡ true
+    pub tracks : (r : Rule) → Parts (b .sizes) r → Op (r .op) → tracked b (aimed (r .op) p (r .a) (r .v)) ≡ true
+    pub number : (r : Rule) → Parts (b .sizes) r → Op (r .op) → numberOf b (aimed (r .op) p (r .a) (r .v)) ≡ 160 * k + placeOf (r .op) (r .a) (r .v)
+    pub subject : (r : Rule) → Op (r .op) → subjectOf (aimed (r .op) p (r .a) (r .v)) ≡ s
+    pub from-number : (op sub a v role : ℕ) → fieldsGood (b .sizes) op role sub a v ≡ true → tracked b (aimed op sub a v) ≡ true → numberOf b (aimed op sub a v) / 160 ≡ k → Op op × (sub ≡ p)
+
+  -- One side of a level: the ops that add, or those that delete.
+  pub record SideIs (Op : ℕ → Type 0) (one two : ℕ) (on : Bool) : Type 0 where
+    pub to : (op : ℕ) → (op ≡ one) ⊎ (op ≡ two) → Op op × (adds op ≡ on)
+    pub from : (op : ℕ) → Op op → adds op ≡ on → (op ≡ one) ⊎ (op ≡ two)
+
+  module _ (T : List Bool) (R : State) {Op : ℕ → Type 0} {k p : ℕ} {s : Subject} (level : LevelIs Op k p s)
+      (terms : (S : State) (r : Rule) → Parts (b .sizes) r → GoodRule r → Op (r .op) → (j : ℕ) → j < r .n
+      → termShown T S (getD (r .terms) j noTerm) ≡ termHolds (b .juniors) (lift b (onLevel k R S)) s (getD (r .terms) j noTerm)) where
+    -- The terms of a rule, at the level and in the ledger.
+    rule-same : (S : State) (r : Rule) → Parts (b .sizes) r → GoodRule r → Op (r .op)
+        → ruleShown T S r ≡ search-in.all (termHolds (b .juniors) (lift b (onLevel k R S)) s) (take (r .n) (r .terms))
+    unfolding ruleShown
+    rule-same S r parts good op =
+        all-one (termShown T S) (termHolds (b .juniors) (lift b (onLevel k R S)) s) noTerm (take (r .n) (r .terms))
+        (λ j l.
+        let n : length (take (r .n) (r .terms)) ≡ r .n = length-take-le (r .n) (r .terms) (omega (arith, good .few, good .size)) in
+        let h : j < r .n = omega arith in
+        rw (getD-take (r .n) (r .terms) j noTerm h) (terms S r parts good op j h))
+
+    zero-value : (r : Rule) → Parts (b .sizes) r → 5 ≤ r .op → r .v ≡ 0
+    zero-value r parts five = crew-low (b .sizes) (ok .sized) (r .a) (r .v) (rule-crew (b .sizes) (ok .sized) r parts five) .1
+
+    -- A rule as the depot's request.
+    wholeAsk : Rule → Ask
+    wholeAsk r = record { fact = 160 * k + placeOf (r .op) (r .a) (r .v); op = r .op; role = r .role .0; subject = p; a = r .a; v = r .v }
+
+    permits-rule : (S : State) (r : Rule) → Parts (b .sizes) r → GoodRule r → Op (r .op) → ruleShown T S r ≡ true
+        → permits (b .juniors) (lift b (onLevel k R S)) (asked (wholeAsk r)) r ≡ true
+    unfolding wholeAsk requestOf permits names
+    permits-rule S r parts good op shows =
+        and-true (eqb (r .op) (r .op) && (eqb (r .role .0) (r .role .0) && (eqb (r .a) (aOf (aimed (r .op) p (r .a) (r .v))) && eqb (r .v) (vOf (aimed (r .op) p (r .a) (r .v))))))
+        (search-in.all (termHolds (b .juniors) (lift b (onLevel k R S)) (subjectOf (aimed (r .op) p (r .a) (r .v)))) (take (r .n) (r .terms)))
+        (rw (a-of-aimed (r .op) p (r .a) (r .v), v-of-aimed (r .op) p (r .a) (r .v) (zero-value r parts), eq-eqb (r .op) (r .op) refl, eq-eqb (r .role .0) (r .role .0) refl, eq-eqb (r .a) (r .a) refl, eq-eqb (r .v) (r .v) refl) refl)
+        (rw (level .subject r op) (sym (rule-same S r parts good op) ∙ shows))
+
+    may-rule : (S : State) (j : ℕ) (on : Bool) → j < rs .count → Op (ruleAt rs j .op) → adds (ruleAt rs j .op) ≡ on → member (b .query .roles) (ruleAt rs j .role .0) ≡ true
+        → ruleShown T S (ruleAt rs j) ≡ true → May b (onLevel k R S) on (wholeAsk (ruleAt rs j))
+    unfolding wholeAsk wellFormed requestOf permitted
+    may-rule S j on l op add role shows =
+        let r = ruleAt rs j in
+        let parts = rule-parts (b .sizes) r (fits-at j l) in
+        let good = all-good .good j l in
+        record {
+          formed = level .good r parts op;
+          role = role;
+          adding = add;
+          of-fact = level .tracks r parts op;
+          number = level .number r parts op;
+          bounded = omega (arith, level .low, good .aims);
+          allows = any-at (permits (b .juniors) (lift b (onLevel k R S)) (asked (wholeAsk r))) noRule (b .rules) j (rw listed-length l)
+              (rw (listed-at j l) (permits-rule S r parts good op shows));
+        }
+
+    -- What a permission says of the rule that gives it.
+    record Named (F : Fact → Bool) (q : Ask) (r : Rule) : Type 0 where
+      op : r .op ≡ q .op
+      role : r .role .0 ≡ q .role
+      a : r .a ≡ q .a
+      v : r .v ≡ q .v
+      all-hold : search-in.all (termHolds (b .juniors) F (subjectOf (aimed (q .op) (q .subject) (q .a) (q .v)))) (take (r .n) (r .terms)) ≡ true
+
+    fields-of : (q : Ask) → wellFormed (b .sizes) (bytesOf q) ≡ true → fieldsGood (b .sizes) (q .op) (q .role) (q .subject) (q .a) (q .v) ≡ true
+    unfolding wellFormed
+    fields-of q e = e
+
+    zero-field : (op role sub a v : ℕ) → fieldsGood (b .sizes) op role sub a v ≡ true → 5 ≤ op → v ≡ 0
+    unfolding fieldsGood
+    zero-field op role sub a v e five =
+        let x = between 1 2 op && isPerson (b .sizes) sub && isValue (b .sizes) a v in
+        let y = between 3 4 op && isCrew (b .sizes) sub && isValue (b .sizes) a v in
+        let w = between 5 6 op && isPerson (b .sizes) sub && isCrewField (b .sizes) a v in
+        ⊎-elim
+        (λ g. ⊎-elim
+        (λ h. absurd (omega (arith, between-true 1 2 op (and-both (between 1 2 op) (isPerson (b .sizes) sub) (and-both (between 1 2 op && isPerson (b .sizes) sub) (isValue (b .sizes) a v) h .0) .0) .1)))
+        (λ h. absurd (omega (arith, between-true 3 4 op (and-both (between 3 4 op) (isCrew (b .sizes) sub) (and-both (between 3 4 op && isCrew (b .sizes) sub) (isValue (b .sizes) a v) h .0) .0) .1)))
+        (or-cases x y g))
+        (λ h. crew-low (b .sizes) (ok .sized) a v (and-both (between 5 6 op && isPerson (b .sizes) sub) (isCrewField (b .sizes) a v) h .1) .1)
+        (or-cases (x || y) w (and-both ((x || y) || w) (leb role 15) e .0))
+
+    named-parts : (F : Fact → Bool) (q : Ask) (r : Rule) → fieldsGood (b .sizes) (q .op) (q .role) (q .subject) (q .a) (q .v) ≡ true → permits (b .juniors) F (asked q) r ≡ true → Named F q r
+    unfolding permits names requestOf
+    named-parts F q r good e =
+        let aim = aimed (q .op) (q .subject) (q .a) (q .v) in
+        let one = and-both (eqb (r .op) (q .op) && (eqb (r .role .0) (q .role) && (eqb (r .a) (aOf aim) && eqb (r .v) (vOf aim)))) (search-in.all (termHolds (b .juniors) F (subjectOf aim)) (take (r .n) (r .terms))) e in
+        let two = and-both (eqb (r .op) (q .op)) (eqb (r .role .0) (q .role) && (eqb (r .a) (aOf aim) && eqb (r .v) (vOf aim))) (one .0) in
+        let three = and-both (eqb (r .role .0) (q .role)) (eqb (r .a) (aOf aim) && eqb (r .v) (vOf aim)) (two .1) in
+        let four = and-both (eqb (r .a) (aOf aim)) (eqb (r .v) (vOf aim)) (three .1) in
+        record {
+          op = eqb-true (r .op) (q .op) (two .0);
+          role = eqb-true (r .role .0) (q .role) (three .0);
+          a = eqb-true (r .a) (aOf aim) (four .0) ∙ a-of-aimed (q .op) (q .subject) (q .a) (q .v);
+          v = eqb-true (r .v) (vOf aim) (four .1) ∙ v-of-aimed (q .op) (q .subject) (q .a) (q .v) (zero-field (q .op) (q .role) (q .subject) (q .a) (q .v) good);
+          all-hold = one .1;
+        }
+
+    module _ {one two : ℕ} {on : Bool} (side : SideIs Op one two on) (ms : Moves) (moves : MovesOf rs one two (b .query .roles) ms (rs .count)) where
+      -- What a move permits at the level, the depot permits.
+      side-into : (S : State) (q : Ask) → Some T ms p S q → May b (onLevel k R S) on (toWhole k q)
+      unfolding wholeAsk
+      side-into S q some =
+          let from = moves .each (some .index) (some .listed) in
+          let j = from .0 in
+          let l = from .1 in
+          let move = from .3 in
+          let parts = chosen-parts one two (b .query .roles) (ruleAt rs j) (from .2) in
+          let op = side .to (ruleAt rs j .op) (parts .0) in
+          let whole : toWhole k q ≡ wholeAsk (ruleAt rs j) = rw (some .same, move .fine .aim, move .op, move .role, move .a, move .v) refl in
+          subst (May b (onLevel k R S) on) (sym whole)
+          (may-rule S j on l (op .0) (op .1) (parts .1) (sym (move-met T S (all-good .good j l) move) ∙ some .holds))
+
+      some-of : (S : State) (q : Ask) → q .fact / 160 ≡ k → May b (onLevel k R S) on q → (j : ℕ) → j < rs .count → Named (lift b (onLevel k R S)) q (ruleAt rs j) → Some T ms p S (toLevel q)
+      unfolding requestOf
+      some-of S q here may j l named =
+          let r = ruleAt rs j in
+          let parts = rule-parts (b .sizes) r (fits-at j l) in
+          let good = all-good .good j l in
+          let where-at = level .from-number (q .op) (q .subject) (q .a) (q .v) (q .role) (fields-of q (may .formed)) (may .of-fact) (ap (λ (n : ℕ). n / 160) (may .number) ∙ here) in
+          let op : Op (r .op) = subst Op (sym (named .op)) (where-at .0) in
+          let aim : aimed (q .op) (q .subject) (q .a) (q .v) ≡ aimed (r .op) p (r .a) (r .v) = rw (named .op, named .a, named .v, where-at .1) refl in
+          let number : q .fact ≡ 160 * k + placeOf (r .op) (r .a) (r .v) = sym (may .number) ∙ ap (numberOf b) aim ∙ level .number r parts op in
+          let chosen = chosen-from one two (b .query .roles) r (side .from (r .op) op (ap adds (named .op) ∙ may .adding)) (ap (member (b .query .roles)) (named .role) ∙ may .role) in
+          let found = moves .every j l chosen in
+          let move = found .2 in
+          let about : subjectOf (aimed (q .op) (q .subject) (q .a) (q .v)) ≡ s = ap subjectOf aim ∙ level .subject r op in
+          let shows : ruleShown T S r ≡ true = rule-same S r parts good op ∙ rw about at (named .all-hold) in
+          let place : moveAt ms (found .0) .fact ≡ placeOf (r .op) (r .a) (r .v) = move .fine .aim ∙ rw (move .op, move .a, move .v) refl in
+          let fact : moveAt ms (found .0) .fact ≡ q .fact % 160 = omega (arith, place, number, good .aims) in
+          record {
+            index = found .0;
+            listed = found .1;
+            same = ask-same q (moveAt ms (found .0)) p fact (move .op ∙ named .op) (move .role ∙ named .role) (where-at .1) (move .a ∙ named .a) (move .v ∙ named .v);
+            holds = move-met T S good move ∙ shows;
+            known = omega arith;
+          }
+
+      -- What the depot permits at the level, some move permits.
+      side-out : (S : State) (q : Ask) → q .fact / 160 ≡ k → May b (onLevel k R S) on q → Some T ms p S (toLevel q)
+      unfolding permitted
+      side-out S q here may =
+          let found = any-of (permits (b .juniors) (lift b (onLevel k R S)) (asked q)) noRule (b .rules) (may .allows) in
+          let l : found .0 < rs .count = rw listed-length at (found .1 .0) in
+          some-of S q here may (found .0) l (named-parts (lift b (onLevel k R S)) q (ruleAt rs (found .0)) (fields-of q (may .formed)) (rw (listed-at (found .0) l) at (found .1 .1)))
+
+    -- The level's world is the depot's at that level.
+    pub within : {add₁ add₂ del₁ del₂ : ℕ} (adds dels : Moves) → SideIs Op add₁ add₂ true → SideIs Op del₁ del₂ false
+        → MovesOf rs add₁ add₂ (b .query .roles) adds (rs .count) → MovesOf rs del₁ del₂ (b .query .roles) dels (rs .count)
+        → Within (depot b) (world T adds dels p) k R
+    within adds dels up down more less = record { known = small; into = into-depot; out = out-depot }
+      where
+        small : (S : State) (on : Bool) (q : Ask) → world T adds dels p .May S (req on q) → q .fact < 160
+        small S true q some = some .known
+        small S false q some = some .known
+
+        into-depot : (S : State) (on : Bool) (q : Ask) → world T adds dels p .May S (req on q) → depot b .May (onLevel k R S) (req on (toWhole k q))
+        into-depot S true q some = side-into up adds more S q some
+        into-depot S false q some = side-into down dels less S q some
+
+        out-depot : (S : State) (on : Bool) (q : Ask) → q .fact / 160 ≡ k → depot b .May (onLevel k R S) (req on q) → world T adds dels p .May S (req on (toLevel q))
+        out-depot S true q here may = side-out up adds more S q here may
+        out-depot S false q here may = side-out down dels less S q here may

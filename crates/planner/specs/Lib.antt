@@ -1,0 +1,3 @@
+pub mod Tables
+pub mod Drive
+pub mod Scan

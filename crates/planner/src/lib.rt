@@ -1,0 +1,238 @@
+// The planner: level by level what can be reached, and a plan out of the requests written on the way.
+ghost use mathlib.Core.Path.{_≡_};
+ghost use mathlib.Core.Bool.{Bool, true, false};
+ghost use Prim.Native.Nat.{_+_, _*_, _≤_, _<_};
+ghost use lib.ListN.{length};
+ghost use Rattle.frames.specs.Book.{contentsOf};
+ghost use Rattle.frames.specs.Fits.{Admitted};
+ghost use Rattle.flags.specs.Flags.{Reaching};
+ghost use Rattle.planner.specs.Drive.{Driving};
+ghost use Rattle.planner.specs.Scan.{SideMoves, NoRun, AllAllowed, BlankTable, Scanned, Searched};
+use frames::Book;
+use level::Moves;
+use level::Outcome;
+
+// Leave to add every fact of a level.
+fn allow_all(u: &mut [bool])
+    requires { ⌜ length (now u) ≡ 160 ⌝ }
+    ensures { λ _. ⌜ AllAllowed (now (u .exit)) ⌝ }
+{
+    let mut f: usize = 0;
+    while f < 160 {
+        u[f] = true;
+        f += 1;
+    }
+}
+
+// The level of crew k.
+fn crew_level(
+    b: Book,
+    juniors: &[u32],
+    k: u8,
+    adds: Moves,
+    dels: Moves,
+    reach: &[bool],
+    rows: &mut [bool],
+    table: &mut [bool],
+    ups: usize,
+    up: &mut [u8],
+    at: usize,
+    down: &mut [u8],
+) -> Outcome
+    requires { ⌜ Admitted (contentsOf b) × ((k < b .sizes .crews) × (SideMoves b 3 3 4 4 adds dels × ((length (now reach) ≡ 5120) × (Reaching (b .juniors) (now reach) × (now juniors ≡ b .juniors))))) ⌝ }
+    requires { ⌜ BlankTable (now table) ⌝ }
+    requires { ⌜ Driving (contentsOf b) k (now rows) ups (now up) at (now down) ⌝ }
+    ensures { λ r. ⌜ Scanned (contentsOf b) (k + 1) (now (rows .exit)) (now (up .exit)) (now (down .exit)) (r .found) (ups + r .ups) (r .at) × BlankTable (now (table .exit)) ⌝ }
+{
+    let below = flags::is_below_listed(b, reach, k);
+    let mut bad = [false; 160];
+    let mut s = [false; 160];
+    let mut u = [false; 160];
+    let mut x = [false; 320];
+    let mut y = [false; 320];
+    let mut d = [false; 160];
+    flags::bad_flags(b, k, below, &mut bad);
+    flags::start_flags(b, k, &mut s);
+    allow_all(&mut u);
+    flags::crew_table(juniors, k, rows, table);
+    let r = level::settle(
+        adds,
+        dels,
+        k,
+        table,
+        &bad,
+        &s,
+        &mut u,
+        &mut x,
+        &mut y,
+        &mut d,
+        ups,
+        up,
+        at,
+        down,
+    );
+    flags::fill_row(juniors, k, &x, rows);
+    r
+}
+
+// Which crews each crew reaches downwards.
+fn fill_reach(juniors: &[u32], reach: &mut [bool])
+    requires { ⌜ (length (now juniors) ≡ 32) × (length (now reach) ≡ 5120) ⌝ }
+    ensures { λ _. ⌜ (length (now (reach .exit)) ≡ 5120) × Reaching (now (juniors .entry)) (now (reach .exit)) ⌝ }
+{
+    let x = [false; 320];
+    flags::first_rows(reach);
+    let mut k: u8 = 0;
+    while k < 32 {
+        flags::fill_row(juniors, k, &x, reach);
+        k += 1;
+    }
+}
+
+// The levels of the crews, in rising number.
+fn crew_levels(
+    b: Book,
+    juniors: &[u32],
+    adds: Moves,
+    dels: Moves,
+    reach: &[bool],
+    rows: &mut [bool],
+    table: &mut [bool],
+    up: &mut [u8],
+    down: &mut [u8],
+) -> Outcome
+    requires { ⌜ Admitted (contentsOf b) × (SideMoves b 3 3 4 4 adds dels × ((length (now reach) ≡ 5120) × (Reaching (b .juniors) (now reach) × (now juniors ≡ b .juniors)))) ⌝ }
+    requires { ⌜ BlankTable (now table) ⌝ }
+    requires { ⌜ Driving (contentsOf b) 0 (now rows) 0 (now up) 5280 (now down) ⌝ }
+    ensures { λ r. ⌜ Scanned (contentsOf b) (b .sizes .crews) (now (rows .exit)) (now (up .exit)) (now (down .exit)) (r .found) (r .ups) (r .at) ⌝ }
+{
+    let n = b.sizes.crews;
+    let mut ups: usize = 0;
+    let mut at: usize = 5280;
+    let mut k: u8 = 0;
+    while k < n {
+        let r = crew_level(
+            b,
+            juniors,
+            k,
+            adds,
+            dels,
+            reach,
+            rows,
+            table,
+            ups,
+            up,
+            at,
+            down,
+        );
+        if !r.found {
+            return Outcome {
+                found: false,
+                ups: 0,
+                at: 5280,
+            };
+        }
+        ups += r.ups;
+        at = r.at;
+        k += 1;
+    }
+    Outcome {
+        found: true,
+        ups,
+        at,
+    }
+}
+
+// The level of the query's person, above all crews.
+fn person_level(
+    b: Book,
+    adds: Moves,
+    dels: Moves,
+    rows: &[bool],
+    table: &mut [bool],
+    ups: usize,
+    up: &mut [u8],
+    at: usize,
+    down: &mut [u8],
+) -> Outcome
+    requires { ⌜ Admitted (contentsOf b) × (SideMoves b 1 5 2 6 adds dels × (length (now table) ≡ 5280)) ⌝ }
+    requires { ⌜ Driving (contentsOf b) (b .sizes .crews) (now rows) ups (now up) at (now down) ⌝ }
+    ensures { λ r. ⌜ Searched (contentsOf b) (now (up .exit)) (now (down .exit)) (r .found) (ups + r .ups) (r .at) ⌝ }
+{
+    let k = b.sizes.crews;
+    let person = b.query.person.0;
+    let mut bad = [false; 160];
+    let mut s = [false; 160];
+    let mut u = [false; 160];
+    let mut x = [false; 320];
+    let mut y = [false; 320];
+    let mut d = [false; 160];
+    flags::bad_flags(b, k, false, &mut bad);
+    flags::start_flags(b, k, &mut s);
+    allow_all(&mut u);
+    flags::person_table(rows, table);
+    level::settle(
+        adds,
+        dels,
+        person,
+        table,
+        &bad,
+        &s,
+        &mut u,
+        &mut x,
+        &mut y,
+        &mut d,
+        ups,
+        up,
+        at,
+        down,
+    )
+}
+
+// All levels: the requests of the best plan, or that no chain of requests ends clear of the forbidden facts.
+fn search(b: Book, up: &mut [u8], down: &mut [u8]) -> Outcome
+    requires { ⌜ Admitted (contentsOf b) ⌝ }
+    requires { ⌜ (length (now up) ≡ 26400) × (length (now down) ≡ 26400) ⌝ }
+    ensures { λ r. ⌜ Searched (contentsOf b) (now (up .exit)) (now (down .exit)) (r .found) (r .ups) (r .at) ⌝ }
+{
+    let stuck = Outcome {
+        found: false,
+        ups: 0,
+        at: 5280,
+    };
+    let juniors = b.juniors;
+    let roles = b.query.roles;
+    let rules = b.rules;
+    let crew_adds = level::moves_of(rules, 3, 3, roles);
+    let crew_dels = level::moves_of(rules, 4, 4, roles);
+    let mut reach = [false; 5120];
+    let mut rows = [false; 5120];
+    let mut table = [false; 5280];
+    fill_reach(&juniors, &mut reach);
+    flags::first_rows(&mut rows);
+    let r = crew_levels(
+        b,
+        &juniors,
+        crew_adds,
+        crew_dels,
+        &reach,
+        &mut rows,
+        &mut table,
+        up,
+        down,
+    );
+    if !r.found {
+        return stuck;
+    }
+    let adds = level::moves_of(rules, 1, 5, roles);
+    let dels = level::moves_of(rules, 2, 6, roles);
+    let p = person_level(b, adds, dels, &rows, &mut table, r.ups, up, r.at, down);
+    if !p.found {
+        return stuck;
+    }
+    Outcome {
+        found: true,
+        ups: r.ups + p.ups,
+        at: p.at,
+    }
+}
