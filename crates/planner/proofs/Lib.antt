@@ -4,3 +4,6 @@ pub mod WithinLaws
 pub mod SubjectLaws
 pub mod DriveLaws
 pub mod StepLaws
+pub mod CountLaws
+pub mod PromiseLaws
+pub mod AnswerLaws

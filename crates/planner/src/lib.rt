@@ -1,16 +1,68 @@
 // The planner: level by level what can be reached, and a plan out of the requests written on the way.
 ghost use mathlib.Core.Path.{_≡_};
 ghost use mathlib.Core.Bool.{Bool, true, false};
-ghost use Prim.Native.Nat.{_+_, _*_, _≤_, _<_};
-ghost use lib.ListN.{length};
+ghost use Prim.Native.Nat.{_+_, _-_, _*_, _≤_, _<_};
+ghost use lib.ListN.{length, drop};
 ghost use Rattle.frames.specs.Book.{contentsOf};
 ghost use Rattle.frames.specs.Fits.{Admitted};
 ghost use Rattle.flags.specs.Flags.{Reaching};
+ghost use mathlib.Core.List.{_++_};
+ghost use Rattle.facts.specs.Facts.{holds};
+ghost use Rattle.gate.specs.Gate.{InRange};
+ghost use Rattle.replay.specs.Met.{met};
+ghost use Rattle.drafts.specs.Drafts.{carried, flat};
+ghost use Rattle.planner.specs.Count.{factCount};
+ghost use Rattle.planner.specs.Answer.{refusalNumber, refusalLine, drafted, Answered, PlanPromise};
 ghost use Rattle.planner.specs.Drive.{Driving};
 ghost use Rattle.planner.specs.Scan.{SideMoves, NoRun, AllAllowed, BlankTable, Scanned, Searched};
 use frames::Book;
+use gate::Sizes;
 use level::Moves;
 use level::Outcome;
+
+// What the planner answers: no way, the count of the plan's requests, or a refusal.
+pub enum Planned {
+    NoWay,
+    Plan(usize),
+    Refused(Refusal),
+}
+
+// The refusals 1-10.
+pub enum Refusal {
+    BadBook(frames::Refusal),
+    ShortBuffer,
+}
+
+// The table's number of a refusal.
+pub fn refusal_number(r: Refusal) -> u8
+    ensures { λ n. ⌜ n ≡ refusalNumber r ⌝ }
+{
+    match r {
+        Refusal::BadBook(b) => frames::refusal_number(b),
+        Refusal::ShortBuffer => 10,
+    }
+}
+
+// The line of a refusal, 0 for 10.
+pub fn refusal_line(r: Refusal) -> usize
+    ensures { λ n. ⌜ n ≡ refusalLine r ⌝ }
+{
+    match r {
+        Refusal::BadBook(b) => frames::refusal_line(b),
+        Refusal::ShortBuffer => 0,
+    }
+}
+
+// How many facts a plan may be about: F.
+fn fact_count(z: Sizes) -> usize
+    requires { ⌜ InRange z ⌝ }
+    ensures { λ n. ⌜ n ≡ factCount z ⌝ }
+{
+    let crews = z.crews as usize;
+    let attrs = z.attrs as usize;
+    let values = z.values as usize;
+    (1 + crews) * attrs * values + crews
+}
 
 // Leave to add every fact of a level.
 fn allow_all(u: &mut [bool])
@@ -235,4 +287,65 @@ fn search(b: Book, up: &mut [u8], down: &mut [u8]) -> Outcome
         ups: r.ups + p.ups,
         at: p.at,
     }
+}
+
+// Whether the requests of two buffers, carried out from the starting facts, end with a ledger that meets the query.
+fn is_reached(b: Book, up: &[u8], ups: usize, down: &[u8], at: usize) -> bool
+    requires { ⌜ Admitted (contentsOf b) × ((ups ≤ 5280) × (at ≤ 5280)) ⌝ }
+    requires { ⌜ (length (now up) ≡ 26400) × (length (now down) ≡ 26400) ⌝ }
+    ensures { λ r. ⌜ r ≡ met (contentsOf b) (holds (carried (b .facts) (drafted (now (up .entry)) ups (now (down .entry)) at))) ⌝ }
+{
+    let n = 5280 - at;
+    let mut ledger = b.facts;
+    drafts::carry_out(&mut ledger, up, 0, ups);
+    drafts::carry_out(&mut ledger, down, at, n);
+    replay::is_met(b, &ledger)
+}
+
+// Writes the plan to the front of the caller's buffer.
+fn write_plan(up: &[u8], ups: usize, down: &[u8], at: usize, out: &mut [u8]) -> usize
+    requires { ⌜ (ups ≤ 5280) × ((at ≤ 5280) × (5 * (ups + (5280 - at)) ≤ length (now out))) ⌝ }
+    requires { ⌜ (length (now up) ≡ 26400) × (length (now down) ≡ 26400) ⌝ }
+    ensures { λ r. ⌜ (r ≡ ups + (5280 - at)) × (now (out .exit) ≡ flat (drafted (now (up .entry)) ups (now (down .entry)) at) ++ drop (5 * (ups + (5280 - at))) (now (out .entry))) ⌝ }
+{
+    let n = 5280 - at;
+    drafts::copy_requests(up, 0, ups, out, 0);
+    drafts::copy_requests(down, at, n, out, ups);
+    ups + n
+}
+
+// Plans an accepted book.
+fn plan_in(b: Book, out: &mut [u8]) -> Planned
+    requires { ⌜ Admitted (contentsOf b) ⌝ }
+    ensures { λ r. ⌜ Answered (contentsOf b) (now (out .entry)) r (now (out .exit)) ⌝ }
+{
+    let z = b.sizes;
+    let f = fact_count(z);
+    if out.len() < 10 * f {
+        return Planned::Refused(Refusal::ShortBuffer);
+    }
+    let mut up = [0u8; 26400];
+    let mut down = [0u8; 26400];
+    let r = search(b, &mut up, &mut down);
+    if !r.found {
+        return Planned::NoWay;
+    }
+    if !is_reached(b, &up, r.ups, &down, r.at) {
+        return Planned::NoWay;
+    }
+    let n = write_plan(&up, r.ups, &down, r.at, out);
+    Planned::Plan(n)
+}
+
+// Plans the query of a book, given as characters: no way, or a plan in the front of `out`.
+pub fn plan(book: &[u8], out: &mut [u8]) -> Planned
+    ensures { λ r. ⌜ PlanPromise (now (book .entry)) (now (out .entry)) r (now (out .exit)) ⌝ }
+{
+    let reading = frames::read(book);
+    let outcome = reading.outcome;
+    if let frames::Outcome::Refused(r) = outcome {
+        return Planned::Refused(Refusal::BadBook(r));
+    }
+    let b = reading.book;
+    plan_in(b, out)
 }

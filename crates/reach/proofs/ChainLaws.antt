@@ -129,7 +129,7 @@ module _ (b : Contents) (ok : Admitted b) where
         }
 
     -- It changes the state at its fact, where that is tracked, and nothing where it is not.
-    track-after : (q : List ℕ) → wellFormed (b .sizes) q ≡ true → tracked b (requestOf q .fact) ≡ true
+    pub track-after : (q : List ℕ) → wellFormed (b .sizes) q ≡ true → tracked b (requestOf q .fact) ≡ true
         → track b (holds (after l (requestOf q))) ≡ put (track b (holds l)) (numberOf b (requestOf q .fact)) (adds (requestOf q .op))
     track-after q formed t =
         track-put b (holds l) (holds (after l (requestOf q))) (requestOf q .fact) (adds (requestOf q .op)) t
@@ -173,7 +173,7 @@ module _ (b : Contents) (ok : Admitted b) where
   unfolding goes
   formed-of q l g = and-both (wellFormed (b .sizes) q) _ g .0
 
-  adding-of : (q : Ask) {on : Bool} → adds (q .op) ≡ on → adds (asked q .op) ≡ on
+  pub adding-of : (q : Ask) {on : Bool} → adds (q .op) ≡ on → adds (asked q .op) ≡ on
   unfolding requestOf
   adding-of q e = e
 

@@ -1,0 +1,92 @@
+-- `drafts::carry_out` meets its contract: the invariant says that the first i requests are carried out; the measure is how many are
+-- left. Assumes nothing.
+use mathlib.Core.Path.{_≡_, ap, _∙_}
+use mathlib.Core.List.{map}
+use Prim.Native.Nat.{_+_, _*_, _-_, _≤_}
+use lib.ListN.{length}
+use Rattle.level.specs.Notes.{asks}
+use Rattle.reach.specs.Tracked.{bytesOf}
+use Rattle.drafts.specs.Drafts.{carried}
+use Rattle.drafts.proofs.DraftLaws.{carried-length, carry-first, carry-more, carry-all}
+use borrow.Author.Needs.{needs}
+use native.Mathlib.Omega.{arith}
+use Rattle.drafts.proofs.carry_out.Statement.{statement}
+use Rattle.drafts.proofs.carry_out.Tie as tie
+
+abbrev Inv-loop : tie.InvT-loop
+Inv-loop ledger₀ draft from n i₀ ledger i = (i ≤ n) × (ledger ≡ carried ledger₀ (map bytesOf (asks draft from i)))
+
+abbrev μ-loop : tie.MeasureT-loop
+μ-loop ledger₀ draft from n i₀ ledger i = n - i
+
+loop-holds : tie.Need-loop-holds Inv-loop μ-loop
+loop-holds c = (omega arith, carry-first (c .before .before .args .ledger .now) (c .before .before .args .draft .now) (c .before .before .args .from))
+
+add-at : tie.Need-add-at Inv-loop μ-loop
+add-at c = search needs
+
+mul-at : tie.Need-mul-at Inv-loop μ-loop
+mul-at c = search needs
+
+add-q : tie.Need-add-q Inv-loop μ-loop
+add-q c = search needs
+
+sub-q : tie.Need-sub-q Inv-loop μ-loop
+sub-q c = search needs
+
+part-q-start : tie.Need-part-q-start Inv-loop μ-loop
+part-q-start c = search needs
+
+part-q-end : tie.Need-part-q-end Inv-loop μ-loop
+part-q-end c = search needs
+
+request-of-requires : tie.Need-request-of-requires Inv-loop μ-loop
+request-of-requires c κs = search needs
+
+is-adding-requires : tie.Need-is-adding-requires Inv-loop μ-loop
+is-adding-requires c κs = search needs
+
+put-fact-requires : tie.Need-put-fact-requires Inv-loop μ-loop
+put-fact-requires c κs = search needs
+
+add-i : tie.Need-add-i Inv-loop μ-loop
+add-i c = search needs
+
+loop-less : tie.Need-loop-less Inv-loop μ-loop
+loop-less c = search needs
+
+loop-again : tie.Need-loop-again Inv-loop μ-loop
+loop-again c =
+    let start = c .before .before .before .before .before .before .before .before .before .before .before in
+    let i = c .before .before .before .before .before .before .before .before .loop .i in
+    let from = start .args .from in
+    let five : 5 * (from + i) + 5 - 5 * (from + i) ≡ 5 = omega arith in
+    (omega (arith, c .before .before .before .before .before .before .before .loop-test .taken), carry-more (start .args .ledger .now) (c .before .before .before .before .before .before .before .before .loop .ledger) _ (start .args .draft .now) from i (5 * (from + i) + 5 - 5 * (from + i)) _ _ (omega (arith, c .before .before .before .before .before .before .before .loop-test .taken, start .pre .1)) five (c .before .before .before .before .before .request-of .ensures) (c .before .before .before .before .is-adding .ensures) (c .before .before .put-fact .ensures) (c .before .before .before .before .before .before .before .before .loop .inv .1))
+
+same-length : tie.Need-same-length Inv-loop μ-loop
+same-length c = let start = c .before .before .before .before in ap length (c .before .loop .inv .1) ∙ carried-length (start .args .ledger .now) (map bytesOf (asks (start .args .draft .now) (start .args .from) (c .before .loop .i)))
+
+returns : tie.Need-returns Inv-loop μ-loop
+returns c = let start = c .before .before .before .before in carry-all (start .args .ledger .now) (c .before .loop .ledger) (start .args .draft .now) (start .args .from) (c .before .loop .i) (start .args .n) (omega (arith, c .before .loop .inv .0, c .loop-test .left)) (c .before .loop .inv .1)
+
+pub carry-out-spec : {M : Type 1} → statement M
+carry-out-spec =
+    tie.close
+    (tie.spec
+    Inv-loop
+    μ-loop
+    loop-holds
+    add-at
+    mul-at
+    add-q
+    sub-q
+    part-q-start
+    part-q-end
+    request-of-requires
+    is-adding-requires
+    put-fact-requires
+    add-i
+    loop-less
+    loop-again
+    same-length
+    returns)

@@ -1,0 +1,168 @@
+-- From the buffers of the search to the answer.
+use mathlib.Core.Path.{_≡_, refl, ap, sym, subst, _∙_}
+use mathlib.Core.Bool.{true, false}
+use mathlib.Core.List.{List, [], _∷_, _++_, map, append-assoc}
+use Prim.Native.Nat.{ℕ, zero, suc, _+_, _-_, _*_, _≤_, _<_}
+use native.Mathlib.Omega.{arith}
+use lib.ListN.{length, take, drop, length-map, length-append, length-drop}
+use lib.Seq.{take-append-seam, drop-append-seam, drop-append-add, drop-drop}
+use Rattle.facts.specs.Facts.{holds}
+use Rattle.gate.specs.declared.Sizes.{Sizes}
+use Rattle.gate.specs.Gate.{InRange}
+use Rattle.frames.specs.Book.{Contents, refused, accepted, bookOf}
+use Rattle.frames.specs.declared.Refusal as frames
+use Rattle.frames.specs.Fits.{Admitted}
+use Rattle.replay.specs.Chains.{fives, Leads}
+use Rattle.replay.specs.Met.{met}
+use Rattle.replay.proofs.ReplayLaws.{replay-reaches}
+use Rattle.theory.specs.Plan.{Ask}
+use Rattle.level.specs.Notes.{asks}
+use Rattle.level.proofs.NoteLaws.{asks-length}
+use Rattle.reach.specs.Tracked.{bytesOf}
+use Rattle.drafts.specs.Drafts.{carried, flat}
+use Rattle.drafts.proofs.DraftLaws.{run-carried, flat-append, fives-flat, length-flat}
+use Rattle.planner.specs.Drive.{starts}
+use Rattle.planner.specs.Scan.{Written}
+use Rattle.planner.specs.Count.{factCount}
+use Rattle.planner.specs.Promise.{NoWay, Works}
+use Rattle.planner.specs.declared.Planned.{Planned}
+use Rattle.planner.specs.declared.Planned.the-variants.{Refused}
+use Rattle.planner.specs.declared.Refusal.the-variants.{BadBook, ShortBuffer}
+use Rattle.planner.specs.Answer.{drafted, front, PlanGiven, Decided, Answered, PlanPromise}
+use Rattle.planner.proofs.CountLaws.{plan-few}
+use Rattle.planner.proofs.PromiseLaws.{lastLedger, best-no-way, best-leads, best-works}
+
+-- ---------------------------------------------------------------- the bound F
+
+mul-le : (x y c : ℕ) → y ≤ c → x * y ≤ x * c
+mul-le zero y c h = omega arith
+mul-le (suc x) y c h = omega (arith, mul-le x y c h)
+
+module _ (z : Sizes) (range : InRange z) where
+  -- The products of F stay small.
+  pub cells-few : (1 + z .crews) * z .attrs ≤ 264
+  cells-few = omega (arith, mul-le (1 + z .crews) (z .attrs) 8 (range .attrs-most), range .crews-most)
+
+  pub values-few : (1 + z .crews) * z .attrs * z .values ≤ 4224
+  values-few = omega (arith, mul-le ((1 + z .crews) * z .attrs) (z .values) 16 (range .values-most), cells-few)
+
+  pub facts-few : factCount z ≤ 4256
+  unfolding factCount
+  facts-few = omega (arith, values-few, range .crews-most)
+
+-- ---------------------------------------------------------------- the requests written
+
+map-append : (us ds : List Ask) → map bytesOf (us ++ ds) ≡ map bytesOf us ++ map bytesOf ds
+map-append [] ds = refl
+map-append (u ∷ us) ds = ap (λ (x : List (List ℕ)). bytesOf u ∷ x) (map-append us ds)
+
+module _ (b : Contents) (ok : Admitted b) {up down : List ℕ} {ups at : ℕ} (w : Written b up down ups at) where
+  drafted-is : drafted up ups down at ≡ map bytesOf (w .us) ++ map bytesOf (w .ds)
+  drafted-is =
+      ap (λ (x : List (List ℕ)). x ++ map bytesOf (asks down at (5280 - at))) (sym (w .bytes-up))
+      ∙ ap (λ (x : List (List ℕ)). map bytesOf (w .us) ++ x) (sym (w .bytes-down))
+
+  length-of : (us : List Ask) (out : List ℕ) (k n : ℕ) → map bytesOf us ≡ map bytesOf (asks out k n) → length us ≡ n
+  length-of us out k n e = sym (length-map us bytesOf) ∙ ap (λ (x : List (List ℕ)). length x) e ∙ length-map (asks out k n) bytesOf ∙ asks-length out k n
+
+  whole : length (w .us ++ w .ds) ≡ ups + (5280 - at)
+  whole = omega (arith, length-append (w .us) (w .ds), length-of (w .us) up 0 ups (w .bytes-up), length-of (w .ds) down at (5280 - at) (w .bytes-down))
+
+  -- They are at most two for each fact.
+  pub written-few : ups + (5280 - at) ≤ 2 * factCount (b .sizes)
+  written-few = omega (arith, plan-few b ok (starts b) (w .best .way), whole, length-append (w .us) (w .ds))
+
+  -- Carried out, they end at the best plan's last ledger.
+  last-is : carried (b .facts) (drafted up ups down at) ≡ lastLedger b ok (w .best)
+  last-is = ap (carried (b .facts)) drafted-is ∙ run-carried b (b .query .roles) (b .facts) 1 (map bytesOf (w .us) ++ map bytesOf (w .ds)) (lastLedger b ok (w .best)) (best-leads b ok (w .best) .led)
+
+  -- Where that does not meet the query, there is no way.
+  pub not-reached : met b (holds (carried (b .facts) (drafted up ups down at))) ≡ false → NoWay b
+  not-reached e = best-no-way b ok (w .best) (ap (λ (l : List ℕ). met b (holds l)) (sym last-is) ∙ e)
+
+  -- Where it does, the plan in the buffer's front is given.
+  pub reached : met b (holds (carried (b .facts) (drafted up ups down at))) ≡ true → (before : List ℕ) (n : ℕ) (out : List ℕ) → n ≡ ups + (5280 - at) → 5 * n ≤ length before
+      → out ≡ flat (drafted up ups down at) ++ drop (5 * n) before → PlanGiven b before n out
+  reached e before n out count room is =
+      record {
+        count = ap (λ (x : List (List ℕ)). length x) fives-are ∙ length-map (w .us ++ w .ds) bytesOf ∙ whole ∙ sym count;
+        works = subst (Works b) (sym chain-is) works;
+        reaches = replay-reaches b (front n out) (omega (arith, ap (λ (x : List ℕ). length x) front-is, five)) (works .last) (subst (λ (c : List (List ℕ)). Leads b c (works .last)) (sym chain-is) (works .led)) (works .meets);
+        few = omega (arith, count, written-few);
+        size = omega (arith, ap (λ (x : List ℕ). length x) is′, length-append bytes (drop (5 * n) before), length-drop (5 * n) before, five);
+        behind = ap (drop (5 * n)) is′ ∙ ap (λ (k : ℕ). drop k (bytes ++ drop (5 * n) before)) (sym five) ∙ drop-append-seam bytes (drop (5 * n) before);
+      }
+    where
+      bytes : List ℕ
+      bytes = flat (map bytesOf (w .us ++ w .ds))
+
+      is′ : out ≡ bytes ++ drop (5 * n) before
+      is′ = is ∙ ap (λ (c : List (List ℕ)). flat c ++ drop (5 * n) before) (drafted-is ∙ sym (map-append (w .us) (w .ds)))
+
+      five : length bytes ≡ 5 * n
+      five = length-flat (w .us ++ w .ds) ∙ ap (λ (k : ℕ). 5 * k) (whole ∙ sym count)
+
+      front-is : front n out ≡ bytes
+      front-is = ap (take (5 * n)) is′ ∙ ap (λ (k : ℕ). take k (bytes ++ drop (5 * n) before)) (sym five) ∙ take-append-seam bytes (drop (5 * n) before)
+
+      fives-are : fives (front n out) ≡ map bytesOf (w .us ++ w .ds)
+      fives-are = ap fives front-is ∙ fives-flat (w .us ++ w .ds)
+
+      chain-is : fives (front n out) ≡ map bytesOf (w .us) ++ map bytesOf (w .ds)
+      chain-is = fives-are ∙ map-append (w .us) (w .ds)
+
+      works : Works b (map bytesOf (w .us) ++ map bytesOf (w .ds))
+      works = best-works b ok (w .best) (ap (λ (l : List ℕ). met b (holds l)) (sym last-is) ∙ e)
+
+-- Additions copied to the front, then deletions behind them.
+pub both-copied : (up : List ℕ) (ups : ℕ) (down : List ℕ) (at : ℕ) (before middle out : List ℕ) → length up ≡ 26400 → ups ≤ 5280 → 5 * (ups + (5280 - at)) ≤ length before
+    → middle ≡ take (5 * 0) before ++ (flat (map bytesOf (asks up 0 ups)) ++ drop (5 * (0 + ups)) before)
+    → out ≡ take (5 * ups) middle ++ (flat (map bytesOf (asks down at (5280 - at))) ++ drop (5 * (ups + (5280 - at))) middle)
+    → out ≡ flat (drafted up ups down at) ++ drop (5 * (ups + (5280 - at))) before
+both-copied up ups down at before middle out size few room first second =
+    second
+    ∙ ap (λ (x : List ℕ). x ++ (flat (map bytesOf (asks down at (5280 - at))) ++ drop (5 * (ups + (5280 - at))) middle)) front-is
+    ∙ ap (λ (x : List ℕ). bytes ++ (flat (map bytesOf (asks down at (5280 - at))) ++ x)) rest-is
+    ∙ sym (append-assoc bytes (flat (map bytesOf (asks down at (5280 - at)))) (drop (5 * (ups + (5280 - at))) before))
+    ∙ ap (λ (x : List ℕ). x ++ drop (5 * (ups + (5280 - at))) before) (sym (flat-append (map bytesOf (asks up 0 ups)) (map bytesOf (asks down at (5280 - at)))))
+  where
+    bytes : List ℕ
+    bytes = flat (map bytesOf (asks up 0 ups))
+
+    five : length bytes ≡ 5 * ups
+    five = length-flat (asks up 0 ups) ∙ ap (λ (k : ℕ). 5 * k) (asks-length up 0 ups)
+
+    front-is : take (5 * ups) middle ≡ bytes
+    front-is = ap (take (5 * ups)) first ∙ ap (λ (k : ℕ). take k (bytes ++ drop (5 * (0 + ups)) before)) (sym five) ∙ take-append-seam bytes (drop (5 * (0 + ups)) before)
+
+    split : 5 * (ups + (5280 - at)) ≡ 5 * ups + 5 * (5280 - at)
+    split = omega arith
+
+    joined : 5 * (0 + ups) + 5 * (5280 - at) ≡ 5 * (ups + (5280 - at))
+    joined = omega arith
+
+    rest-is : drop (5 * (ups + (5280 - at))) middle ≡ drop (5 * (ups + (5280 - at))) before
+    rest-is =
+        ap (drop (5 * (ups + (5280 - at)))) first
+        ∙ ap (λ (k : ℕ). drop k (bytes ++ drop (5 * (0 + ups)) before)) (split ∙ ap (λ (k : ℕ). k + 5 * (5280 - at)) (sym five))
+        ∙ drop-append-add bytes (drop (5 * (0 + ups)) before) (5 * (5280 - at))
+        ∙ drop-drop (5 * (5280 - at)) (5 * (0 + ups)) before
+        ∙ ap (λ (k : ℕ). drop k before) joined
+
+-- ---------------------------------------------------------------- the answer
+
+module _ (b : Contents) (before : List ℕ) where
+  -- A short buffer is refused, as it was.
+  pub answered-short : length before < 10 * factCount (b .sizes) → Answered b before (Refused ShortBuffer) before
+  answered-short h = record { short = λ l. (refl, refl); long = λ l. absurd (omega arith) }
+
+  -- On a long one it is decided.
+  pub answered-long : 10 * factCount (b .sizes) ≤ length before → {answer : Planned} {out : List ℕ} → Decided b before answer out → Answered b before answer out
+  answered-long h decided = record { short = λ l. absurd (omega arith); long = λ l. decided }
+
+-- The promise, of a refused book and of an accepted one.
+pub promise-refused : (chars before : List ℕ) {r : frames.Refusal} → bookOf chars ≡ refused r → PlanPromise chars before (Refused (BadBook r)) before
+promise-refused chars before e = record { kept = rw e (refl, refl) }
+
+pub promise-accepted : (chars before : List ℕ) (answer : Planned) (out : List ℕ) {b : Contents} → bookOf chars ≡ accepted b → Answered b before answer out → PlanPromise chars before answer out
+promise-accepted chars before answer out e answered = record { kept = rw e answered }

@@ -1,0 +1,235 @@
+-- A plan is no longer than the facts that it may change are many: two requests for each.
+use mathlib.Core.Path.{_≡_, refl, ap, sym, subst, fun-ext, _∙_}
+use mathlib.Core.Logic.{dite}
+use mathlib.Core.Bool.{Bool, true, false, _&&_, true≢false}
+use mathlib.Core.List.{List, [], _∷_, _++_, map}
+use Prim.Native.Nat.{ℕ, zero, suc, _+_, _-_, _*_, _/_, _%_, _≤_, _<_}
+use native.Mathlib.Decide.{decLt}
+use native.Mathlib.Nat.{mul-assoc}
+use native.Mathlib.Omega.{arith}
+use lib.Dec.{ltb}
+use lib.ListN.{length}
+use borrow.Author.Tests.{ltb-true}
+use Rattle.facts.specs.declared.Fact.{Fact}
+use Rattle.facts.specs.declared.Fact.the-variants.{Holds, CrewHolds, Member}
+use Rattle.gate.specs.Gate.{isPerson, isCrew, isAttr, isValue, valuesOf}
+use Rattle.inherit.proofs.InheritanceLaws.{and-both}
+use Rattle.frames.specs.Book.{Contents}
+use Rattle.frames.specs.Fits.{inSizes, Admitted}
+use Rattle.requests.proofs.RequestLaws.{well-formed-fact}
+use Rattle.theory.specs.Facts.{State, _⊆_, put, bit, count}
+use Rattle.theory.proofs.FactLaws.{put-same, put-other, at, count-le, count-mono, count-put}
+use Rattle.theory.specs.Plan.{Ask, Req, req, apply, end, Runs, World, Moves, Plan}
+use Rattle.reach.specs.Tracked.{personLevel, tracked, numberOf, factAt, isNumber, track, bytesOf, asked, May}
+use Rattle.reach.specs.Goal.{bad}
+use Rattle.reach.proofs.TrackLaws.{tracked-value, tracked-crew, tracked-member, fact-tracked, track-at}
+use Rattle.reach.proofs.DepotLaws.{depot}
+use Rattle.planner.specs.Count.{factCount}
+
+-- ---------------------------------------------------------------- counting
+
+-- A set without a number at or above a bound has no more than the bound.
+few : (S : State) (m n : ℕ) → ((i : ℕ) → i < n → S i ≡ true → i < m) → count S n ≤ m
+unfolding count
+few S m zero h = omega arith
+few S m (suc n) h = by-last (S n) refl (few S m n (λ i l t. h i (omega arith) t))
+  where
+    by-last : (x : Bool) → S n ≡ x → count S n ≤ m → bit x + count S n ≤ m
+    by-last true e rest = omega (arith, count-le S n, h n (omega arith) e)
+    by-last false e rest = omega (arith, rest)
+
+-- A count in two parts.
+count-split : (S : State) (m n : ℕ) → count S (m + n) ≡ count S m + count (λ i. S (m + i)) n
+unfolding count
+count-split S m zero = let e : m + 0 ≡ m = omega arith in omega (arith, ap (count S) e)
+count-split S m (suc n) = let e : m + suc n ≡ suc (m + n) = omega arith in omega (arith, ap (count S) e, count-split S m n)
+
+-- Where nothing lies at or above a bound, counting stops there.
+cap : (S : State) (m n : ℕ) → m ≤ n → ((i : ℕ) → i < n → S i ≡ true → i < m) → count S n ≤ count S m
+cap S m n le h =
+    let e : m + (n - m) ≡ n = omega arith in
+    let z = few (λ i. S (m + i)) 0 (n - m) (λ i l t. absurd (omega (arith, h (m + i) (omega arith) t))) in
+    omega (arith, ap (count S) e, count-split S m (n - m), z)
+
+-- Blocks of one width, none of which counts more than a bound.
+blocks : (S : State) (w m n : ℕ) → ((k : ℕ) → k < n → count (λ i. S (w * k + i)) w ≤ m) → count S (w * n) ≤ n * m
+unfolding count
+blocks S w m zero h = let e : w * 0 ≡ 0 = omega arith in omega (arith, ap (count S) e)
+blocks S w m (suc n) h =
+    let e : w * suc n ≡ w * n + w = omega arith in
+    omega (arith, ap (count S) e, count-split S (w * n) w, h n (omega arith), blocks S w m n (λ k l. h k (omega arith)))
+
+-- ---------------------------------------------------------------- requests on the facts of a set
+
+-- The facts of a state that are in a set.
+abbrev only : State → State → State
+only S I g = S g && I g
+
+only-in : (S I : State) → only S I ⊆ I
+only-in S I f = right (S f) (I f)
+  where
+    right : (x y : Bool) → x && y ≡ true → y ≡ true
+    right true y e = e
+    right false y e = absurd (true≢false (sym e))
+
+only-put : (S I : State) (f : ℕ) (on : Bool) → I f ≡ true → only (put S f on) I ≡ put (only S I) f on
+only-put S I f on h =
+    fun-ext λ g. at (λ g. (put S f on g && I g) ≡ put (only S I) f on g) f g (rw (put-same, put-same, h) (and-true on)) (λ n. rw (put-other, put-other) refl)
+  where
+    and-true : (x : Bool) → (x && true) ≡ x
+    and-true true = refl
+    and-true false = refl
+
+module _ (W : World) (I : State) (in-set : (S : State) (on : Bool) (q : Ask) → W .May S (req on q) → I (q .fact) ≡ true) where
+  -- Each request that changes a fact of the set changes the count by one.
+  counted : (S : State) (on : Bool) (q : Ask) → Moves W S (req on q)
+      → count (only (put S (q .fact) on) I) (W .F) + bit (only S I (q .fact)) ≡ count (only S I) (W .F) + bit on
+  counted S on q m = rw (only-put S I (q .fact) on (in-set S on q (m .may))) (count-put (only S I) (q .fact) on (W .F) (W .known S on q (m .may)))
+
+  additions : (S : State) (us : List Ask) → Runs (Moves W) S (map (req true) us) → count (only S I) (W .F) + length us ≤ count I (W .F)
+  additions S [] r = omega (arith, count-mono (only-in S I) (W .F))
+  additions S (q ∷ us) r =
+      let none : bit (only S I (q .fact)) ≡ 0 = rw (r .0 .new) refl in
+      omega (arith, counted S true q (r .0), none, additions (put S (q .fact) true) us (r .1))
+
+  deletions : (S : State) (ds : List Ask) → Runs (Moves W) S (map (req false) ds) → length ds ≤ count (only S I) (W .F)
+  deletions S [] r = omega arith
+  deletions S (q ∷ ds) r =
+      let one : bit (only S I (q .fact)) ≡ 1 = rw (r .0 .new, in-set S false q (r .0 .may)) refl in
+      omega (arith, counted S false q (r .0), one, deletions (put S (q .fact) false) ds (r .1))
+
+-- A chain in two parts runs in both.
+pub runs-first : (P : State → Req → Type 0) (S : State) (xs ys : List Req) → Runs P S (xs ++ ys) → Runs P S xs
+runs-first P S [] ys r = tt
+runs-first P S (x ∷ xs) ys r = (r .0, runs-first P (apply S x) xs ys (r .1))
+
+pub runs-last : (P : State → Req → Type 0) (S : State) (xs ys : List Req) → Runs P S (xs ++ ys) → Runs P (end S xs) ys
+runs-last P S [] ys r = r
+runs-last P S (x ∷ xs) ys r = runs-last P (apply S x) xs ys (r .1)
+
+-- ---------------------------------------------------------------- the facts within the sizes
+
+module _ (b : Contents) where
+  -- The tracked facts within the sizes, by number.
+  abbrev inside : State
+  inside = track b (inSizes (b .sizes))
+
+  -- What such a number is: value v of attribute a at a crew's level or the person's, or a membership at the person's.
+  record Shape (g : ℕ) : Type 0 where
+    low : g / 160 ≤ b .sizes .crews
+    attr : g % 160 < 128 → g % 160 < 16 * b .sizes .attrs
+    value : g % 160 < 128 → g % 160 % 16 < b .sizes .values
+    crew : 128 ≤ g % 160 → (g / 160 ≡ b .sizes .crews) × (g % 160 < 128 + b .sizes .crews)
+
+  value-in : (a v : ℕ) → isValue (b .sizes) a v ≡ true → (a < b .sizes .attrs) × (v < b .sizes .values)
+  unfolding valuesOf
+  value-in a v e =
+      let both = and-both (isAttr (b .sizes) a) (ltb v (valuesOf (b .sizes) a)) e in
+      (ltb-true a (b .sizes .attrs) (both .0), ltb-true v (b .sizes .values) (both .1))
+
+  shape-value : (k a v : ℕ) → k ≤ b .sizes .crews → a < 8 → v < 16 → a < b .sizes .attrs → v < b .sizes .values → Shape (160 * k + (16 * a + v))
+  shape-value k a v l m n i j =
+      let g : (160 * k + (16 * a + v)) / 160 ≡ k = omega arith in
+      let f : (160 * k + (16 * a + v)) % 160 ≡ 16 * a + v = omega arith in
+      let d : (16 * a + v) % 16 ≡ v = omega arith in
+      record {
+        low = rw g l;
+        attr = λ _. rw f (omega arith);
+        value = λ _. rw (f, d) j;
+        crew = λ h. absurd (omega (arith, f));
+      }
+
+  shape-fact : (f : Fact) → tracked b f ≡ true → inSizes (b .sizes) f ≡ true → Shape (numberOf b f)
+  unfolding numberOf inSizes
+  shape-fact (Holds p a v) t e =
+      let s = tracked-value b p a v t in
+      let i = value-in (a .0) v (and-both (isPerson (b .sizes) (p .0)) (isValue (b .sizes) (a .0) v) e .1) in
+      shape-value (personLevel b) (a .0) v (omega arith) (s .1 .0) (s .1 .1) (i .0) (i .1)
+  shape-fact (CrewHolds c a v) t e =
+      let s = tracked-crew b c a v t in
+      let i = value-in (a .0) v (and-both (isCrew (b .sizes) (c .0)) (isValue (b .sizes) (a .0) v) e .1) in
+      shape-value (c .0) (a .0) v (omega (arith, s .0)) (s .1 .0) (s .1 .1) (i .0) (i .1)
+  shape-fact (Member p c) t e =
+      let s = tracked-member b p c t in
+      let i : c .0 < b .sizes .crews = ltb-true (c .0) (b .sizes .crews) (and-both (isPerson (b .sizes) (p .0)) (isCrew (b .sizes) (c .0)) e .1) in
+      let g : (160 * personLevel b + (128 + c .0)) / 160 ≡ personLevel b = omega (arith, s .1) in
+      let f : (160 * personLevel b + (128 + c .0)) % 160 ≡ 128 + c .0 = omega (arith, s .1) in
+      record {
+        low = omega (arith, g);
+        attr = λ h. absurd (omega (arith, f));
+        value = λ h. absurd (omega (arith, f));
+        crew = λ h. (g, omega (arith, f, i));
+      }
+
+  shape : (g : ℕ) → inside g ≡ true → Shape g
+  unfolding track
+  shape g e =
+      let both = and-both (isNumber b g) (inSizes (b .sizes) (factAt b (g / 160) (g % 160))) e in
+      let f = fact-tracked b g (both .0) in
+      subst Shape (f .1) (shape-fact (factAt b (g / 160) (g % 160)) (f .0) (both .1))
+
+  -- A permitted request is about one of them.
+  inside-may : (S : State) (on : Bool) (q : Ask) → May b S on q → inside (q .fact) ≡ true
+  inside-may S on q m =
+      rw (← m .number) (track-at b (inSizes (b .sizes)) (asked q .fact) (m .of-fact) ∙ well-formed-fact (b .sizes) (bytesOf q) (m .formed))
+
+  module _ (ok : Admitted b) where
+    -- The values of a level.
+    level-values : (k : ℕ) → count (λ i. inside (160 * k + i)) 128 ≤ b .sizes .attrs * b .sizes .values
+    level-values k =
+        let top = cap (λ i. inside (160 * k + i)) (16 * b .sizes .attrs) 128 (omega (arith, ok .sized .attrs-most))
+        (λ i l t. let f : (160 * k + i) % 160 ≡ i = omega arith in omega (arith, f, shape (160 * k + i) t .attr (omega (arith, f)))) in
+        let rows = blocks (λ i. inside (160 * k + i)) 16 (b .sizes .values) (b .sizes .attrs)
+        (λ a l. few (λ i. inside (160 * k + (16 * a + i))) (b .sizes .values) 16
+        (λ i m t.
+        let f : (160 * k + (16 * a + i)) % 160 ≡ 16 * a + i = omega (arith, ok .sized .attrs-most) in
+        let d : (16 * a + i) % 16 ≡ i = omega arith in
+        omega (arith, ap (λ x. x % 16) f, d, shape (160 * k + (16 * a + i)) t .value (omega (arith, f, ok .sized .attrs-most))))) in
+        omega (arith, top, rows)
+
+    -- A crew's level.
+    level-crew : (k : ℕ) → k < b .sizes .crews → count (λ i. inside (160 * k + i)) 160 ≤ b .sizes .attrs * b .sizes .values
+    level-crew k l =
+        let top = cap (λ i. inside (160 * k + i)) 128 160 (omega arith)
+        (λ i m t.
+        let g : (160 * k + i) / 160 ≡ k = omega arith in
+        let f : (160 * k + i) % 160 ≡ i = omega arith in
+        dite (decLt i 128) (λ (n : i < 128). n) (λ (n : i < 128 → ⊥). absurd (omega (arith, g, shape (160 * k + i) t .crew (omega (arith, f)) .0)))) in
+        omega (arith, top, level-values k)
+
+    -- The person's level.
+    level-person : count (λ i. inside (160 * b .sizes .crews + i)) 160 ≤ b .sizes .attrs * b .sizes .values + b .sizes .crews
+    level-person =
+        let k = b .sizes .crews in
+        let members = few (λ i. inside (160 * k + (128 + i))) k 32
+        (λ i m t.
+        let f : (160 * k + (128 + i)) % 160 ≡ 128 + i = omega arith in
+        omega (arith, f, shape (160 * k + (128 + i)) t .crew (omega (arith, f)) .1)) in
+        omega (arith, count-split (λ i. inside (160 * k + i)) 128 32, members, level-values k)
+
+    -- The tracked facts within the sizes are no more than the paper's count.
+    pub inside-few : count inside 5280 ≤ factCount (b .sizes)
+    unfolding factCount
+    inside-few =
+        let k = b .sizes .crews in
+        let top = cap inside (160 * k + 160) 5280 (omega (arith, ok .sized .crews-most)) (λ g l t. omega (arith, shape g t .low)) in
+        let crews = blocks inside 160 (b .sizes .attrs * b .sizes .values) k level-crew in
+        omega (arith, top, count-split inside (160 * k) 160, crews, level-person, mul-assoc (1 + k) (b .sizes .attrs) (b .sizes .values))
+
+    in-depot : (S : State) (on : Bool) (q : Ask) → depot b .May S (req on q) → inside (q .fact) ≡ true
+    in-depot S on q m = inside-may S on q m
+
+    -- Additions that each change the state are no more than the paper's count of facts.
+    pub additions-few : (S : State) (us : List Ask) → Runs (Moves (depot b)) S (map (req true) us) → length us ≤ factCount (b .sizes)
+    additions-few S us r = omega (arith, additions (depot b) inside in-depot S us r, inside-few)
+
+    -- So are deletions.
+    pub deletions-few : (S : State) (ds : List Ask) → Runs (Moves (depot b)) S (map (req false) ds) → length ds ≤ factCount (b .sizes)
+    deletions-few S ds r = omega (arith, deletions (depot b) inside in-depot S ds r, count-mono (only-in S inside) 5280, inside-few)
+
+    -- A plan has at most two requests for each fact.
+    pub plan-few : (S₀ : State) {us ds : List Ask} → Plan (depot b) (bad b) S₀ us ds → length us + length ds ≤ 2 * factCount (b .sizes)
+    plan-few S₀ {us} {ds} p =
+        let ups = runs-first (Moves (depot b)) S₀ (map (req true) us) (map (req false) ds) (p .runs) in
+        let downs = runs-last (Moves (depot b)) S₀ (map (req true) us) (map (req false) ds) (p .runs) in
+        omega (arith, additions-few S₀ us ups, deletions-few (end S₀ (map (req true) us)) ds downs)

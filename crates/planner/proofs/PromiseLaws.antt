@@ -1,0 +1,169 @@
+-- The best plan's last ledger decides: where it meets the query the plan works, and where it does not, no chain does.
+use mathlib.Core.Path.{_≡_, refl, ap, sym, subst, _∙_}
+use mathlib.Core.Bool.{Bool, true, false, not, true≢false}
+use mathlib.Core.List.{List, [], _∷_, _++_, map}
+use Prim.Native.Nat.{ℕ}
+use Rattle.facts.specs.Facts.{holds}
+use Rattle.facts.specs.declared.Fact.{Fact}
+use Rattle.frames.specs.Book.{Contents}
+use Rattle.frames.specs.Fits.{Admitted}
+use Rattle.requests.specs.Requests.{adds, requestOf}
+use Rattle.requests.proofs.RequestLaws.{in-sizes-fits, well-formed-fact}
+use Rattle.ledger.specs.Ledger.{after}
+use Rattle.ledger.proofs.LedgerLaws.{after-same}
+use Rattle.replay.specs.Chains.{run, Leads}
+use Rattle.replay.specs.Met.{met}
+use Rattle.theory.specs.Facts.{State, _⊆_, put, Clear}
+use Rattle.theory.specs.Plan.{Ask, Req, req, end, Runs, plan, Absent, Distinct, Moves, Best}
+use Rattle.theory.proofs.PlanLaws.{runs-map}
+use Rattle.reach.specs.Tracked.{numberOf, lift, track, bytesOf, asked, May}
+use Rattle.reach.specs.Chained.{Kept, trackedOf, fiveOf}
+use Rattle.reach.specs.Goal.{goal, bad}
+use Rattle.reach.proofs.TrackLaws.{lift-mono, track-at}
+use Rattle.reach.proofs.DepotLaws.{depot}
+use Rattle.reach.proofs.ChainLaws.{kept-after, track-after, adding-of, Chained, chain-ran, run-chained}
+use Rattle.reach.proofs.GoalLaws.{goal-mono, met-goal, met-clear, goal-met, goal-local, clear-of, clear-from}
+use Rattle.planner.specs.Drive.{starts}
+use Rattle.planner.specs.Scan.{NoRun}
+use Rattle.planner.proofs.CountLaws.{runs-first, runs-last}
+use Rattle.planner.specs.Promise.{NoWay, Changing, Never, Once, Works}
+
+not-self : (x : Bool) → x ≡ not x → ⊥
+not-self true e = true≢false e
+not-self false e = true≢false (sym e)
+
+-- The requests of a plan, as bytes.
+fives-plan : (us ds : List Ask) → map fiveOf (plan us ds) ≡ map bytesOf us ++ map bytesOf ds
+fives-plan [] [] = refl
+fives-plan [] (d ∷ ds) = ap (λ (x : List (List ℕ)). bytesOf d ∷ x) (fives-plan [] ds)
+fives-plan (u ∷ us) ds = ap (λ (x : List (List ℕ)). bytesOf u ∷ x) (fives-plan us ds)
+
+-- ---------------------------------------------------------------- no fact twice
+
+module _ (b : Contents) where
+  -- Requests on tracked facts by their numbers, all additions or all deletions.
+  abbrev Named : Bool → List Ask → Type 0
+  Named on [] = Unit {0}
+  Named on (q ∷ qs) = ((numberOf b (asked q .fact) ≡ q .fact) × (adds (asked q .op) ≡ on)) × Named on qs
+
+  named-all : (ok : Admitted b) (on : Bool) (S : State) (qs : List Ask) → Runs (Moves (depot b)) S (map (req on) qs) → Named on qs
+  named-all ok on S [] r = tt
+  named-all ok on S (q ∷ qs) r = ((r .0 .may .number, adding-of b ok q (r .0 .may .adding)), named-all ok on (put S (q .fact) on) qs (r .1))
+
+  never-absent : (on : Bool) (f : Fact) (n : ℕ) → numberOf b f ≡ n → (qs : List Ask) → Absent n qs → Named on qs → Never on f (map bytesOf qs)
+  unfolding Never
+  never-absent on f n e [] a named = tt
+  never-absent on f n e (q ∷ qs) a named = (λ i same. a .0 (sym e ∙ ap (numberOf b) (sym same) ∙ named .0 .0), never-absent on f n e qs (a .1) (named .1))
+
+  never-other : (on : Bool) (f : Fact) (qs : List Ask) → Named (not on) qs → Never on f (map bytesOf qs)
+  unfolding Never
+  never-other on f [] named = tt
+  never-other on f (q ∷ qs) named = (λ i same. not-self on (sym i ∙ named .0 .1), never-other on f qs (named .1))
+
+  never-append : (on : Bool) (f : Fact) (ps qs : List (List ℕ)) → Never on f ps → Never on f qs → Never on f (ps ++ qs)
+  unfolding Never
+  never-append on f [] qs a c = c
+  never-append on f (p ∷ ps) qs a c = (a .0, never-append on f ps qs (a .1) c)
+
+  once-own : (on : Bool) (qs : List Ask) → Distinct qs → Named on qs → Once on (map bytesOf qs)
+  unfolding Once
+  once-own on [] d named = tt
+  once-own on (q ∷ qs) d named = (λ i. never-absent on (asked q .fact) (q .fact) (named .0 .0) qs (d .0) (named .1), once-own on qs (d .1) (named .1))
+
+  once-other : (on : Bool) (qs : List Ask) → Named (not on) qs → Once on (map bytesOf qs)
+  unfolding Once
+  once-other on [] named = tt
+  once-other on (q ∷ qs) named = (λ i. absurd (not-self on (sym i ∙ named .0 .1)), once-other on qs (named .1))
+
+  once-before : (on : Bool) (ps qs : List (List ℕ)) → Once on ps → ((f : Fact) → Never on f qs) → Once on qs → Once on (ps ++ qs)
+  unfolding Once
+  once-before on [] qs a none c = c
+  once-before on (p ∷ ps) qs a none c = (λ i. never-append on (requestOf p .fact) ps qs (a .0 i) (none (requestOf p .fact)), once-before on ps qs (a .1) none c)
+
+  once-behind : (on : Bool) (us : List Ask) (qs : List (List ℕ)) → Named (not on) us → Once on qs → Once on (map bytesOf us ++ qs)
+  unfolding Once
+  once-behind on [] qs named c = c
+  once-behind on (u ∷ us) qs named c = (λ i. absurd (not-self on (sym i ∙ named .0 .1)), once-behind on us qs (named .1) c)
+
+-- ---------------------------------------------------------------- each request a change
+
+module _ (b : Contents) (ok : Admitted b) where
+  kept-first : Kept b (b .facts)
+  kept-first = record { room = ok .facts-room; inside = ok .facts-in }
+
+  changing : (rs : List Req) (l : List ℕ) → Kept b l → Runs (Moves (depot b)) (track b (holds l)) rs → Changing l (map fiveOf rs)
+  unfolding Changing
+  changing [] l kept r = tt
+  changing (req on q ∷ rs) l kept r =
+      let may = r .0 .may in
+      let op : adds (asked q .op) ≡ on = adding-of b ok q (may .adding) in
+      let next : track b (holds (after l (asked q))) ≡ put (track b (holds l)) (q .fact) on =
+      track-after b ok l kept (bytesOf q) (may .formed) (may .of-fact) ∙ rw (may .number, op) refl in
+      let before : holds l (asked q .fact) ≡ not on = sym (track-at b (holds l) (asked q .fact) (may .of-fact)) ∙ ap (track b (holds l)) (may .number) ∙ r .0 .new in
+      let behind : holds (after l (asked q)) (asked q .fact) ≡ on =
+      after-same l (asked q) (kept .room) (in-sizes-fits (b .sizes) (asked q .fact) (ok .sized) (well-formed-fact (b .sizes) (bytesOf q) (may .formed))) ∙ op in (
+        λ same. not-self on (sym behind ∙ ap (λ (x : List ℕ). holds x (asked q .fact)) same ∙ before),
+        changing rs (after l (asked q)) (kept-after b ok l kept (bytesOf q) (may .formed)) (subst (λ (S : State). Runs (Moves (depot b)) S rs) (sym next) (r .1)),
+      )
+
+  -- Where no run ends clear, no chain leads to a ledger that meets the query.
+  pub no-run-no-way : NoRun b → NoWay b
+  no-run-no-way never =
+      record {
+        none = λ chain l leads m.
+            let ran = chain-ran b ok chain (b .facts) 1 l kept-first (leads .led) in
+            never .never (trackedOf b chain) (ran .runs)
+            (subst (Clear (bad b)) (sym (ran .ends-at)) (clear-of b (holds l) (met-clear b ok (holds l) (ran .kept .inside) m)));
+      }
+
+  module _ {us ds : List Ask} (best : Best (depot b) (bad b) (starts b) us ds) where
+    may-run : Runs (depot b .May) (starts b) (plan us ds)
+    may-run = runs-map (Moves (depot b)) (depot b .May) (λ S r m. m .may) (starts b) (plan us ds) (best .way .runs)
+
+    -- The plan carried out from the starting facts.
+    pub done : Chained b ok (b .facts) 1 (plan us ds)
+    done = run-chained b ok (plan us ds) (b .facts) 1 kept-first may-run
+
+    abbrev pub lastLedger : List ℕ
+    lastLedger = done .last
+
+    clear-last : Clear (bad b) (track b (holds lastLedger))
+    clear-last = subst (Clear (bad b)) (sym (done .ends-at)) (best .way .clear)
+
+    -- Where the best plan's last ledger does not meet the query, no chain leads to one that does.
+    pub best-no-way : met b (holds lastLedger) ≡ false → NoWay b
+    best-no-way short =
+        record {
+          none = λ chain l leads m.
+              let ran = chain-ran b ok chain (b .facts) 1 l kept-first (leads .led) in
+              let clear = clear-of b (holds l) (met-clear b ok (holds l) (ran .kept .inside) m) in
+              let within = best .best (trackedOf b chain) (ran .runs) (subst (Clear (bad b)) (sym (ran .ends-at)) clear) in
+              let more : track b (holds l) ⊆ track b (holds lastLedger) =
+              λ g e. ap (λ (S : State). S g) (done .ends-at) ∙ within g (ap (λ (S : State). S g) (ran .ends-at) ∙ e) in
+              let here : goal b (lift b (track b (holds l))) ≡ true = sym (goal-local b ok (holds l) (ran .kept .inside)) ∙ met-goal b (holds l) m in
+              let there : goal b (holds lastLedger) ≡ true = goal-local b ok (holds lastLedger) (done .kept .inside) ∙ goal-mono b (lift-mono b more) here in
+              true≢false (sym (goal-met b ok (holds lastLedger) (done .kept .inside) (clear-from b (holds lastLedger) clear-last) there) ∙ short);
+        }
+
+    up-named : Named b true us
+    up-named = named-all b ok true (starts b) us (runs-first (Moves (depot b)) (starts b) (map (req true) us) (map (req false) ds) (best .way .runs))
+
+    down-named : Named b false ds
+    down-named = named-all b ok false (end (starts b) (map (req true) us)) ds (runs-last (Moves (depot b)) (starts b) (map (req true) us) (map (req false) ds) (best .way .runs))
+
+    -- The plan leads to that ledger.
+    pub best-leads : Leads b (map bytesOf us ++ map bytesOf ds) lastLedger
+    best-leads = record { led = ap (run b (b .query .roles) (b .facts) 1) (sym (fives-plan us ds)) ∙ done .led }
+
+    -- Where the best plan's last ledger meets the query, the plan works.
+    pub best-works : met b (holds lastLedger) ≡ true → Works b (map bytesOf us ++ map bytesOf ds)
+    best-works meets =
+        record {
+          last = lastLedger;
+          led = best-leads;
+          meets = meets;
+          changes = subst (Changing (b .facts)) (fives-plan us ds) (changing (plan us ds) (b .facts) kept-first (best .way .runs));
+          added-once = once-before b true (map bytesOf us) (map bytesOf ds) (once-own b true us (best .way .once-up) up-named)
+              (λ f. never-other b true f ds down-named) (once-other b true ds down-named);
+          deleted-once = once-behind b false us (map bytesOf ds) up-named (once-own b false ds (best .way .once-down) down-named);
+        }

@@ -1,0 +1,58 @@
+-- `planner::is_reached` meets its contract: the additions carried out, then the deletions, then the query judged. Assumes nothing.
+use mathlib.Core.Path.{ap, sym, _∙_}
+use mathlib.Core.List.{List, map}
+use Prim.Native.Nat.{ℕ, _-_}
+use Rattle.facts.specs.Facts.{holds}
+use Rattle.frames.specs.Book.{contentsOf}
+use Rattle.replay.specs.Met.{met}
+use Rattle.reach.specs.Tracked.{bytesOf}
+use Rattle.level.specs.Notes.{asks}
+use Rattle.drafts.specs.Drafts.{carried}
+use Rattle.drafts.proofs.DraftLaws.{carried-append}
+use borrow.Author.Needs.{needs}
+use native.Mathlib.Omega.{arith}
+use Rattle.planner.proofs.is_reached.Statement.{statement}
+use Rattle.planner.proofs.is_reached.Tie as tie
+
+sub-n : tie.Need-sub-n
+sub-n c = omega (arith, c .before .before .pre .0 .1 .1)
+
+slice-aggregate-carry-out : tie.Need-slice-aggregate-carry-out
+slice-aggregate-carry-out c = search needs
+
+carry-out-requires : tie.Need-carry-out-requires
+unfolding contentsOf
+carry-out-requires c κs = (c .before .before .before .before .pre .0 .0 .facts-room, omega (arith, c .before .before .before .before .pre .0 .1 .0, c .before .before .before .before .pre .1 .0))
+
+slice-aggregate-carry-out-2 : tie.Need-slice-aggregate-carry-out-2
+slice-aggregate-carry-out-2 c = search needs
+
+carry-out-requires-2 : tie.Need-carry-out-requires-2
+unfolding contentsOf
+carry-out-requires-2 c κs = (c .before .ledger3 .given, omega (arith, c .before .before .before .before .before .before .before .pre .0 .1 .1, c .before .before .before .before .before .before .before .pre .1 .1))
+
+slice-aggregate-is-met : tie.Need-slice-aggregate-is-met
+slice-aggregate-is-met c = search needs
+
+is-met-requires : tie.Need-is-met-requires
+is-met-requires c κs = c .before .before .before .before .before .before .before .before .before .before .pre .0 .0
+
+returns : tie.Need-returns
+returns c =
+    let start = c .before .before .before .before .before .before .before .before .before .before .before in
+    c .is-met .ensures ∙ ap (λ (l : List ℕ). met (contentsOf (start .args .b)) (holds l))
+    (c .before .before .before .carry-out2 .ensures ∙ ap (λ (l : List ℕ). carried l (map bytesOf (asks (start .args .down .now) (start .args .at) (5280 - start .args .at)))) (c .before .before .before .before .before .before .carry-out .ensures)
+    ∙ sym (carried-append (start .args .b .facts) (map bytesOf (asks (start .args .up .now) 0 (start .args .ups))) (map bytesOf (asks (start .args .down .now) (start .args .at) (5280 - start .args .at)))))
+
+pub is-reached-spec : {M : Type 1} → statement M
+is-reached-spec =
+    tie.close
+    (tie.spec
+    sub-n
+    slice-aggregate-carry-out
+    carry-out-requires
+    slice-aggregate-carry-out-2
+    carry-out-requires-2
+    slice-aggregate-is-met
+    is-met-requires
+    returns)
