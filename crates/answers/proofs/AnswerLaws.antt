@@ -8,7 +8,7 @@ use native.Mathlib.Decide.{decLt}
 use native.Mathlib.Numerals.{add-one}
 use native.Mathlib.Omega.{arith}
 use lib.Dec.{eqb, leb·suc-suc, lit≤}
-use lib.ListN.{length, take, drop, set, getD, drop-of-length-le}
+use lib.ListN.{length, length-append, take, drop, set, getD, drop-of-length-le}
 use lib.Seq.{take-suc-set, drop-cons}
 use borrow.Author.Tests.{eqb-true}
 use Rattle.sets.specs.Sets.{member}
@@ -18,7 +18,7 @@ use Rattle.gate.specs.Gate.{allBelow}
 use Rattle.frames.specs.declared.Outcome.{Outcome}
 use Rattle.frames.specs.declared.Outcome.the-variants.{Accepted, Refused}
 use Rattle.frames.specs.declared.Book.{Book}
-use Rattle.answers.specs.Answers.{hex, hexLine, refusalBytes, size, total, count, bookLine, answerLine}
+use Rattle.answers.specs.Answers.{hex, hexLine, refusedBytes, noWayBytes, countBytes, size, total, count, bookLine, answerLine}
 
 -- ---------------------------------------------------------------- a text that grows
 
@@ -50,6 +50,16 @@ pub last-behind :
     x ≡ a ++ (32 ∷ []) → y ≡ x ++ hex (b ∷ []) → z ≡ y ++ (10 ∷ []) → z ≡ a ++ (32 ∷ hexLine (b ∷ []))
 unfolding hexLine
 last-behind a b p q s = s ∙ rw (q, p) (simp append-assoc)
+
+-- Five bytes, one by one.
+pub five-bytes : (q : List ℕ) → length q ≡ 5 → q ≡ getD q 0 0 ∷ getD q 1 0 ∷ getD q 2 0 ∷ getD q 3 0 ∷ getD q 4 0 ∷ []
+five-bytes [] h = absurd (omega arith)
+five-bytes (op ∷ []) h = absurd (omega arith)
+five-bytes (op ∷ role ∷ []) h = absurd (omega arith)
+five-bytes (op ∷ role ∷ s ∷ []) h = absurd (omega arith)
+five-bytes (op ∷ role ∷ s ∷ a ∷ []) h = absurd (omega arith)
+five-bytes (op ∷ role ∷ s ∷ a ∷ v ∷ []) h = refl
+five-bytes (op ∷ role ∷ s ∷ a ∷ v ∷ x ∷ rest) h = absurd (omega arith)
 
 -- ---------------------------------------------------------------- digits read back
 
@@ -119,6 +129,28 @@ total-end w xs i h = rw (drop-of-length-le xs {i = i} h)
 
 -- An answer has its line end at least, and fits a text.
 pub answer-fits : (o : Outcome) (b : Book) → (1 ≤ length (answerLine o b)) × (length (answerLine o b) ≤ 64)
-unfolding answerLine bookLine hexLine refusalBytes count hex
+unfolding answerLine bookLine hexLine refusedBytes count hex
 answer-fits Accepted b = (lit≤ tt, lit≤ tt)
 answer-fits (Refused r) b = (lit≤ tt, lit≤ tt)
+
+hex-long : (bs : List ℕ) → length (hex bs) ≡ 2 * length bs
+unfolding hex
+hex-long [] = refl
+hex-long (b ∷ bs) = omega (arith, hex-long bs)
+
+-- A line has two digits a byte, and its end.
+pub line-long : (bs : List ℕ) → length (hexLine bs) ≡ 2 * length bs + 1
+unfolding hexLine
+line-long bs = length-append (hex bs) (10 ∷ []) ∙ rw (hex-long bs)
+
+pub no-way-long : length (hexLine noWayBytes) ≡ 3
+unfolding noWayBytes hexLine hex
+no-way-long = refl
+
+pub count-long : (n : ℕ) → length (hexLine (countBytes n)) ≡ 7
+unfolding countBytes hexLine hex
+count-long n = refl
+
+pub refused-long : (number line : ℕ) → length (hexLine (refusedBytes number line)) ≡ 9
+unfolding refusedBytes hexLine hex
+refused-long number line = refl

@@ -37,8 +37,19 @@ abbrev pub pair : ℕ → List ℕ
 pair n = n / 256 % 256 ∷ n % 256 ∷ []
 
 -- "`8F`, refusal number (one byte) and line (two bytes)"
-unfoldable pub refusalBytes : Refusal → List ℕ
-refusalBytes r = 143 ∷ refusalNumber r ∷ pair (refusalLine r)
+unfoldable pub refusedBytes : ℕ → ℕ → List ℕ
+refusedBytes number line = 143 ∷ number ∷ pair line
+
+abbrev pub refusalBytes : Refusal → List ℕ
+refusalBytes r = refusedBytes (refusalNumber r) (refusalLine r)
+
+-- "`80` (no way)"
+unfoldable pub noWayBytes : List ℕ
+noWayBytes = 128 ∷ []
+
+-- "`81` and a two-byte count with the plan below it, one request a line": the first line.
+unfoldable pub countBytes : ℕ → List ℕ
+countBytes n = 129 ∷ pair n
 
 -- How many numbers below w are members of x.
 unfoldable pub size : ℕ → ℕ → ℕ

@@ -3,7 +3,8 @@
 ghost use mathlib.Core.Path.{_≡_};
 ghost use mathlib.Core.List.{[], _∷_, _++_};
 ghost use Prim.Native.Nat.{_+_, _≤_};
-ghost use Rattle.answers.specs.Answers.{chars, Writes, hex, hexLine, pair, refusalBytes, size, total, count, bookLine, answerLine};
+ghost use lib.ListN.{length};
+ghost use Rattle.answers.specs.Answers.{chars, Writes, hex, hexLine, pair, refusedBytes, refusalBytes, noWayBytes, countBytes, size, total, count, bookLine, answerLine};
 
 // The characters of an answer: the first `len`.
 pub struct Text {
@@ -51,15 +52,56 @@ fn with_pair(t: Text, n: usize) -> Text
     with_byte(with_byte(t, high), low)
 }
 
+// 8F, the number and the line of a refusal.
+pub fn refused_text(number: u8, line: usize) -> Text
+    ensures { λ t. ⌜ Writes t (hexLine (refusedBytes number line)) ⌝ }
+{
+    let marked = with_byte(no_text(), 0x8F);
+    let numbered = with_byte(marked, number);
+    let whole = with_pair(numbered, line);
+    with_char(whole, b'\n')
+}
+
 // The line of a refused book.
 pub fn refusal_text(r: frames::Refusal) -> Text
     ensures { λ t. ⌜ Writes t (hexLine (refusalBytes r)) ⌝ }
 {
     let number = frames::refusal_number(r);
     let line = frames::refusal_line(r);
-    let marked = with_byte(no_text(), 0x8F);
-    let numbered = with_byte(marked, number);
-    let whole = with_pair(numbered, line);
+    refused_text(number, line)
+}
+
+// 80: no way.
+pub fn no_way_text() -> Text
+    ensures { λ t. ⌜ Writes t (hexLine noWayBytes) ⌝ }
+{
+    with_char(with_byte(no_text(), 0x80), b'\n')
+}
+
+// 81 and the count of a plan's requests.
+pub fn count_text(n: usize) -> Text
+    ensures { λ t. ⌜ Writes t (hexLine (countBytes n)) ⌝ }
+{
+    let marked = with_byte(no_text(), 0x81);
+    let counted = with_pair(marked, n);
+    with_char(counted, b'\n')
+}
+
+// A request of a plan, its five bytes.
+pub fn request_text(q: &[u8]) -> Text
+    requires { ⌜ length (now q) ≡ 5 ⌝ }
+    ensures { λ t. ⌜ Writes t (hexLine (now (q .entry))) ⌝ }
+{
+    let op = q[0];
+    let role = q[1];
+    let subject = q[2];
+    let a = q[3];
+    let v = q[4];
+    let first = with_byte(no_text(), op);
+    let second = with_byte(first, role);
+    let third = with_byte(second, subject);
+    let fourth = with_byte(third, a);
+    let whole = with_byte(fourth, v);
     with_char(whole, b'\n')
 }
 

@@ -7,3 +7,4 @@ pub mod StepLaws
 pub mod CountLaws
 pub mod PromiseLaws
 pub mod AnswerLaws
+pub mod RoomLaws

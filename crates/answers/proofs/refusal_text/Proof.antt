@@ -1,11 +1,6 @@
--- `answers::refusal_text` meets its contract: byte for byte, what is written so far is the digits of the bytes so far; then the line ends.
--- Assumes nothing.
-use mathlib.Core.Path.{_≡_, _∙_}
-use mathlib.Core.List.{[], _∷_}
-use native.Mathlib.Omega.{arith}
-use Rattle.answers.specs.Answers.{chars, hex, hexLine, pair, refusalBytes}
+-- `answers::refusal_text` meets its contract: it writes the refusal's own number and line. Assumes nothing.
+use mathlib.Core.Path.{sym}
 use borrow.Author.Needs.{needs}
-use Rattle.answers.proofs.AnswerLaws.{bytes-behind}
 use Rattle.answers.proofs.refusal_text.Statement.{statement}
 use Rattle.answers.proofs.refusal_text.Tie as tie
 
@@ -15,42 +10,16 @@ refusal-number-requires c κs = search needs
 refusal-line-requires : tie.Need-refusal-line-requires
 refusal-line-requires c κs = search needs
 
-no-text-requires : tie.Need-no-text-requires
-no-text-requires c κs = search needs
-
-with-byte-requires : tie.Need-with-byte-requires
-with-byte-requires c κs = search needs
-
-with-byte-requires-2 : tie.Need-with-byte-requires-2
-with-byte-requires-2 c κs = search needs
-
-with-pair-requires : tie.Need-with-pair-requires
-with-pair-requires c κs = search needs
-
-with-char-requires : tie.Need-with-char-requires
-with-char-requires c κs = search needs
+refused-text-requires : tie.Need-refused-text-requires
+refused-text-requires c κs = search needs
 
 returns : tie.Need-returns
-unfolding hex hexLine refusalBytes
 returns c =
-    let at-mark = c .before .before .before in
-    let line = at-mark .before .before .refusal-line in
-    let number = at-mark .before .before .before .refusal-number in
-    let long : c .with-char .result .len ≡ 9 = omega arith in
-    let marked : chars (at-mark .with-byte .result) ≡ hex (143 ∷ []) = at-mark .with-byte .ensures .1 ∙ rw (at-mark .before .no-text .ensures .1) in
-    let numbered = bytes-behind [] (143 ∷ []) (number .result ∷ []) marked (c .before .before .with-byte2 .ensures .1) in
-    let whole = bytes-behind [] (143 ∷ number .result ∷ []) (pair (line .result)) numbered (c .before .with-pair .ensures .1) in
-    record { long = long; same = c .with-char .ensures .1 ∙ rw (whole, number .ensures, line .ensures) }
+    let number = c .before .before .refusal-number in
+    let line = c .before .refusal-line in
+    rw (sym (number .ensures), sym (line .ensures)) (c .refused-text .ensures)
 
 pub refusal-text-spec : {M : Type 1} → statement M
 refusal-text-spec =
     tie.close
-    (tie.spec
-    refusal-number-requires
-    refusal-line-requires
-    no-text-requires
-    with-byte-requires
-    with-byte-requires-2
-    with-pair-requires
-    with-char-requires
-    returns)
+    (tie.spec refusal-number-requires refusal-line-requires refused-text-requires returns)
