@@ -8,7 +8,7 @@ ghost use lib.ListN.{length, getD};
 ghost use Rattle.theory.specs.Facts.{_⊆_};
 ghost use Rattle.level.specs.Shown.{touches, More, rowFlags, Put, direct};
 ghost use Rattle.level.specs.Moves.{flagsMet, flagsWith, placeOf, Fine, Sound, askOf};
-ghost use Rattle.level.specs.Chosen.{chosenIn, Empty, Pushed, GoodRules, MovesOf};
+ghost use Rattle.level.specs.Chosen.{chosenIn, Empty, GoodRules, MovesOf};
 ghost use Rattle.level.specs.Terms.{codeOf, GoodRule, MoveOf};
 ghost use Rattle.level.specs.Notes.{Noted};
 ghost use Rattle.level.specs.Build.{Blank, Built, Stripped, Copied, Lacks};
@@ -111,18 +111,6 @@ pub fn none() -> Moves
     }
 }
 
-// One move more.
-pub fn push(ms: Moves, m: Move) -> Moves
-    requires { ⌜ (ms .count < 512) × (length (ms .moves) ≡ 512) ⌝ }
-    ensures { λ r. ⌜ Pushed ms m r ⌝ }
-{
-    let mut out = ms;
-    let at = ms.count;
-    out.moves[at] = m;
-    out.count = at + 1;
-    out
-}
-
 // Whether the rule has one of two ops and one of the roles.
 pub fn chosen(r: Rule, one: u8, two: u8, roles: u32) -> bool
     ensures { λ x. ⌜ x ≡ chosenIn one two roles r ⌝ }
@@ -149,7 +137,9 @@ pub fn moves_of(rs: Rules, one: u8, two: u8, roles: u32) -> Moves
         let r = rs.rules[i];
         if chosen(r, one, two, roles) {
             let m = move_of(r);
-            ms = push(ms, m);
+            let at = ms.count;
+            ms.moves[at] = m;
+            ms.count = at + 1;
             i += 1;
         } else {
             i += 1;

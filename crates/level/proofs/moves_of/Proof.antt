@@ -4,7 +4,7 @@ use borrow.Author.Needs.{needs}
 use mathlib.Core.Path.{sym, _∙_}
 use Prim.Native.Nat.{_-_}
 use Rattle.level.specs.Chosen.{ruleAt, MovesOf}
-use Rattle.level.proofs.ChosenLaws.{moves-none, moves-more, moves-skip, moves-all}
+use Rattle.level.proofs.ChosenLaws.{pushed, moves-none, moves-more, moves-skip, moves-all}
 use Rattle.level.proofs.moves_of.Statement.{statement}
 use Rattle.level.proofs.moves_of.Tie as tie
 
@@ -43,10 +43,14 @@ move-of-requires c κs =
     let at-start = at-loop .before .before in
     at-start .pre .good (at-loop .loop .i) (at-loop-test .loop-test .taken)
 
-push-requires : tie.Need-push-requires Inv-loop μ-loop
-push-requires c κs =
-    let inv = c .before .before .before .before .before .loop .inv in
-    (omega (arith, inv .few, c .before .before .before .before .before .before .before .pre .few), inv .size)
+mul-m : tie.Need-mul-m Inv-loop μ-loop
+mul-m c = let inv = c .before .before .before .before .before .loop .inv in omega (arith, inv .few, c .before .before .before .before .before .before .before .pre .few)
+
+element-set-from-m : tie.Need-element-set-from-m Inv-loop μ-loop
+element-set-from-m c = let inv = c .before .before .before .before .before .loop .inv in omega (arith, inv .few, inv .size, c .before .before .before .before .before .before .before .pre .few)
+
+add-ms : tie.Need-add-ms Inv-loop μ-loop
+add-ms c = let inv = c .before .before .before .before .before .loop .inv in omega (arith, inv .few, c .before .before .before .before .before .before .before .pre .few)
 
 add-i : tie.Need-add-i Inv-loop μ-loop
 add-i c = omega arith
@@ -57,12 +61,14 @@ loop-less c = omega arith
 loop-again : tie.Need-loop-again Inv-loop μ-loop
 unfolding ruleAt
 loop-again c =
-    let at-if1 = c .before .before in
+    let at-if1 = c .before in
     let at-chosen = at-if1 .before in
     let at-loop-test = at-chosen .before .before in
     let at-loop = at-loop-test .before in
-    moves-more (at-loop .loop .inv) (at-loop-test .loop-test .taken)
-    (sym (at-chosen .chosen .ensures) ∙ at-if1 .if1 .taken) (c .before .move-of .ensures) (c .push .ensures)
+    let inv = at-loop .loop .inv in
+    moves-more inv (at-loop-test .loop-test .taken)
+    (sym (at-chosen .chosen .ensures) ∙ at-if1 .if1 .taken) (c .move-of .ensures)
+    (pushed (at-loop .loop .ms) (c .move-of .result) (omega (arith, inv .few, at-loop .before .before .pre .few)) (inv .size))
 
 add-i-2 : tie.Need-add-i-2 Inv-loop μ-loop
 add-i-2 c = omega arith
@@ -92,7 +98,9 @@ moves-of-spec =
     element-copy-out-r
     chosen-requires
     move-of-requires
-    push-requires
+    mul-m
+    element-set-from-m
+    add-ms
     add-i
     loop-less
     loop-again
