@@ -15,7 +15,7 @@ use Rattle.replay.specs.Chains.{run, Leads}
 use Rattle.replay.specs.Met.{met}
 use Rattle.theory.specs.Facts.{State, _⊆_, put, Clear}
 use Rattle.theory.specs.Plan.{Ask, Req, req, end, Runs, plan, Absent, Distinct, Moves, Best}
-use Rattle.theory.proofs.PlanLaws.{runs-map}
+use Rattle.theory.proofs.PlanLaws.{runs-map, not-self}
 use Rattle.reach.specs.Tracked.{numberOf, lift, track, bytesOf, asked, May}
 use Rattle.reach.specs.Chained.{Kept, trackedOf, fiveOf}
 use Rattle.reach.specs.Goal.{goal, bad}
@@ -27,10 +27,6 @@ use Rattle.planner.specs.Drive.{starts}
 use Rattle.planner.specs.Scan.{NoRun}
 use Rattle.planner.proofs.CountLaws.{runs-first, runs-last}
 use Rattle.planner.specs.Promise.{NoWay, Changing, Never, Once, Works}
-
-not-self : (x : Bool) → x ≡ not x → ⊥
-not-self true e = true≢false e
-not-self false e = true≢false (sym e)
 
 -- The requests of a plan, as bytes.
 fives-plan : (us ds : List Ask) → map fiveOf (plan us ds) ≡ map bytesOf us ++ map bytesOf ds

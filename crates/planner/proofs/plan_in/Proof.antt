@@ -83,7 +83,7 @@ returns-4 c =
     let long = above-of (c .before .before .before .before .before .before .before .before .before .before .before .before .before .before .before .before .before .if1 .left) (c .before .before .before .before .before .before .before .before .before .before .before .before .before .before .before .before .before .before .fact-count .ensures) in
     let made = c .before .before .write-plan .ensures in
     answered-long (contentsOf (c .before .before .before .before .before .before .before .before .before .before .before .before .before .before .before .before .before .before .before .before .before .args .b)) _ long
-    (reached (contentsOf (c .before .before .before .before .before .before .before .before .before .before .before .before .before .before .before .before .before .before .before .before .before .args .b)) (c .before .before .before .before .before .before .before .before .before .before .before .before .before .before .before .before .before .before .before .before .before .pre) w (sym (c .before .before .before .before .before .before .before .is-reached .ensures) ∙ was-found _ (c .before .before .before .before .before .before .if3 .left)) _ _ _ (made .0)
+    (reached (contentsOf (c .before .before .before .before .before .before .before .before .before .before .before .before .before .before .before .before .before .before .before .before .before .args .b)) (c .before .before .before .before .before .before .before .before .before .before .before .before .before .before .before .before .before .before .before .before .before .pre) w (sym (c .before .before .before .before .before .before .before .is-reached .ensures) ∙ was-found _ (c .before .before .before .before .before .before .if3 .left)) (c .before .before .before .before .before .before .before .before .before .before .before .before .before .before .before .before .before .before .before .before .before .args .out .now) (c .before .before .write-plan .result) _ (made .0)
     (room-of (made .0) (room (factCount _) (written-few (contentsOf (c .before .before .before .before .before .before .before .before .before .before .before .before .before .before .before .before .before .before .before .before .before .args .b)) (c .before .before .before .before .before .before .before .before .before .before .before .before .before .before .before .before .before .before .before .before .before .pre) w) long)) (made .1 ∙ rw (made .0) refl))
 
 pub plan-in-spec : {M : Type 1} → statement M
