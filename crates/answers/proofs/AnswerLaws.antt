@@ -7,13 +7,12 @@ use Prim.Native.Nat.{ℕ, zero, suc, _+_, _*_, _/_, _%_, _≤_, _<_}
 use native.Mathlib.Decide.{decLt}
 use native.Mathlib.Numerals.{add-one}
 use native.Mathlib.Omega.{arith}
-use lib.Dec.{eqb, leb·suc-suc, lit≤}
+use lib.Dec.{eqb, lit≤}
 use lib.ListN.{length, length-append, take, drop, set, getD, drop-of-length-le}
 use lib.Seq.{take-suc-set, drop-cons}
 use borrow.Author.Tests.{eqb-true}
 use Rattle.sets.specs.Sets.{member}
-use Rattle.lines.specs.Digits.{digit, character, nibbleAt, byteAt}
-use Rattle.lines.proofs.DigitLaws.{nibble-in, nibble-out}
+use Rattle.lines.specs.Digits.{digit, character, frameOf}
 use Rattle.gate.specs.Gate.{allBelow}
 use Rattle.frames.specs.declared.Outcome.{Outcome}
 use Rattle.frames.specs.declared.Outcome.the-variants.{Accepted, Refused}
@@ -80,29 +79,14 @@ pub digit-back : (d : ℕ) → d < 16 → digit (character d) ≡ d
 unfolding allBelow digit character
 digit-back d h = back-below 16 refl d h
 
-nibble-step : (c : ℕ) (x : List ℕ) (i : ℕ) → nibbleAt (c ∷ x) (suc i) ≡ nibbleAt x i
-unfolding nibbleAt
-nibble-step c x i = rw (leb·suc-suc (suc i) (length x))
-
-byte-step : (c d : ℕ) (x : List ℕ) (k : ℕ) → byteAt (c ∷ d ∷ x) (suc k) ≡ byteAt x k
-unfolding byteAt
-byte-step c d x k =
-    let e : 2 * suc k ≡ suc (suc (2 * k)) = omega arith in
-    let f : suc (suc (2 * k)) + 1 ≡ suc (suc (2 * k + 1)) = omega arith in
-    rw (e, f) (simp nibble-step)
-
 -- Reading the digits of bytes back gives the bytes.
-pub read-back : (bs : List ℕ) → ((i : ℕ) → getD bs i 0 < 256) → (k : ℕ) → byteAt (hex bs) k ≡ getD bs k 0
-unfolding hex byteAt
-read-back [] h k = omega (arith, nibble-out [] (2 * k) (omega arith), nibble-out [] (2 * k + 1) (omega arith))
-read-back (b ∷ bs) h zero =
-    let x = hex (b ∷ bs) in
-    let long : length x ≡ suc (suc (length (hex bs))) = refl in
+pub read-back : (bs : List ℕ) → ((i : ℕ) → getD bs i 0 < 256) → frameOf (hex bs) ≡ bs
+unfolding hex frameOf
+read-back [] h = refl
+read-back (b ∷ bs) h =
     let small : b < 256 = h 0 in
-    let high : b / 16 ≡ nibbleAt x 0 = nibble-in x 0 (b / 16) (sym (digit-back (b / 16) (omega arith))) (omega arith) (omega arith) in
-    let low : b % 16 ≡ nibbleAt x 1 = nibble-in x 1 (b % 16) (sym (digit-back (b % 16) (omega arith))) (omega arith) (omega arith) in
-    omega arith
-read-back (b ∷ bs) h (suc k) = byte-step _ _ (hex bs) k ∙ read-back bs (λ i. h (suc i)) k
+    let byte : b / 16 * 16 + b % 16 ≡ b = omega arith in
+    rw (digit-back (b / 16) (omega arith), digit-back (b % 16) (omega arith), byte, read-back bs (λ i. h (suc i))) refl
 
 -- ---------------------------------------------------------------- counts
 

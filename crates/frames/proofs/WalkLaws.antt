@@ -10,15 +10,16 @@ use lib.Dec.{eqb}
 use lib.ListN.{length, take, drop, set, length-set, length-drop, drop-of-length-le}
 use lib.Seq.{take-suc-set, length-take-le}
 use borrow.Author.Tests.{eqb-true, ne-eqb}
-use Rattle.lines.specs.Digits.{byteAt}
+use Rattle.lines.specs.Digits.{byteAt, frameOf, malformed}
 use Rattle.lines.specs.Lines.{Line, ended, lines, toEnd}
+use Rattle.lines.proofs.DigitLaws.{well-long}
 use Rattle.lines.proofs.LineLaws.{line-ended, line-unended}
-use Rattle.gate.specs.Gate.{verdict}
+use Rattle.gate.specs.Gate.{verdict, lineVerdict}
 use Rattle.gate.specs.declared.Known.{Known}
 use Rattle.gate.specs.declared.Fault.{Fault}
 use Rattle.gate.specs.declared.Fault.the-variants.{Malformed, Misplaced}
 use Rattle.gate.specs.declared.Verdict.the-variants.{Good, Bad}
-use Rattle.gate.proofs.PassedLaws.{line-long, sizes-passed, edge-passed, rule-passed}
+use Rattle.gate.proofs.PassedLaws.{sizes-passed, edge-passed, rule-passed}
 use Rattle.frames.specs.declared.Rule.{Rule}
 use Rattle.frames.specs.declared.Query.{Query}
 use Rattle.frames.specs.declared.Refusal.the-variants.{BadLine}
@@ -38,7 +39,7 @@ pub record Held (book : List ℕ) (k : Known) (q : Query) (m fs : List ℕ) (rs 
   pub roomed : length rs ≡ 512
   pub left : walk nothing 1 (lines book) ≡ walk (held k q m fs rs) l (lines (drop i book))
 
--- The rules' array after a line x: a rule is stored behind the others.
+-- The rules' array after a frame x: a rule is stored behind the others.
 abbrev pub Stored : Known → List Rule → List ℕ → List Rule → Type 0
 Stored k rs x rs′ = ((byteAt x 0 ≡ 3) × (rs′ ≡ set rs (k .count) (ruleOf x))) ⊎ ((byteAt x 0 ≡ 3 → ⊥) × (rs′ ≡ rs))
 
@@ -50,7 +51,7 @@ juniors-length m x = kept (eqb (byteAt x 0) 2) (byteAt x 1) _
     kept true i v = length-set m i v
     kept false i v = refl
 
--- A passed line leaves at most 32 crews.
+-- A passed frame leaves at most 32 crews.
 crews-kept : (k : Known) (x : List ℕ) → verdict k x ≡ Good → k .sizes .crews ≤ 32 → knownAfter k x .sizes .crews ≤ 32
 unfolding knownAfter
 crews-kept k x e h = by-kind (eqb (byteAt x 0) 1) refl
@@ -64,7 +65,7 @@ crews-kept k x e h = by-kind (eqb (byteAt x 0) 1) refl
 pub junior-small : (k : Known) (x : List ℕ) → verdict k x ≡ Good → k .sizes .crews ≤ 32 → byteAt x 0 ≡ 2 → byteAt x 2 < 32
 junior-small k x e h is = let p = edge-passed k x e is in omega (arith, p .0, p .1)
 
--- What entering a line does to the rules and to their count.
+-- What entering a frame does to the rules and to their count.
 module _ (k : Known) (rs : List Rule) (x : List ℕ) (rs′ : List Rule) (room : length rs ≡ 512) where
   rules-rule : k .count < 512 → byteAt x 0 ≡ 3 → rs′ ≡ set rs (k .count) (ruleOf x)
       → (take (knownAfter k x .count) rs′ ≡ rulesAfter (take (k .count) rs) x) × ((knownAfter k x .count ≤ 512) × (length rs′ ≡ 512))
@@ -80,13 +81,17 @@ module _ (k : Known) (rs : List Rule) (x : List ℕ) (rs′ : List Rule) (room :
   rules-other h other e = (rw (ne-eqb _ _ other, e) refl, (rw (ne-eqb _ _ other) h, ap length e ∙ room))
 
 module _ (s : State) (l : ℕ) (x : List ℕ) (ls : List Line) where
-  walk-on : verdict (s .known) x ≡ Good → walk s l (ended x ∷ ls) ≡ walk (enter s x) (l + 1) ls
-  unfolding walk
-  walk-on e = rw e refl
+  walk-on : malformed x ≡ false → verdict (s .known) (frameOf x) ≡ Good → walk s l (ended x ∷ ls) ≡ walk (enter s (frameOf x)) (l + 1) ls
+  unfolding walk lineVerdict
+  walk-on m e = rw (m, e) refl
 
-  walk-bad : (f : Fault) → verdict (s .known) x ≡ Bad f → walk s l (ended x ∷ ls) ≡ refused (BadLine f l)
-  unfolding walk
-  walk-bad f e = rw e refl
+  walk-bad : (f : Fault) → malformed x ≡ false → verdict (s .known) (frameOf x) ≡ Bad f → walk s l (ended x ∷ ls) ≡ refused (BadLine f l)
+  unfolding walk lineVerdict
+  walk-bad f m e = rw (m, e) refl
+
+  walk-malformed : malformed x ≡ true → walk s l (ended x ∷ ls) ≡ refused (BadLine Malformed l)
+  unfolding walk lineVerdict
+  walk-malformed m = rw m refl
 
 module _ (book : List ℕ) (k : Known) (q : Query) (m fs : List ℕ) (rs : List Rule) (i l : ℕ) (inv : Held book k q m fs rs i l) where
   -- The end of the book behind a query, and without one.
@@ -104,30 +109,35 @@ module _ (book : List ℕ) (k : Known) (q : Query) (m fs : List ℕ) (rs : List 
     unfolding walk
     unended-bad h o = sym (inv .left ∙ rw (line-unended book i e is h o) refl)
 
-    pub line-bad : (f : Fault) → e < length book → verdict k (take (e - i) (drop i book)) ≡ Bad f
-        → refused (BadLine f l) ≡ walk nothing 1 (lines book)
-    unfolding held
-    line-bad f h v =
-        sym (inv .left ∙ (ap (walk (held k q m fs rs) l) (line-ended book i e is h) ∙ walk-bad (held k q m fs rs) l _ _ f v))
+    pub line-malformed : e < length book → malformed (take (e - i) (drop i book)) ≡ true → refused (BadLine Malformed l) ≡ walk nothing 1 (lines book)
+    line-malformed h ill =
+        sym (inv .left ∙ (ap (walk (held k q m fs rs) l) (line-ended book i e is h) ∙ walk-malformed (held k q m fs rs) l _ _ ill))
 
-    pub line-good : (x : List ℕ) (k′ : Known) (q′ : Query) (m′ fs′ : List ℕ) (rs′ : List Rule)
-        → e < length book → x ≡ take (e - i) (drop i book) → verdict k x ≡ Good
-        → k′ ≡ knownAfter k x → q′ ≡ queryAfter q x → m′ ≡ juniorsAfter m x → fs′ ≡ factsAfter fs x → Stored k rs x rs′
-        → Held book k′ q′ m′ fs′ rs′ (e + 1) (l + 1)
-    unfolding held enter
-    line-good x k′ q′ m′ fs′ rs′ h xs good ek eq em ef st =
-        let rules = ⊎-elim (λ w. rules-rule k rs x rs′ (inv .roomed) (rule-passed k x good (w .0) .1 .1) (w .0) (w .1))
-        (λ w. rules-other k rs x rs′ (inv .roomed) (inv .counted) (w .0) (w .1)) st in
-        record {
-          within = omega arith;
-          lined =
-              let long : 2 ≤ e - i = subst (λ (w : ℕ). 2 ≤ w) (ap length xs ∙ length-take-le (e - i) (drop i book) (omega (arith, length-drop i book))) (line-long k x good) in
-              omega (arith, inv .lined, is);
-          counted = rw ek (rules .1 .0);
-          crewed = rw ek (crews-kept k x good (inv .crewed));
-          edged = ap length em ∙ juniors-length m x ∙ inv .edged;
-          roomed = rules .1 .1;
-          left = inv .left ∙ ap (walk (held k q m fs rs) l) (line-ended book i e is h ∙ ap (λ (w : List ℕ). ended w ∷ lines (drop (e + 1) book)) (sym xs))
-              ∙ walk-on (held k q m fs rs) l x (lines (drop (e + 1) book)) good
-              ∙ rw (ek, eq, em, ef, rules .0) refl;
-        }
+    module _ (x : List ℕ) (h : e < length book) (well : malformed (take (e - i) (drop i book)) ≡ false) (xs : x ≡ frameOf (take (e - i) (drop i book))) where
+      pub line-bad : (f : Fault) → verdict k x ≡ Bad f → refused (BadLine f l) ≡ walk nothing 1 (lines book)
+      unfolding held
+      line-bad f v =
+          sym (inv .left ∙ (ap (walk (held k q m fs rs) l) (line-ended book i e is h) ∙ walk-bad (held k q m fs rs) l _ _ f well (ap (verdict k) (sym xs) ∙ v)))
+
+      pub line-good : (k′ : Known) (q′ : Query) (m′ fs′ : List ℕ) (rs′ : List Rule)
+          → verdict k x ≡ Good
+          → k′ ≡ knownAfter k x → q′ ≡ queryAfter q x → m′ ≡ juniorsAfter m x → fs′ ≡ factsAfter fs x → Stored k rs x rs′
+          → Held book k′ q′ m′ fs′ rs′ (e + 1) (l + 1)
+      unfolding held enter
+      line-good k′ q′ m′ fs′ rs′ good ek eq em ef st =
+          let rules = ⊎-elim (λ w. rules-rule k rs x rs′ (inv .roomed) (rule-passed k x good (w .0) .1 .1) (w .0) (w .1))
+          (λ w. rules-other k rs x rs′ (inv .roomed) (inv .counted) (w .0) (w .1)) st in
+          record {
+            within = omega arith;
+            lined =
+                let long : 2 ≤ e - i = subst (λ (w : ℕ). 2 ≤ w) (length-take-le (e - i) (drop i book) (omega (arith, length-drop i book))) (well-long (take (e - i) (drop i book)) well) in
+                omega (arith, inv .lined, is);
+            counted = rw ek (rules .1 .0);
+            crewed = rw ek (crews-kept k x good (inv .crewed));
+            edged = ap length em ∙ juniors-length m x ∙ inv .edged;
+            roomed = rules .1 .1;
+            left = inv .left ∙ ap (walk (held k q m fs rs) l) (line-ended book i e is h)
+                ∙ walk-on (held k q m fs rs) l (take (e - i) (drop i book)) (lines (drop (e + 1) book)) well (ap (verdict k) (sym xs) ∙ good)
+                ∙ ap (λ (w : List ℕ). walk (enter (held k q m fs rs) w) (l + 1) (lines (drop (e + 1) book))) (sym xs)
+                ∙ rw (ek, eq, em, ef, rules .0) refl;
+          }

@@ -4,13 +4,13 @@ use mathlib.Core.Bool.{true, false, cond}
 use mathlib.Core.List.{List, [], _∷_, _++_}
 use lib.ListN.{length, take, getD, set, replicate}
 use lib.Dec.{eqb, ltb}
-use Rattle.lines.specs.Digits.{byteAt}
+use Rattle.lines.specs.Digits.{frameOf, byteAt}
 use Rattle.lines.specs.Lines.{Line, ended, unended, lines}
 use Rattle.sets.specs.Sets.{put}
 use Rattle.facts.specs.Facts.{putFact, noFacts}
 use Rattle.facts.specs.declared.Fact.{Fact}
 use Rattle.facts.specs.declared.Fact.the-variants.{Holds, CrewHolds, Member}
-use Rattle.gate.specs.Gate.{verdict, faultNumber, pairAt, quadAt}
+use Rattle.gate.specs.Gate.{lineVerdict, faultNumber, pairAt, quadAt}
 use Rattle.gate.specs.declared.Sizes.{Sizes}
 use Rattle.gate.specs.declared.Known.{Known}
 use Rattle.gate.specs.declared.Fault.the-variants.{Malformed, Misplaced}
@@ -53,9 +53,9 @@ pub data Answer : Type 0 where
   refused : Refusal → Answer
   accepted : Contents → Answer
 
--- ---------------------------------------------------------------- what one good line writes
+-- ---------------------------------------------------------------- what one good frame writes
 
--- "A term is kind a v": term j of a rule's line.
+-- "A term is kind a v": term j of a rule's frame.
 unfoldable pub termAt : List ℕ → ℕ → Term
 termAt x j = record { kind = byteAt x (6 + 3 * j); a = byteAt x (7 + 3 * j); v = byteAt x (8 + 3 * j) }
 
@@ -92,7 +92,7 @@ factsAfter m x = cond (eqb (byteAt x 0) 4) (putFact m (factOf (byteAt x 1) (byte
 unfoldable pub rulesAfter : List Rule → List ℕ → List Rule
 rulesAfter rs x = cond (eqb (byteAt x 0) 3) (rs ++ (ruleOf x ∷ [])) rs
 
--- "attribute set(2)": number j of a query's line.
+-- "attribute set(2)": number j of a query's frame.
 unfoldable pub wantAt : List ℕ → ℕ → Want
 wantAt x j = record { attr = record { 0 = byteAt x (6 + 3 * j) }; set = pairAt x (7 + 3 * j) }
 
@@ -182,7 +182,7 @@ onward (Bad f) k rest = refused (BadLine f k)
 unfoldable pub walk : State → ℕ → List Line → Answer
 walk s k [] = cond (s .known .asked) (accepted (contents s)) (refused (BadLine Misplaced k))
 walk s k (unended x ∷ ls) = refused (BadLine Malformed k)
-walk s k (ended x ∷ ls) = onward (verdict (s .known) x) k (walk (enter s x) (k + 1) ls)
+walk s k (ended x ∷ ls) = onward (lineVerdict (s .known) x) k (walk (enter s (frameOf x)) (k + 1) ls)
 
 -- "At most 65,536 characters": "Order: 1; then the earliest bad line, and in a line the lowest of 2-9".
 unfoldable pub bookOf : List ℕ → Answer

@@ -120,7 +120,7 @@ fn terms_of(x: &[u8]) -> [Term; 8]
     [t0, t1, t2, t3, t4, t5, t6, t7]
 }
 
-// The rule that a 03 line writes.
+// The rule that a 03 frame writes.
 fn rule_of(x: &[u8]) -> Rule
     ensures { λ r. ⌜ r ≡ ruleOf (now (x .entry)) ⌝ }
 {
@@ -140,7 +140,7 @@ fn rule_of(x: &[u8]) -> Rule
     }
 }
 
-// What is known behind one good line more.
+// What is known behind one good frame more.
 fn known_after(k: gate::Known, x: &[u8]) -> gate::Known
     requires { ⌜ k .count ≤ 512 ⌝ }
     ensures { λ r. ⌜ r ≡ knownAfter k (now (x .entry)) ⌝ }
@@ -184,7 +184,7 @@ fn known_after(k: gate::Known, x: &[u8]) -> gate::Known
     k
 }
 
-// An edge line puts its junior into its senior's set.
+// An edge frame puts its junior into its senior's set.
 fn enter_edge(m: &mut [u32; 32], x: &[u8])
     requires { ⌜ (byteAt (now x) 0 ≡ 2 → byteAt (now x) 2 < 32) ⌝ }
     requires { ⌜ length (now m) ≡ 32 ⌝ }
@@ -201,7 +201,7 @@ fn enter_edge(m: &mut [u32; 32], x: &[u8])
     }
 }
 
-// The fact that a 04 line writes.
+// The fact that a 04 frame writes.
 fn fact_of(k: u8, s: u8, a: u8, v: u8) -> Fact
     ensures { λ r. ⌜ r ≡ factOf k s a v ⌝ }
 {
@@ -214,7 +214,7 @@ fn fact_of(k: u8, s: u8, a: u8, v: u8) -> Fact
     Fact::Member(Person(s), Crew(a))
 }
 
-// A fact's line puts its fact in.
+// A fact's frame puts its fact in.
 fn enter_fact(m: &mut [u8; 1792], x: &[u8])
     ensures { λ r. ⌜ now (m .exit) ≡ factsAfter (now (m .entry)) (now (x .entry)) ⌝ }
 {
@@ -251,7 +251,7 @@ fn wants_of(x: &[u8]) -> [Want; 8]
     [w0, w1, w2, w3, w4, w5, w6, w7]
 }
 
-// The query that a 05 line writes.
+// The query that a 05 frame writes.
 fn query_of(x: &[u8]) -> Query
     ensures { λ r. ⌜ r ≡ queryOf (now (x .entry)) ⌝ }
 {
@@ -370,6 +370,7 @@ fn read_lines(book: &[u8]) -> Reading
     let mut facts = [0u8; 1792];
     let none = no_rule();
     let mut rules = [none; 512];
+    let mut frame = [0u8; 32768];
     let mut cursor = lines::opening_line();
     while cursor.at < book.len() {
         let at = cursor.at;
@@ -377,8 +378,13 @@ fn read_lines(book: &[u8]) -> Reading
         if book.len() <= e {
             return turned_back(Refusal::BadLine(gate::Fault::Malformed, cursor.line));
         }
-        let x = &book[at..e];
-        let verdict = gate::judge_line(known, x);
+        let line = &book[at..e];
+        let decoded = lines::decode(line, &mut frame);
+        let lines::Frame::Bytes(n) = decoded else {
+            return turned_back(Refusal::BadLine(gate::Fault::Malformed, cursor.line));
+        };
+        let x = &frame[..n];
+        let verdict = gate::judge_frame(known, x);
         if let gate::Verdict::Bad(f) = verdict {
             return turned_back(Refusal::BadLine(f, cursor.line));
         }

@@ -5,7 +5,7 @@ use mathlib.Core.Bool.{Bool, true, not, cond, _&&_, _||_}
 use mathlib.Core.List.{List}
 use lib.ListN.{length}
 use lib.Dec.{eqb, ltb, leb}
-use Rattle.lines.specs.Digits.{malformed, byteAt}
+use Rattle.lines.specs.Digits.{malformed, frameOf, byteAt}
 use Rattle.sets.specs.Sets.{within}
 use Rattle.gate.specs.declared.Sizes.{Sizes}
 use Rattle.gate.specs.declared.Known.{Known}
@@ -59,7 +59,7 @@ isValue z a v = isAttr z a && ltb v (valuesOf z a)
 abbrev pub isCrewField : Sizes → ℕ → ℕ → Bool
 isCrewField z a v = isCrew z a && eqb v 0
 
--- "Sets are big-endian": the sets that two and four bytes of a line write.
+-- "Sets are big-endian": the sets that two and four bytes of a frame write.
 unfoldable pub pairAt : List ℕ → ℕ → ℕ
 pairAt x i = byteAt x i * 256 + byteAt x (i + 1)
 
@@ -82,7 +82,7 @@ lengthOf kind mode n =
     (6 + 3 * n + cond (eqb mode 2) 4 0))))
 
 unfoldable pub mislengthed : List ℕ → Bool
-mislengthed x = not (eqb (length x) (2 * lengthOf (byteAt x 0) (byteAt x 1) (byteAt x 5)))
+mislengthed x = not (eqb (length x) (lengthOf (byteAt x 0) (byteAt x 1) (byteAt x 5)))
 
 -- ---------------------------------------------------------------- 01 P G A V
 
@@ -123,7 +123,7 @@ headGood z op role a v n =
 abbrev pub termGood : Sizes → ℕ → ℕ → ℕ → Bool
 termGood z kind a v = (between 1 2 kind && isValue z a v) || (between 3 4 kind && isCrewField z a v)
 
--- The fields of term j of a rule's line.
+-- The fields of term j of a rule's frame.
 abbrev pub termGoodAt : Sizes → List ℕ → ℕ → Bool
 termGoodAt z x j = termGood z (byteAt x (6 + 3 * j)) (byteAt x (7 + 3 * j)) (byteAt x (8 + 3 * j))
 
@@ -160,7 +160,7 @@ factVerdict z x = cond (factGood z (byteAt x 1) (byteAt x 2) (byteAt x 3) (byteA
 
 -- ---------------------------------------------------------------- 05 mode person roles(2) q, then q of attribute set(2), and crews(4)
 
--- Attribute and set number j of a query's line: "a set bit outside the sizes" is refused.
+-- Attribute and set number j of a query's frame: "a set bit outside the sizes" is refused.
 abbrev pub wantGoodAt : Sizes → List ℕ → ℕ → Bool
 wantGoodAt z x j = isAttr z (byteAt x (6 + 3 * j)) && within (pairAt x (7 + 3 * j)) (valuesOf z (byteAt x (6 + 3 * j)))
 
@@ -187,7 +187,7 @@ queryVerdict z x =
 
 -- ---------------------------------------------------------------- "in a line the lowest of 2-9"
 
--- 5-9, by the line's kind.
+-- 5-9, by the frame's kind.
 unfoldable pub fieldsVerdict : Known → List ℕ → Verdict
 fieldsVerdict k x =
     cond (eqb (byteAt x 0) 1) (sizesVerdict x)
@@ -196,10 +196,13 @@ fieldsVerdict k x =
     (cond (eqb (byteAt x 0) 4) (factVerdict (k .sizes) x)
     (queryVerdict (k .sizes) x))))
 
--- The lowest refusal of an ended line, or Good.
+-- 3-9 of a frame, or Good.
 unfoldable pub verdict : Known → List ℕ → Verdict
 verdict k x =
-    cond (malformed x) (Bad Malformed)
-    (cond (misplaced k (byteAt x 0)) (Bad Misplaced)
+    cond (misplaced k (byteAt x 0)) (Bad Misplaced)
     (cond (mislengthed x) (Bad Mislengthed)
-    (fieldsVerdict k x)))
+    (fieldsVerdict k x))
+
+-- The lowest refusal of an ended line, given as its characters, or Good.
+unfoldable pub lineVerdict : Known → List ℕ → Verdict
+lineVerdict k x = cond (malformed x) (Bad Malformed) (verdict k (frameOf x))

@@ -1,4 +1,4 @@
-// The refusals 2-9 of one ended line, given what the lines above it tell.
+// The refusals 3-9 of one line's frame, given what the lines above it tell.
 ghost use mathlib.Core.Path.{_≡_};
 ghost use mathlib.Core.Bool.{_||_, _&&_, not};
 ghost use lib.Dec.{ltb, eqb, leb};
@@ -84,7 +84,7 @@ pub fn is_crew_field(z: Sizes, a: u8, v: u8) -> bool
     (a < z.crews) & (v == 0)
 }
 
-// The set that two bytes of a line write.
+// The set that two bytes of a frame write.
 pub fn pair_at(x: &[u8], i: usize) -> u32
     requires { ⌜ i < 65000 ⌝ }
     ensures { λ r. ⌜ r ≡ pairAt (now (x .entry)) i ⌝ }
@@ -94,14 +94,16 @@ pub fn pair_at(x: &[u8], i: usize) -> u32
     (h as u32) * 256 + (l as u32)
 }
 
-// The set that four bytes of a line write.
+// The set that four bytes of a frame write.
 pub fn quad_at(x: &[u8], i: usize) -> u32
     requires { ⌜ i < 64000 ⌝ }
     ensures { λ r. ⌜ r ≡ quadAt (now (x .entry)) i ⌝ }
 {
-    let h = pair_at(x, i);
-    let l = pair_at(x, i + 2);
-    h * 65536 + l
+    let b0 = lines::byte_at(x, i) as u32;
+    let b1 = lines::byte_at(x, i + 1) as u32;
+    let b2 = lines::byte_at(x, i + 2) as u32;
+    let b3 = lines::byte_at(x, i + 3) as u32;
+    (b0 * 256 + b1) * 65536 + (b2 * 256 + b3)
 }
 
 fn is_misplaced(k: Known, kind: u8) -> bool
@@ -145,7 +147,7 @@ fn is_mislengthed(x: &[u8]) -> bool
         lines::byte_at(x, 1),
         lines::byte_at(x, 5),
     );
-    x.len() != 2 * n
+    x.len() != n
 }
 
 fn are_sizes(p: u8, g: u8, a: u8, v: u8) -> bool
@@ -383,7 +385,7 @@ fn query_verdict(z: Sizes, x: &[u8]) -> Verdict
     Verdict::Good
 }
 
-// The lowest of 5-9 that falls on a line whose kind and length are right.
+// The lowest of 5-9 that falls on a frame whose kind and length are right.
 fn fields_verdict(k: Known, x: &[u8]) -> Verdict
     ensures { λ r. ⌜ r ≡ fieldsVerdict k (now (x .entry)) ⌝ }
 {
@@ -403,13 +405,10 @@ fn fields_verdict(k: Known, x: &[u8]) -> Verdict
     query_verdict(k.sizes, x)
 }
 
-// The lowest of 2-9 that falls on an ended line, or Good.
-pub fn judge_line(k: Known, x: &[u8]) -> Verdict
+// The lowest of 3-9 that falls on a frame, or Good.
+pub fn judge_frame(k: Known, x: &[u8]) -> Verdict
     ensures { λ r. ⌜ r ≡ verdict k (now (x .entry)) ⌝ }
 {
-    if lines::is_malformed(x) {
-        return Verdict::Bad(Fault::Malformed);
-    }
     if is_misplaced(k, lines::byte_at(x, 0)) {
         return Verdict::Bad(Fault::Misplaced);
     }

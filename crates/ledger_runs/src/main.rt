@@ -131,10 +131,32 @@ fn digit_count(text: &[u8]) -> usize {
     i
 }
 
+// The digit at a place of an operand; 0 past its end and at another character.
+fn digit_at(operand: &[u8], i: usize) -> u8
+    ensures { λ r. ⌜ r ≤ 15 ⌝ }
+{
+    if i < operand.len() {
+        let d = lines::digit_of(operand[i]);
+        if d < 16 {
+            return d;
+        }
+        return 0;
+    }
+    0
+}
+
+// Byte k that an operand's digits write.
+fn byte_at(operand: &[u8], k: u8) -> u8 {
+    let i = 2 * (k as usize);
+    let high = digit_at(operand, i);
+    let low = digit_at(operand, i + 1);
+    high * 16 + low
+}
+
 // The number that the first two bytes of an operand write.
 fn number_of(operand: &[u8]) -> usize {
-    let high = lines::byte_at(operand, 0) as usize;
-    let low = lines::byte_at(operand, 1) as usize;
+    let high = byte_at(operand, 0) as usize;
+    let low = byte_at(operand, 1) as usize;
     high * 256 + low
 }
 
@@ -147,14 +169,14 @@ fn open(book: &[u8], room: &mut [u8], len: usize) {
 // A request of as many bytes as the operand has, at most eight.
 fn request(book: &[u8], room: &mut [u8], len: usize, operand: &[u8]) {
     let q = [
-        lines::byte_at(operand, 0),
-        lines::byte_at(operand, 1),
-        lines::byte_at(operand, 2),
-        lines::byte_at(operand, 3),
-        lines::byte_at(operand, 4),
-        lines::byte_at(operand, 5),
-        lines::byte_at(operand, 6),
-        lines::byte_at(operand, 7),
+        byte_at(operand, 0),
+        byte_at(operand, 1),
+        byte_at(operand, 2),
+        byte_at(operand, 3),
+        byte_at(operand, 4),
+        byte_at(operand, 5),
+        byte_at(operand, 6),
+        byte_at(operand, 7),
     ];
     let m = lent(&q, digit_count(operand) / 2);
     let n = lent(room, len);
@@ -163,7 +185,7 @@ fn request(book: &[u8], room: &mut [u8], len: usize, operand: &[u8]) {
 }
 
 fn show(book: &[u8], room: &[u8], len: usize, operand: &[u8]) {
-    let p = lines::byte_at(operand, 0);
+    let p = byte_at(operand, 0);
     let n = lent(room, len);
     let shown = ledger::show(book, &room[..n], Person(p));
     print_shown(shown);
@@ -172,7 +194,7 @@ fn show(book: &[u8], room: &[u8], len: usize, operand: &[u8]) {
 // Overwrites the byte at a place.
 fn damage(room: &mut [u8], operand: &[u8]) {
     let at = number_of(operand);
-    let b = lines::byte_at(operand, 2);
+    let b = byte_at(operand, 2);
     if at < room.len() {
         room[at] = b;
     }
@@ -225,7 +247,7 @@ fn prepare(command: u8, operand: &[u8], room: &mut [u8], kept: &mut [u8]) -> boo
         return true;
     }
     if command == b'f' {
-        fill(room, lines::byte_at(operand, 0));
+        fill(room, byte_at(operand, 0));
         return true;
     }
     if command == b'=' {

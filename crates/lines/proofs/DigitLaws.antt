@@ -9,23 +9,7 @@ use lib.Dec.{ltb, eqb, lit<}
 use lib.ListN.{length, getD, drop, drop-of-length-le}
 use lib.Seq.{drop-cons}
 use borrow.Author.Tests.{ltb-true, eqb-false, lt-ltb, le-ltb, eq-eqb, ne-eqb}
-use Rattle.lines.specs.Digits.{digit, isDigit, all, malformed, nibbleAt, byteAt}
-
-capped : (b : Bool) (d : ℕ) → ltb d 16 ≡ b → cond b d 0 < 16
-capped true d e = ltb-true d 16 e
-capped false d e = lit< tt
-
-within : (b : Bool) (d : ℕ) → d < 16 → cond b d 0 < 16
-within true d h = h
-within false d h = lit< tt
-
-pub nibble-small : (x : List ℕ) (i : ℕ) → nibbleAt x i < 16
-unfolding nibbleAt isDigit
-nibble-small x i = within (ltb i (length x)) _ (capped (ltb (digit (getD x i 0)) 16) (digit (getD x i 0)) refl)
-
-pub byte-small : (x : List ℕ) (k : ℕ) → byteAt x k < 256
-unfolding byteAt
-byte-small x k = omega (arith, nibble-small x (2 * k), nibble-small x (2 * k + 1))
+use Rattle.lines.specs.Digits.{digit, isDigit, all, malformed}
 
 module _ {A : Type 0} (p : A → Bool) (xs : List A) where
   cons-at : (i : ℕ) (d : A) → i < length xs → drop i xs ≡ getD xs i d ∷ drop (i + 1) xs
@@ -44,14 +28,6 @@ module _ {A : Type 0} (p : A → Bool) (xs : List A) where
   all-pass i d h e = ap (all p) (cons-at i d h) ∙ rw e
 
 module _ (x : List ℕ) (i d : ℕ) (is : d ≡ digit (getD x i 0)) where
-  pub nibble-in : i < length x → d < 16 → d ≡ nibbleAt x i
-  unfolding nibbleAt isDigit
-  nibble-in h s = rw (lt-ltb i (length x) h, ← is, lt-ltb d 16 s) refl
-
-  pub nibble-other : i < length x → 16 ≤ d → 0 ≡ nibbleAt x i
-  unfolding nibbleAt isDigit
-  nibble-other h s = rw (lt-ltb i (length x) h, ← is, le-ltb d 16 s) refl
-
   pub digit-yes : d < 16 → isDigit (getD x i 0) ≡ true
   unfolding isDigit
   digit-yes s = rw (← is, lt-ltb d 16 s) refl
@@ -59,10 +35,6 @@ module _ (x : List ℕ) (i d : ℕ) (is : d ≡ digit (getD x i 0)) where
   pub digit-no : 16 ≤ d → isDigit (getD x i 0) ≡ false
   unfolding isDigit
   digit-no s = rw (← is, le-ltb d 16 s) refl
-
-pub nibble-out : (x : List ℕ) (i : ℕ) → length x ≤ i → 0 ≡ nibbleAt x i
-unfolding nibbleAt
-nibble-out x i h = rw (le-ltb i (length x) h) refl
 
 module _ (x : List ℕ) where
   pub malformed-empty : length x ≡ 0 → true ≡ malformed x

@@ -1,9 +1,12 @@
 -- The digits of Base 16, and the bytes that a line's characters write.
-use Prim.Native.Nat.{ℕ, suc, _+_, _*_, _%_}
-use mathlib.Core.Bool.{Bool, true, not, cond, _&&_}
+use Prim.Native.Nat.{ℕ, suc, _+_, _*_, _%_, _≤_}
+use mathlib.Core.Path.{_≡_}
+use mathlib.Core.Bool.{Bool, true, false, not, cond, _&&_}
 use mathlib.Core.List.{List, [], _∷_}
-use lib.ListN.{length, getD}
+use lib.ListN.{length, take, getD}
 use lib.Dec.{eqb, ltb}
+use Rattle.lines.specs.declared.Frame.{Frame}
+use Rattle.lines.specs.declared.Frame.the-variants.{Malformed, Bytes}
 
 -- RFC 4648, Table 5, "The Base 16 Alphabet": the characters 0-9 (48-57) and A-F (65-70), each at the place of its value.
 abbrev pub alphabet : List ℕ
@@ -33,10 +36,28 @@ all p (x ∷ xs) = p x && all p xs
 unfoldable pub malformed : List ℕ → Bool
 malformed x = cond (eqb (length x) 0) true (cond (eqb (length x % 2) 1) true (not (all isDigit x)))
 
--- The value of the digit at place i; 0 past the end and at another character.
-unfoldable pub nibbleAt : List ℕ → ℕ → ℕ
-nibbleAt x i = cond (ltb i (length x)) (cond (isDigit (getD x i 0)) (digit (getD x i 0)) 0) 0
+-- "one frame a line, digits [..], two a byte": the bytes that a line's digits write.
+unfoldable pub frameOf : List ℕ → List ℕ
+frameOf [] = []
+frameOf (h ∷ []) = []
+frameOf (h ∷ l ∷ x) = (digit h * 16 + digit l) ∷ frameOf x
 
--- "two a byte": byte k of the frame that a line's characters write.
+-- Byte k of a frame; 0 past its end.
 unfoldable pub byteAt : List ℕ → ℕ → ℕ
-byteAt x k = nibbleAt x (2 * k) * 16 + nibbleAt x (2 * k + 1)
+byteAt frame k = getD frame k 0
+
+-- ---------------------------------------------------------------- what the code's value stands for
+
+-- The line's frame of n bytes stands in the buffer's front.
+pub record InFront (x : List ℕ) (n : ℕ) (buffer : List ℕ) : Type 0 where
+  pub front : take n buffer ≡ frameOf x
+  pub fits : n ≤ length buffer
+
+abbrev pub Written : List ℕ → Frame → List ℕ → Type 0
+Written x Malformed buffer = malformed x ≡ true
+Written x (Bytes n) buffer = (malformed x ≡ false) × InFront x n buffer
+
+-- What a line has written to a buffer.
+pub record Decoded (x : List ℕ) (r : Frame) (before after : List ℕ) : Type 0 where
+  pub written : Written x r after
+  pub size : length after ≡ length before

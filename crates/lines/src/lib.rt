@@ -2,7 +2,7 @@
 ghost use mathlib.Core.Path.{_≡_};
 ghost use Prim.Native.Nat.{_+_, _*_, _<_, _≤_};
 ghost use lib.ListN.{length, drop};
-ghost use Rattle.lines.specs.Digits.{digit, character, malformed, nibbleAt, byteAt};
+ghost use Rattle.lines.specs.Digits.{digit, character, byteAt, Decoded};
 ghost use Rattle.lines.specs.Lines.{toEnd, opening, following};
 
 // A place in a book: the character at which a line starts, and the line's number.
@@ -65,48 +65,47 @@ pub fn character_of(d: u8) -> u8
     ALPHABET[i]
 }
 
-// The value of the digit at place i; 0 past the end and at another character.
-pub fn nibble_at(x: &[u8], i: usize) -> u8
-    ensures { λ r. ⌜ r ≡ nibbleAt (now (x .entry)) i ⌝ }
-{
-    if i < x.len() {
-        let d = digit_of(x[i]);
-        if d < 16 {
-            return d;
-        }
-        return 0;
-    }
-    0
+// What an ended line writes: nothing, by refusal 2, or a frame of some bytes.
+pub enum Frame {
+    Malformed,
+    Bytes(usize),
 }
 
-// Byte k of the frame that a line's digits write; 0 past the end.
-pub fn byte_at(x: &[u8], k: usize) -> u8
-    requires { ⌜ k < 65536 ⌝ }
-    ensures { λ r. ⌜ r ≡ byteAt (now (x .entry)) k ⌝ }
-{
-    let h = nibble_at(x, 2 * k);
-    let l = nibble_at(x, 2 * k + 1);
-    h * 16 + l
-}
-
-// Refusal 2 of an ended line: empty, an odd number of digits, or another character.
-pub fn is_malformed(x: &[u8]) -> bool
-    ensures { λ r. ⌜ r ≡ malformed (now (x .entry)) ⌝ }
+// Writes the line's frame to the front of `frame`, unless the line is empty, has an odd number of digits, or another character.
+pub fn decode(x: &[u8], frame: &mut [u8]) -> Frame
+    requires { ⌜ (length (now x) ≤ 65536) × (length (now x) ≤ 2 * length (now frame)) ⌝ }
+    ensures { λ r. ⌜ Decoded (now (x .entry)) r (now (frame .entry)) (now (frame .exit)) ⌝ }
 {
     if x.len() == 0 {
-        return true;
+        return Frame::Malformed;
     }
     if x.len() % 2 == 1 {
-        return true;
+        return Frame::Malformed;
     }
-    let mut i: usize = 0;
-    while i < x.len() {
-        if digit_of(x[i]) >= 16 {
-            return true;
+    let mut k: usize = 0;
+    while 2 * k < x.len() {
+        let high = digit_of(x[2 * k]);
+        let low = digit_of(x[2 * k + 1]);
+        if high >= 16 {
+            return Frame::Malformed;
         }
-        i += 1;
+        if low >= 16 {
+            return Frame::Malformed;
+        }
+        frame[k] = high * 16 + low;
+        k += 1;
     }
-    false
+    Frame::Bytes(k)
+}
+
+// Byte k of a frame; 0 past its end.
+pub fn byte_at(frame: &[u8], k: usize) -> u8
+    ensures { λ r. ⌜ r ≡ byteAt (now (frame .entry)) k ⌝ }
+{
+    if k < frame.len() {
+        return frame[k];
+    }
+    0
 }
 
 // Where a book's first line starts.

@@ -1,24 +1,26 @@
 -- `frames::read_lines` meets its contract. The invariant `Held` says that what is left of the book decides the answer; the
 -- measure is what is left of its length. Each turn is one law of WalkLaws. Assumes nothing.
-use mathlib.Core.Path.{refl, sym, ap, _∙_}
+use mathlib.Core.Path.{_≡_, refl, sym, ap, _∙_}
 use mathlib.Core.Logic.{⊎-elim, inl, inr}
 use borrow.Author.Tests.{not-true, not-false}
 use Prim.Native.Nat.{_-_}
-use lib.ListN.{length, drop, take, set}
-use Rattle.gate.proofs.PassedLaws.{rule-passed}
-use Rattle.frames.specs.Book.{answerOf, contentsOf, listed, nothing}
-use Rattle.facts.specs.Facts.{noFacts}
-use Rattle.frames.proofs.WalkLaws.{held, Held, Stored, at-end-good, at-end-bad, unended-bad, line-bad, line-good, junior-small}
-use borrow.Author.Needs.{needs}
 use native.Mathlib.Omega.{arith}
+use lib.ListN.{length, drop, take, set, length-drop}
+use lib.Seq.{length-take-le}
+use Rattle.lines.proofs.FrameLaws.{decoded-frame, decoded-malformed}
+use Rattle.gate.proofs.PassedLaws.{rule-passed}
+use Rattle.facts.specs.Facts.{noFacts}
+use Rattle.frames.specs.Book.{answerOf, contentsOf, listed, nothing}
+use Rattle.frames.proofs.WalkLaws.{held, Held, Stored, at-end-good, at-end-bad, unended-bad, line-malformed, line-bad, line-good, junior-small}
+use borrow.Author.Needs.{needs}
 use Rattle.frames.proofs.read_lines.Statement.{statement}
 use Rattle.frames.proofs.read_lines.Tie as tie
 
 abbrev Inv-loop : tie.InvT-loop
-Inv-loop book known₀ query₀ juniors₀ facts₀ rules₀ cursor₀ known query juniors facts rules cursor = Held book known query juniors facts rules (cursor .at) (cursor .line)
+Inv-loop book known₀ query₀ juniors₀ facts₀ rules₀ frame₀ cursor₀ known query juniors facts rules frame cursor = Held book known query juniors facts rules (cursor .at) (cursor .line) × (length frame ≡ 32768)
 
 abbrev μ-loop : tie.MeasureT-loop
-μ-loop book known₀ query₀ juniors₀ facts₀ rules₀ cursor₀ known query juniors facts rules cursor = length book - cursor .at
+μ-loop book known₀ query₀ juniors₀ facts₀ rules₀ frame₀ cursor₀ known query juniors facts rules frame cursor = length book - cursor .at
 
 no-query-requires : tie.Need-no-query-requires Inv-loop μ-loop
 no-query-requires c κs = search needs
@@ -31,7 +33,7 @@ opening-line-requires c κs = search needs
 
 loop-holds : tie.Need-loop-holds Inv-loop μ-loop
 unfolding held nothing noFacts
-loop-holds c = rw (c .opening-line .ensures) (record { within = omega arith; lined = omega arith; counted = omega arith; crewed = omega arith; edged = refl; roomed = refl; left = rw (c .before .before .no-query .ensures) })
+loop-holds c = rw (c .opening-line .ensures) (record { within = omega arith; lined = omega arith; counted = omega arith; crewed = omega arith; edged = refl; roomed = refl; left = rw (c .before .before .no-query .ensures) }, refl)
 
 line-end-requires : tie.Need-line-end-requires Inv-loop μ-loop
 line-end-requires c κs = search needs
@@ -40,34 +42,58 @@ turned-back-requires : tie.Need-turned-back-requires Inv-loop μ-loop
 turned-back-requires c κs = search needs
 
 returns : tie.Need-returns Inv-loop μ-loop
-returns c = c .turned-back .ensures ∙ unended-bad (c .before .before .before .before .before .before .before .before .before .before .args .book .now) (c .before .before .before .before .before .loop .known) (c .before .before .before .before .before .loop .query) (c .before .before .before .before .before .loop .juniors) (c .before .before .before .before .before .loop .facts) (c .before .before .before .before .before .loop .rules) (c .before .before .before .before .before .loop .cursor .at) (c .before .before .before .before .before .loop .cursor .line) (c .before .before .before .before .before .loop .inv) _ (c .before .before .line-end .ensures) (c .before .before .before .if1 .taken) (c .before .if2 .taken)
+returns c = let at = c .before .before .before .before .before .loop in c .turned-back .ensures ∙ unended-bad _ (at .known) (at .query) (at .juniors) (at .facts) (at .rules) (at .cursor .at) (at .cursor .line) (at .inv .0) _ (c .before .before .line-end .ensures) (c .before .before .before .if1 .taken) (c .before .if2 .taken)
 
-sub-x : tie.Need-sub-x Inv-loop μ-loop
-sub-x c = omega (arith, c .before .line-end .ensures)
+sub-line : tie.Need-sub-line Inv-loop μ-loop
+sub-line c = omega (arith, c .before .line-end .ensures)
 
-part-x-start : tie.Need-part-x-start Inv-loop μ-loop
-part-x-start c = omega (arith, c .before .line-end .ensures)
+part-line-start : tie.Need-part-line-start Inv-loop μ-loop
+part-line-start c = omega (arith, c .before .line-end .ensures)
 
-part-x-end : tie.Need-part-x-end Inv-loop μ-loop
-part-x-end c = search needs
+part-line-end : tie.Need-part-line-end Inv-loop μ-loop
+part-line-end c = search needs
 
-judge-line-requires : tie.Need-judge-line-requires Inv-loop μ-loop
-judge-line-requires c κs = search needs
+slice-aggregate-decode : tie.Need-slice-aggregate-decode Inv-loop μ-loop
+slice-aggregate-decode c = search needs
 
-enum-known-verdict : tie.Need-enum-known-verdict Inv-loop μ-loop
-enum-known-verdict c = search needs
+decode-requires : tie.Need-decode-requires Inv-loop μ-loop
+decode-requires c κs = let at = c .before .before .before .before .before .before .loop in let size = length-take-le (c .before .before .before .line-end .result - at .cursor .at) (drop (at .cursor .at) (c .before .before .before .before .before .before .before .before .before .before .before .args .book .now)) (omega (arith, length-drop (at .cursor .at) (c .before .before .before .before .before .before .before .before .before .before .before .args .book .now), c .before .before .if2 .left)) in (omega (arith, size, c .before .before .if2 .left, c .before .before .before .before .before .before .before .before .before .before .before .pre), omega (arith, size, c .before .before .if2 .left, c .before .before .before .before .before .before .before .before .before .before .before .pre, at .inv .1))
+
+enum-known-decoded : tie.Need-enum-known-decoded Inv-loop μ-loop
+enum-known-decoded c = search needs
+
+enum-told : tie.Need-enum-told Inv-loop μ-loop
+enum-told c = search needs
 
 turned-back-requires-2 : tie.Need-turned-back-requires-2 Inv-loop μ-loop
 turned-back-requires-2 c κs = search needs
 
 returns-2 : tie.Need-returns-2 Inv-loop μ-loop
-returns-2 c = c .turned-back2 .ensures ∙ line-bad (c .before .before .before .before .before .before .before .before .before .before .before .before .before .before .before .args .book .now) (c .before .before .before .before .before .before .before .before .before .before .loop .known) (c .before .before .before .before .before .before .before .before .before .before .loop .query) (c .before .before .before .before .before .before .before .before .before .before .loop .juniors) (c .before .before .before .before .before .before .before .before .before .before .loop .facts) (c .before .before .before .before .before .before .before .before .before .before .loop .rules) (c .before .before .before .before .before .before .before .before .before .before .loop .cursor .at) (c .before .before .before .before .before .before .before .before .before .before .loop .cursor .line) (c .before .before .before .before .before .before .before .before .before .before .loop .inv) _ (c .before .before .before .before .before .before .before .line-end .ensures) (c .before .before .verdict .given .0 .0) (c .before .before .before .before .before .before .if2 .left) (sym (c .before .before .before .before .judge-line .ensures) ∙ c .before .before .verdict .given .1)
+returns-2 c = let at = c .before .before .before .before .before .before .before .before .before .before .before .loop in c .turned-back2 .ensures ∙ line-malformed _ (at .known) (at .query) (at .juniors) (at .facts) (at .rules) (at .cursor .at) (at .cursor .line) (at .inv .0) _ (c .before .before .before .before .before .before .before .before .line-end .ensures) (c .before .before .before .before .before .before .before .if2 .left) (decoded-malformed (c .before .before .before .before .decode .ensures) (c .before .enum-told .given .1))
 
-enum-told : tie.Need-enum-told Inv-loop μ-loop
-enum-told c = search needs
+array-share-prefix-frame : tie.Need-array-share-prefix-frame Inv-loop μ-loop
+array-share-prefix-frame c = omega (arith, decoded-frame (c .before .before .before .before .decode .ensures) (c .before .decoded .given .1) .1 .fits, c .before .before .before .before .decode .ensures .size, c .before .before .before .before .before .before .before .before .before .before .before .loop .inv .1)
+
+slice-aggregate-x : tie.Need-slice-aggregate-x Inv-loop μ-loop
+slice-aggregate-x c = sym (length-take-le _ _ (decoded-frame (c .before .before .before .before .before .decode .ensures) (c .before .before .decoded .given .1) .1 .fits))
+
+judge-frame-requires : tie.Need-judge-frame-requires Inv-loop μ-loop
+judge-frame-requires c κs = search needs
+
+enum-known-verdict : tie.Need-enum-known-verdict Inv-loop μ-loop
+enum-known-verdict c = search needs
+
+turned-back-requires-3 : tie.Need-turned-back-requires-3 Inv-loop μ-loop
+turned-back-requires-3 c κs = search needs
+
+returns-3 : tie.Need-returns-3 Inv-loop μ-loop
+returns-3 c = let at = c .before .before .before .before .before .before .before .before .before .before .before .before .before .before .before .before .before .loop in let line = decoded-frame (c .before .before .before .before .before .before .before .before .before .before .decode .ensures) (c .before .before .before .before .before .before .before .decoded .given .1) in c .turned-back3 .ensures ∙ line-bad _ (at .known) (at .query) (at .juniors) (at .facts) (at .rules) (at .cursor .at) (at .cursor .line) (at .inv .0) _ (c .before .before .before .before .before .before .before .before .before .before .before .before .before .before .line-end .ensures) _ (c .before .before .before .before .before .before .before .before .before .before .before .before .before .if2 .left) (line .0) (line .1 .front) (c .before .before .verdict .given .0 .0) (sym (c .before .before .before .before .judge-frame .ensures) ∙ c .before .before .verdict .given .1)
+
+enum-told-2 : tie.Need-enum-told-2 Inv-loop μ-loop
+enum-told-2 c = search needs
 
 enter-edge-requires : tie.Need-enter-edge-requires Inv-loop μ-loop
-enter-edge-requires c κs = (junior-small (c .before .before .before .before .before .before .before .before .before .loop .known) _ (sym (c .before .before .before .judge-line .ensures) ∙ c .before .enum-told .given .1) (c .before .before .before .before .before .before .before .before .before .loop .inv .crewed), c .before .before .before .before .before .before .before .before .before .loop .inv .edged)
+enter-edge-requires c κs = (junior-small (c .before .before .before .before .before .before .before .before .before .before .before .before .before .before .before .before .loop .known) _ (sym (c .before .before .before .judge-frame .ensures) ∙ c .before .enum-told2 .given .1) (c .before .before .before .before .before .before .before .before .before .before .before .before .before .before .before .before .loop .inv .0 .crewed), c .before .before .before .before .before .before .before .before .before .before .before .before .before .before .before .before .loop .inv .0 .edged)
 
 enter-fact-requires : tie.Need-enter-fact-requires Inv-loop μ-loop
 enter-fact-requires c κs = search needs
@@ -82,41 +108,40 @@ rule-of-requires : tie.Need-rule-of-requires Inv-loop μ-loop
 rule-of-requires c κs = search needs
 
 mul-rules : tie.Need-mul-rules Inv-loop μ-loop
-mul-rules c = omega (arith, rule-passed (c .before .before .before .before .before .before .before .before .before .before .before .before .before .before .before .before .loop .known) _ (sym (c .before .before .before .before .before .before .before .before .before .before .judge-line .ensures) ∙ c .before .before .before .before .before .before .before .before .enum-told .given .1) (sym (c .before .before .byte-at .ensures) ∙ c .before .if3 .taken) .1 .1)
+mul-rules c = omega (arith, rule-passed (c .before .before .before .before .before .before .before .before .before .before .before .before .before .before .before .before .before .before .before .before .before .before .before .loop .known) _ (sym (c .before .before .before .before .before .before .before .before .before .before .judge-frame .ensures) ∙ c .before .before .before .before .before .before .before .before .enum-told2 .given .1) (sym (c .before .before .byte-at .ensures) ∙ c .before .if3 .taken) .1 .1)
 
 array-set-from-rules : tie.Need-array-set-from-rules Inv-loop μ-loop
-array-set-from-rules c = rule-passed (c .before .before .before .before .before .before .before .before .before .before .before .before .before .before .before .before .loop .known) _ (sym (c .before .before .before .before .before .before .before .before .before .before .judge-line .ensures) ∙ c .before .before .before .before .before .before .before .before .enum-told .given .1) (sym (c .before .before .byte-at .ensures) ∙ c .before .if3 .taken) .1 .1
+array-set-from-rules c = rule-passed (c .before .before .before .before .before .before .before .before .before .before .before .before .before .before .before .before .before .before .before .before .before .before .before .loop .known) _ (sym (c .before .before .before .before .before .before .before .before .before .before .judge-frame .ensures) ∙ c .before .before .before .before .before .before .before .before .enum-told2 .given .1) (sym (c .before .before .byte-at .ensures) ∙ c .before .if3 .taken) .1 .1
 
 known-after-requires : tie.Need-known-after-requires Inv-loop μ-loop
-known-after-requires c κs = c .before .before .before .before .before .before .before .before .before .before .before .before .before .before .before .loop .inv .counted
+known-after-requires c κs = c .before .before .before .before .before .before .before .before .before .before .before .before .before .before .before .before .before .before .before .before .before .before .loop .inv .0 .counted
 
 following-line-requires : tie.Need-following-line-requires Inv-loop μ-loop
-following-line-requires c κs = (omega (arith, c .before .before .before .before .before .before .before .before .before .before .before .before .if2 .left, c .before .before .before .before .before .before .before .before .before .before .before .before .before .before .before .before .before .before .before .before .before .pre), omega (arith, c .before .before .before .before .before .before .before .before .before .before .before .before .before .before .before .before .loop .inv .lined, c .before .before .before .before .before .before .before .before .before .before .before .before .before .before .before .before .loop .inv .within, c .before .before .before .before .before .before .before .before .before .before .before .before .before .before .before .before .before .before .before .before .before .pre))
+following-line-requires c κs = (omega (arith, c .before .before .before .before .before .before .before .before .before .before .before .before .before .before .before .before .before .before .before .if2 .left, c .before .before .before .before .before .before .before .before .before .before .before .before .before .before .before .before .before .before .before .before .before .before .before .before .before .before .before .before .pre), omega (arith, c .before .before .before .before .before .before .before .before .before .before .before .before .before .before .before .before .before .before .before .before .before .before .before .loop .inv .0 .lined, c .before .before .before .before .before .before .before .before .before .before .before .before .before .before .before .before .before .before .before .before .before .before .before .loop .inv .0 .within, c .before .before .before .before .before .before .before .before .before .before .before .before .before .before .before .before .before .before .before .before .before .before .before .before .before .before .before .before .pre))
 
 loop-less : tie.Need-loop-less Inv-loop μ-loop
-loop-less c = rw (c .following-line .ensures) (omega (arith, c .before .before .before .before .before .before .before .before .before .before .before .before .before .before .line-end .ensures, c .before .before .before .before .before .before .before .before .before .before .before .before .before .before .before .if1 .taken, c .before .before .before .before .before .before .before .before .before .before .before .before .before .if2 .left))
+loop-less c = rw (c .following-line .ensures) (omega (arith, c .before .before .before .before .before .before .before .before .before .before .before .before .before .before .before .before .before .before .before .before .before .line-end .ensures, c .before .before .before .before .before .before .before .before .before .before .before .before .before .before .before .before .before .before .before .before .before .before .if1 .taken, c .before .before .before .before .before .before .before .before .before .before .before .before .before .before .before .before .before .before .before .before .if2 .left))
 
 loop-again : tie.Need-loop-again Inv-loop μ-loop
-loop-again c =
-    let x = take (c .before .before .before .before .before .before .before .before .before .before .before .before .before .before .line-end .result - c .before .before .before .before .before .before .before .before .before .before .before .before .before .before .before .before .before .loop .cursor .at) (drop (c .before .before .before .before .before .before .before .before .before .before .before .before .before .before .before .before .before .loop .cursor .at) (c .before .before .before .before .before .before .before .before .before .before .before .before .before .before .before .before .before .before .before .before .before .before .args .book .now)) in
+loop-again c = 
+    let at = c .before .before .before .before .before .before .before .before .before .before .before .before .before .before .before .before .before .before .before .before .before .before .before .before .loop in
+    let line = decoded-frame (c .before .before .before .before .before .before .before .before .before .before .before .before .before .before .before .before .before .decode .ensures) (c .before .before .before .before .before .before .before .before .before .before .before .before .before .before .decoded .given .1) in
     let kind = c .before .before .before .byte-at .ensures in
-    let rules = c .before .before .before .before .before .before .before .before .before .before .before .before .before .before .before .before .before .loop .rules in
-    let known = c .before .before .before .before .before .before .before .before .before .before .before .before .before .before .before .before .before .loop .known in
-    let stored : Stored known rules x (c .before .before .if3 .rules) =
-    ⊎-elim (λ w. inl (sym kind ∙ w .0 .taken, w .2 ∙ ap (set rules (known .count)) (w .1 .ensures)))
+    let stored : Stored (at .known) (at .rules) _ (c .before .before .if3 .rules) =
+    ⊎-elim (λ w. inl (sym kind ∙ w .0 .taken, w .2 ∙ ap (set (at .rules) (at .known .count)) (w .1 .ensures)))
     (λ w. inr ((λ z. w .0 .left (kind ∙ z)), w .1)) (c .before .before .if3 .came) in
     rw (c .following-line .ensures)
-    (line-good (c .before .before .before .before .before .before .before .before .before .before .before .before .before .before .before .before .before .before .before .before .before .before .args .book .now) (c .before .before .before .before .before .before .before .before .before .before .before .before .before .before .before .before .before .loop .known) (c .before .before .before .before .before .before .before .before .before .before .before .before .before .before .before .before .before .loop .query) (c .before .before .before .before .before .before .before .before .before .before .before .before .before .before .before .before .before .loop .juniors) (c .before .before .before .before .before .before .before .before .before .before .before .before .before .before .before .before .before .loop .facts) (c .before .before .before .before .before .before .before .before .before .before .before .before .before .before .before .before .before .loop .rules) (c .before .before .before .before .before .before .before .before .before .before .before .before .before .before .before .before .before .loop .cursor .at) (c .before .before .before .before .before .before .before .before .before .before .before .before .before .before .before .before .before .loop .cursor .line) (c .before .before .before .before .before .before .before .before .before .before .before .before .before .before .before .before .before .loop .inv) _ (c .before .before .before .before .before .before .before .before .before .before .before .before .before .before .line-end .ensures) x _ _ _ _ (c .before .before .if3 .rules) (c .before .before .before .before .before .before .before .before .before .before .before .before .before .if2 .left) refl (sym (c .before .before .before .before .before .before .before .before .before .before .before .judge-line .ensures) ∙ c .before .before .before .before .before .before .before .before .before .enum-told .given .1) (c .before .known-after .ensures) (c .before .before .before .before .query-after .ensures) (c .before .before .before .before .before .before .before .enter-edge .ensures) (c .before .before .before .before .before .enter-fact .ensures) stored)
+    (line-good _ (at .known) (at .query) (at .juniors) (at .facts) (at .rules) (at .cursor .at) (at .cursor .line) (at .inv .0) _ (c .before .before .before .before .before .before .before .before .before .before .before .before .before .before .before .before .before .before .before .before .before .line-end .ensures) _ (c .before .before .before .before .before .before .before .before .before .before .before .before .before .before .before .before .before .before .before .before .if2 .left) (line .0) (line .1 .front) _ _ _ _ (c .before .before .if3 .rules) (sym (c .before .before .before .before .before .before .before .before .before .before .before .judge-frame .ensures) ∙ c .before .before .before .before .before .before .before .before .before .enum-told2 .given .1) (c .before .known-after .ensures) (c .before .before .before .before .query-after .ensures) (c .before .before .before .before .before .before .before .enter-edge .ensures) (c .before .before .before .before .before .enter-fact .ensures) stored, c .before .before .before .before .before .before .before .before .before .before .before .before .before .before .before .before .before .decode .ensures .size ∙ at .inv .1)
 
-turned-back-requires-3 : tie.Need-turned-back-requires-3 Inv-loop μ-loop
-turned-back-requires-3 c κs = search needs
-
-returns-3 : tie.Need-returns-3 Inv-loop μ-loop
-returns-3 c = c .turned-back3 .ensures ∙ at-end-bad (c .before .before .before .before .before .before .before .before .before .before .args .book .now) (c .before .before .before .before .before .loop .known) (c .before .before .before .before .before .loop .query) (c .before .before .before .before .before .loop .juniors) (c .before .before .before .before .before .loop .facts) (c .before .before .before .before .before .loop .rules) (c .before .before .before .before .before .loop .cursor .at) (c .before .before .before .before .before .loop .cursor .line) (c .before .before .before .before .before .loop .inv) (c .before .before .before .if1 .left) (not-true _ (c .before .if4 .taken))
+turned-back-requires-4 : tie.Need-turned-back-requires-4 Inv-loop μ-loop
+turned-back-requires-4 c κs = search needs
 
 returns-4 : tie.Need-returns-4 Inv-loop μ-loop
+returns-4 c = let at = c .before .before .before .before .before .loop in c .turned-back4 .ensures ∙ at-end-bad _ (at .known) (at .query) (at .juniors) (at .facts) (at .rules) (at .cursor .at) (at .cursor .line) (at .inv .0) (c .before .before .before .if1 .left) (not-true _ (c .before .if4 .taken))
+
+returns-5 : tie.Need-returns-5 Inv-loop μ-loop
 unfolding answerOf contentsOf listed held
-returns-4 c = at-end-good (c .before .before .before .before .before .before .before .before .before .before .args .book .now) (c .before .before .before .before .before .loop .known) (c .before .before .before .before .before .loop .query) (c .before .before .before .before .before .loop .juniors) (c .before .before .before .before .before .loop .facts) (c .before .before .before .before .before .loop .rules) (c .before .before .before .before .before .loop .cursor .at) (c .before .before .before .before .before .loop .cursor .line) (c .before .before .before .before .before .loop .inv) (c .before .before .before .if1 .left) (not-false _ (c .before .if4 .left))
+returns-5 c = let at = c .before .before .before .before .before .loop in at-end-good _ (at .known) (at .query) (at .juniors) (at .facts) (at .rules) (at .cursor .at) (at .cursor .line) (at .inv .0) (c .before .before .before .if1 .left) (not-false _ (c .before .if4 .left))
 
 pub read-lines-spec : {M : Type 1} → statement M
 read-lines-spec =
@@ -131,14 +156,22 @@ read-lines-spec =
     line-end-requires
     turned-back-requires
     returns
-    sub-x
-    part-x-start
-    part-x-end
-    judge-line-requires
-    enum-known-verdict
+    sub-line
+    part-line-start
+    part-line-end
+    slice-aggregate-decode
+    decode-requires
+    enum-known-decoded
+    enum-told
     turned-back-requires-2
     returns-2
-    enum-told
+    array-share-prefix-frame
+    slice-aggregate-x
+    judge-frame-requires
+    enum-known-verdict
+    turned-back-requires-3
+    returns-3
+    enum-told-2
     enter-edge-requires
     enter-fact-requires
     query-after-requires
@@ -150,6 +183,6 @@ read-lines-spec =
     following-line-requires
     loop-less
     loop-again
-    turned-back-requires-3
-    returns-3
-    returns-4)
+    turned-back-requires-4
+    returns-4
+    returns-5)

@@ -1,8 +1,6 @@
--- `gate::is_mislengthed` meets its contract: the line has two characters for each byte of the length that its kind gives. Assumes nothing.
+-- `gate::is_mislengthed` meets its contract: the frame has the length that its kind gives. Assumes nothing.
 use Rattle.gate.specs.Gate.{mislengthed}
-use Rattle.gate.proofs.GateLaws.{length-small}
 use borrow.Author.Needs.{needs}
-use native.Mathlib.Omega.{arith}
 use Rattle.gate.proofs.is_mislengthed.Statement.{statement}
 use Rattle.gate.proofs.is_mislengthed.Tie as tie
 
@@ -18,9 +16,6 @@ byte-at-requires-3 c κs = search needs
 length-of-requires : tie.Need-length-of-requires
 length-of-requires c κs = search needs
 
-mul-result : tie.Need-mul-result
-mul-result c = omega (arith, c .length-of .ensures, length-small (c .before .before .before .byte-at .result) (c .before .before .byte-at2 .result) (c .before .byte-at3 .result), c .before .byte-at3 .ok)
-
 returns : tie.Need-returns
 unfolding mislengthed
 returns c = rw (c .length-of .ensures, c .before .before .before .byte-at .ensures, c .before .before .byte-at2 .ensures, c .before .byte-at3 .ensures)
@@ -33,5 +28,4 @@ is-mislengthed-spec =
     byte-at-requires-2
     byte-at-requires-3
     length-of-requires
-    mul-result
     returns)

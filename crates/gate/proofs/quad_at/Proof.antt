@@ -1,32 +1,88 @@
--- `gate::quad_at` meets its contract: two pairs, big-endian; a pair is below 2^16, so the sum fits. Assumes nothing.
+-- `gate::quad_at` meets its contract: four bytes, big-endian. Assumes nothing.
+use mathlib.Core.Path.{_≡_}
 use Prim.Native.Nat.{_+_}
-use Rattle.gate.specs.Gate.{quadAt}
-use Rattle.gate.proofs.GateLaws.{pair-small}
-use borrow.Author.Needs.{needs}
 use native.Mathlib.Omega.{arith}
+use Rattle.gate.specs.Gate.{pairAt, quadAt}
+use borrow.Author.Needs.{needs}
 use Rattle.gate.proofs.quad_at.Statement.{statement}
 use Rattle.gate.proofs.quad_at.Tie as tie
 
-pair-at-requires : tie.Need-pair-at-requires
-pair-at-requires c κs = search needs
+byte-at-requires : tie.Need-byte-at-requires
+byte-at-requires c κs = search needs
 
-add-pair-at : tie.Need-add-pair-at
-add-pair-at c = search needs
+cast-b0 : tie.Need-cast-b0
+cast-b0 c = search needs
 
-pair-at-requires-2 : tie.Need-pair-at-requires-2
-pair-at-requires-2 c κs = search needs
+add-byte-at : tie.Need-add-byte-at
+add-byte-at c = search needs
+
+byte-at-requires-2 : tie.Need-byte-at-requires-2
+byte-at-requires-2 c κs = search needs
+
+cast-b1 : tie.Need-cast-b1
+cast-b1 c = search needs
+
+add-byte-at-2 : tie.Need-add-byte-at-2
+add-byte-at-2 c = search needs
+
+byte-at-requires-3 : tie.Need-byte-at-requires-3
+byte-at-requires-3 c κs = search needs
+
+cast-b2 : tie.Need-cast-b2
+cast-b2 c = search needs
+
+add-byte-at-3 : tie.Need-add-byte-at-3
+add-byte-at-3 c = search needs
+
+byte-at-requires-4 : tie.Need-byte-at-requires-4
+byte-at-requires-4 c κs = search needs
+
+cast-b3 : tie.Need-cast-b3
+cast-b3 c = search needs
 
 mul-result : tie.Need-mul-result
-mul-result c = let a = c .before .before .before .args in omega (arith, pair-small (a .x .now) (a .i), pair-small (a .x .now) (a .i + 2), c .before .pair-at .ensures, c .pair-at2 .ensures)
+mul-result c = search needs
 
 add-result : tie.Need-add-result
-add-result c = let a = c .before .before .before .args in omega (arith, pair-small (a .x .now) (a .i), pair-small (a .x .now) (a .i + 2), c .before .pair-at .ensures, c .pair-at2 .ensures)
+add-result c = search needs
+
+mul-result-2 : tie.Need-mul-result-2
+mul-result-2 c = search needs
+
+mul-result-3 : tie.Need-mul-result-3
+mul-result-3 c = search needs
+
+add-result-2 : tie.Need-add-result-2
+add-result-2 c = search needs
+
+add-result-3 : tie.Need-add-result-3
+add-result-3 c = search needs
 
 returns : tie.Need-returns
-unfolding quadAt
-returns c = rw (c .before .pair-at .ensures, c .pair-at2 .ensures)
+unfolding quadAt pairAt
+returns c =
+    let on : c .before .before .before .before .before .args .i + 2 + 1 ≡ c .before .before .before .before .before .args .i + 3 = omega arith in
+    rw (on, c .before .before .before .byte-at .ensures, c .before .before .byte-at2 .ensures, c .before .byte-at3 .ensures, c .byte-at4 .ensures)
 
 pub quad-at-spec : {M : Type 1} → statement M
 quad-at-spec =
     tie.close
-    (tie.spec pair-at-requires add-pair-at pair-at-requires-2 mul-result add-result returns)
+    (tie.spec
+    byte-at-requires
+    cast-b0
+    add-byte-at
+    byte-at-requires-2
+    cast-b1
+    add-byte-at-2
+    byte-at-requires-3
+    cast-b2
+    add-byte-at-3
+    byte-at-requires-4
+    cast-b3
+    mul-result
+    add-result
+    mul-result-2
+    mul-result-3
+    add-result-2
+    add-result-3
+    returns)
