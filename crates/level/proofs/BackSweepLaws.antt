@@ -14,7 +14,7 @@ use Rattle.theory.specs.Sweep.{PutBack}
 use Rattle.theory.proofs.SweepLaws.{back-none, back-more, back-room}
 use Rattle.level.specs.Shown.{direct, Whole, Put, touches}
 use Rattle.level.proofs.ShownLaws.{shown-put, direct-low, put-direct, put-whole}
-use Rattle.level.specs.Moves.{met, flagsWith, Fine, Sound, moveAt, askOf}
+use Rattle.level.specs.Moves.{Moves, met, flagsWith, Fine, Sound, moveAt, askOf}
 use Rattle.level.specs.World.{world}
 use Rattle.level.proofs.MoveLaws.{met-flags}
 use Rattle.level.specs.Notes.{askAt, asks, Noted}
@@ -22,7 +22,6 @@ use Rattle.level.proofs.NoteLaws.{asks-length, asks-front}
 use Rattle.level.specs.Sweep.{Next}
 use Rattle.level.proofs.SweepLaws.{Window, window-all, window-none, window-next, all-three, first-of-three}
 use Rattle.level.specs.declared.Move.{Move}
-use Rattle.level.specs.declared.Moves.{Moves}
 use Rattle.level.specs.BackSweep.{ClosedBack, ReadyBack, backsIn}
 
 -- What the sweep keeps: the requests noted lead from `y` down to what of `x` is not forbidden.

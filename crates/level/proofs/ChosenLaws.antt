@@ -2,64 +2,82 @@
 use mathlib.Core.Path.{_≡_, refl, sym, subst, _∙_}
 use mathlib.Core.Logic.{dite, _⊎_, inl, inr, ⊎-elim}
 use mathlib.Core.Bool.{Bool, true, false, _||_, true≢false}
-use Prim.Native.Nat.{ℕ, _+_, _≤_, _<_}
+use Prim.Native.Nat.{ℕ, _+_, _*_, _/_, _≤_, _<_}
 use native.Mathlib.Decide.{ℕ-discrete}
 use native.Mathlib.Omega.{arith}
 use borrow.Author.Tests.{eq-eqb, ne-eqb, eqb-true}
 use lib.Dec.{eqb}
-use lib.ListN.{length, set, length-set}
-use lib.Seq.{getD-set-same, getD-set-other}
-use Rattle.level.specs.Moves.{Sound, moveAt, noMove}
+use mathlib.Core.List.{List}
+use lib.ListN.{length, getD, take}
+use lib.Seq.{getD-take, length-take-le}
+use Rattle.level.specs.Moves.{Moves, Sound, movesIn, moveFrom, moveAt}
 use Rattle.level.specs.Terms.{MoveOf}
 use Rattle.level.specs.declared.Move.{Move}
-use Rattle.level.specs.declared.Moves.{Moves}
 use Rattle.frames.specs.declared.Rule.{Rule}
 use Rattle.frames.specs.declared.Rules.{Rules}
 use Rattle.gate.proofs.PassedLaws.{and-both}
 use Rattle.sets.specs.Sets.{member}
-use Rattle.level.specs.Chosen.{Empty, GoodRules, MovesOf, Pushed, chosenIn, ruleAt}
+use Rattle.level.proofs.MoveLaws.{move-same}
+use Rattle.level.specs.Chosen.{GoodRules, MovesOf, MovePut, Gathered, chosenIn, ruleAt}
 
--- A move written behind the others.
-pub pushed : (ms : Moves) (m : Move) → ms .count < 512 → length (ms .moves) ≡ 512 → Pushed ms m (record { count = ms .count + 1; moves = set (ms .moves) (ms .count) m })
-unfolding moveAt
-pushed ms m h e = record { count = refl; size = length-set (ms .moves) (ms .count) m ∙ e; same = λ i l. getD-set-other (ms .moves) (ms .count) i m noMove (omega arith); new = getD-set-same (ms .moves) (ms .count) m noMove (omega arith) }
+-- The first k moves of a buffer.
+abbrev pub firstMoves : ℕ → List ℕ → Moves
+firstMoves k xs = record { count = k; numbers = xs }
 
 -- Before the first rule there are no moves.
-pub moves-none : (rs : Rules) (one two : ℕ) (roles : ℕ) {ms : Moves} → Empty ms → MovesOf rs one two roles ms 0
-moves-none rs one two roles e = record { fits = omega arith; few = omega (arith, e .count); size = e .size; each = λ k l. absurd (omega (arith, e .count)); every = λ j l. absurd (omega arith) }
+pub moves-none : (rs : Rules) (one two : ℕ) (roles : ℕ) (xs : List ℕ) → MovesOf rs one two roles (firstMoves 0 xs) 0
+moves-none rs one two roles xs = record { fits = omega arith; few = omega arith; each = λ k l. absurd (omega arith); every = λ j l. absurd (omega arith) }
 
-module _ {rs : Rules} {one two : ℕ} {roles : ℕ} {ms : Moves} {i : ℕ} (w : MovesOf rs one two roles ms i) (h : i < rs .count) where
+module _ {rs : Rules} {one two : ℕ} {roles : ℕ} {n : ℕ} {xs : List ℕ} {i : ℕ} (w : MovesOf rs one two roles (firstMoves n xs) i) (h : i < rs .count) where
   -- A chosen rule gives one move more.
-  pub moves-more : {m : Move} {r : Moves} → chosenIn one two roles (ruleAt rs i) ≡ true → MoveOf (ruleAt rs i) m → Pushed ms m r → MovesOf rs one two roles r (i + 1)
-  moves-more {m} {r} e o p = record {
+  pub moves-more : {m : Move} {ys : List ℕ} → chosenIn one two roles (ruleAt rs i) ≡ true → MoveOf (ruleAt rs i) m → MovePut xs n m ys → MovesOf rs one two roles (firstMoves (n + 1) ys) (i + 1)
+  unfolding moveAt
+  moves-more {m} {ys} e o p = record {
     fits = omega arith;
-    few = omega (arith, p .count, w .few);
-    size = p .size;
-    each = λ k l. dite (ℕ-discrete k (ms .count))
-        (λ (q : k ≡ ms .count). (i, omega arith, e, rw (q, p .new) o))
-        (λ (q : k ≡ ms .count → ⊥). let l′ : k < ms .count = omega (arith, p .count) in let (j, lj, ej, oj) = w .each k l′ in (j, omega arith, ej, rw (p .same k l′) oj));
+    few = omega (arith, w .few);
+    each = λ k l. dite (ℕ-discrete k n)
+        (λ (q : k ≡ n). (i, omega arith, e, rw (q, p .here) o))
+        (λ (q : k ≡ n → ⊥). let l′ : k < n = omega arith in let (j, lj, ej, oj) = w .each k l′ in (j, omega arith, ej, rw (p .there k l′) oj));
     every = λ j l f. dite (ℕ-discrete j i)
-        (λ (q : j ≡ i). (ms .count, omega (arith, p .count), rw (q, p .new) o))
-        (λ (q : j ≡ i → ⊥). let (k, lk, ok) = w .every j (omega arith) f in (k, omega (arith, p .count), rw (p .same k lk) ok));
+        (λ (q : j ≡ i). (n, omega arith, rw (q, p .here) o))
+        (λ (q : j ≡ i → ⊥). let (k, lk, ok) = w .every j (omega arith) f in (k, omega arith, rw (p .there k lk) ok));
   }
 
   -- Any other rule gives none.
-  pub moves-skip : chosenIn one two roles (ruleAt rs i) ≡ false → MovesOf rs one two roles ms (i + 1)
+  pub moves-skip : chosenIn one two roles (ruleAt rs i) ≡ false → MovesOf rs one two roles (firstMoves n xs) (i + 1)
   moves-skip e = record {
     fits = omega arith;
     few = omega (arith, w .few);
-    size = w .size;
     each = λ k l. let (j, lj, ej, oj) = w .each k l in (j, omega arith, ej, oj);
     every = λ j l f. dite (ℕ-discrete j i) (λ (q : j ≡ i). absurd (true≢false (sym f ∙ rw q e))) (λ (q : j ≡ i → ⊥). w .every j (omega arith) f);
   }
 
--- The moves are sound.
-pub moves-sound : {rs : Rules} {one two : ℕ} {roles : ℕ} {ms : Moves} → GoodRules rs → MovesOf rs one two roles ms (rs .count) → Sound ms
-moves-sound g w = record { few = omega (arith, w .few, g .few); fine = λ k l. w .each k l .3 .fine }
+-- The moves that a part of a buffer writes are sound.
+pub moves-sound : {rs : Rules} {one two : ℕ} {roles : ℕ} {xs : List ℕ} → GoodRules rs → MovesOf rs one two roles (movesIn xs) (rs .count) → Sound (movesIn xs)
+moves-sound g w = record { few = omega (arith, w .few, g .few); room = omega arith; fine = λ k l. w .each k l .3 .fine }
+
+-- The front of a buffer writes its first moves.
+front-same : (n : ℕ) (xs : List ℕ) (i : ℕ) → i < n → moveFrom (take (14 * n) xs) (14 * i) ≡ moveFrom xs (14 * i)
+front-same n xs i h = move-same (take (14 * n) xs) xs (14 * i) (14 * i) (λ j l. getD-take (14 * n) xs (14 * i + j) 0 (omega arith))
 
 -- After the last rule.
-pub moves-all : {rs : Rules} {one two : ℕ} {roles : ℕ} {ms : Moves} {i : ℕ} → MovesOf rs one two roles ms i → rs .count ≤ i → MovesOf rs one two roles ms (rs .count)
-moves-all {rs} {one} {two} {roles} {ms} {i} w h = let e : i ≡ rs .count = omega (arith, w .fits) in subst (λ (n : ℕ). MovesOf rs one two roles ms n) e w
+pub moves-all : {rs : Rules} {one two : ℕ} {roles : ℕ} {n : ℕ} {xs : List ℕ} {i : ℕ} → MovesOf rs one two roles (firstMoves n xs) i → GoodRules rs → rs .count ≤ i → length xs ≡ 7168
+    → Gathered rs one two roles n xs
+unfolding moveAt
+moves-all {rs} {one} {two} {roles} {n} {xs} {i} w g h room =
+    let last : i ≡ rs .count = omega (arith, w .fits) in
+    let size : length (take (14 * n) xs) ≡ 14 * n = length-take-le (14 * n) xs (omega (arith, w .few, w .fits, g .few)) in
+    let count : length (take (14 * n) xs) / 14 ≡ n = omega (arith, size) in
+    record {
+      few = omega (arith, w .few, w .fits, g .few);
+      size = room;
+      moves = record {
+        fits = omega arith;
+        few = omega (arith, count, w .few);
+        each = λ k l. let l′ : k < n = omega (arith, count) in let (j, lj, ej, oj) = w .each k l′ in (j, omega arith, ej, rw (front-same n xs k l′) oj);
+        every = λ j l f. let (k, lk, ok) = w .every j (omega arith) f in (k, omega (arith, count), rw (front-same n xs k lk) ok);
+      };
+    }
 
 module _ (one two : ℕ) (roles : ℕ) (r : Rule) where
   -- A rule of the first op is chosen by its role.

@@ -11,6 +11,7 @@ use Rattle.theory.proofs.FactLaws.{minus-in, minus-clear, antisym, count-less, 
 use Rattle.theory.specs.Plan.{World, AddClosed, BackClosed}
 use Rattle.theory.specs.Sweep.{Added}
 use Rattle.theory.proofs.TierLaws.{leads-map}
+use Rattle.level.specs.Moves.{Moves}
 use Rattle.level.specs.Shown.{direct, Whole}
 use Rattle.level.proofs.ShownLaws.{direct-in}
 use Rattle.level.specs.World.{world}
@@ -19,7 +20,6 @@ use Rattle.level.specs.Sweep.{Ready, Closed}
 use Rattle.level.specs.BackSweep.{ReadyBack, ClosedBack}
 use Rattle.level.specs.Build.{Built, Stripped, Copied, Lacks}
 use Rattle.level.proofs.BuildLaws.{not-lacking}
-use Rattle.level.specs.declared.Moves.{Moves}
 use Rattle.level.specs.Settle.{Result, Rounded, Rounds, Settled, Sizes, Stuck, again, none-yet}
 
 -- Flags built from the start are ready for the additions.

@@ -13,13 +13,12 @@ use Rattle.theory.specs.Sweep.{Added}
 use Rattle.theory.proofs.SweepLaws.{add-none, add-more, added-room, added-count}
 use Rattle.level.specs.Shown.{direct, Whole, Put}
 use Rattle.level.proofs.ShownLaws.{direct-low, put-direct, put-whole}
-use Rattle.level.specs.Moves.{met, flagsMet, Fine, Sound, moveAt, askOf}
+use Rattle.level.specs.Moves.{Moves, met, flagsMet, Fine, Sound, moveAt, askOf}
 use Rattle.level.specs.World.{world}
 use Rattle.level.proofs.MoveLaws.{met-flags}
 use Rattle.level.specs.Notes.{askAt, asks, Noted}
 use Rattle.level.proofs.NoteLaws.{asks-length, asks-more}
 use Rattle.level.specs.declared.Move.{Move}
-use Rattle.level.specs.declared.Moves.{Moves}
 use Rattle.level.specs.Sweep.{Closed, Next, Ready, firesIn}
 
 -- The place `j` is one of the last `quiet` before `i`, in a round of `n`.

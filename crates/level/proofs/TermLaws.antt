@@ -83,9 +83,9 @@ module _ {r : Rule} {ks : List ℕ} {j : ℕ} (p : PlacesSoFar r ks j) (g : Good
   }
 
   -- With all places written the move is made.
-  pub move-made : r .n ≤ j → (f : ℕ) → f ≡ placeOf (r .op) (r .a) (r .v) → MoveOf r (record { fact = f; n = r .n; op = r .op; role = r .role .0; a = r .a; v = r .v; terms = ks })
-  move-made h f e = record {
-    fine = record { aim = e; fact = rw e (g .aims); few = g .few; size = p .size; places = small };
+  pub move-made : r .n ≤ j → (r .op < 256) × ((r .role .0 < 256) × ((r .a < 256) × (r .v < 256))) → (f : ℕ) → f ≡ placeOf (r .op) (r .a) (r .v) → MoveOf r (record { fact = f; n = r .n; op = r .op; role = r .role .0; a = r .a; v = r .v; terms = ks })
+  move-made h bytes f e = record {
+    fine = record { aim = e; fact = rw e (g .aims); few = g .few; size = p .size; places = small; bytes = bytes };
     op = refl;
     role = refl;
     a = refl;

@@ -8,11 +8,10 @@ use Rattle.theory.specs.Facts.{minus}
 use Rattle.theory.specs.Plan.{BackClosed}
 use Rattle.theory.specs.Sweep.{PutBack}
 use Rattle.level.specs.Shown.{direct, Whole}
-use Rattle.level.specs.Moves.{flagsWith}
+use Rattle.level.specs.Moves.{Moves, flagsWith}
 use Rattle.level.specs.World.{world}
 use Rattle.level.specs.Notes.{askAt, asks}
 use Rattle.level.specs.declared.Move.{Move}
-use Rattle.level.specs.declared.Moves.{Moves}
 
 -- Whether the move deletes a fact of `x` that is not in `y`, and its terms hold of `y` with that fact.
 unfoldable pub backsIn : Move → List Bool → List Bool → List Bool → Bool

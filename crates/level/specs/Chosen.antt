@@ -1,14 +1,13 @@
 -- The moves of one side, additions or deletions: those of the rules with one of two ops and one of the query's roles.
 use mathlib.Core.Path.{_≡_}
 use mathlib.Core.Bool.{Bool, true, _&&_, _||_}
-use mathlib.Core.List.{[]}
-use Prim.Native.Nat.{ℕ, _+_, _≤_, _<_}
+use mathlib.Core.List.{List, []}
+use Prim.Native.Nat.{ℕ, _*_, _≤_, _<_}
 use lib.Dec.{eqb}
-use lib.ListN.{length, getD}
-use Rattle.level.specs.Moves.{moveAt}
+use lib.ListN.{length, getD, take}
+use Rattle.level.specs.Moves.{Moves, moveFrom, movesIn, moveAt}
 use Rattle.level.specs.Terms.{GoodRule, MoveOf}
 use Rattle.level.specs.declared.Move.{Move}
-use Rattle.level.specs.declared.Moves.{Moves}
 use Rattle.frames.specs.declared.Rule.{Rule}
 use Rattle.frames.specs.declared.Rules.{Rules}
 use Rattle.sets.specs.Sets.{member}
@@ -17,17 +16,16 @@ use Rattle.sets.specs.Sets.{member}
 unfoldable pub chosenIn : ℕ → ℕ → ℕ → Rule → Bool
 chosenIn one two roles r = (eqb (r .op) one || eqb (r .op) two) && member roles (r .role .0)
 
--- A list by value with no moves.
-pub record Empty (ms : Moves) : Type 0 where
-  pub count : ms .count ≡ 0
-  pub size : length (ms .moves) ≡ 512
+-- A move as 14 numbers.
+pub record Numbers (m : Move) (row : List ℕ) : Type 0 where
+  pub size : length row ≡ 14
+  pub same : moveFrom row 0 ≡ m
 
--- The moves `ms` and then `m`.
-pub record Pushed (ms : Moves) (m : Move) (r : Moves) : Type 0 where
-  pub count : r .count ≡ ms .count + 1
-  pub size : length (r .moves) ≡ 512
-  pub same : (i : ℕ) → i < ms .count → moveAt r i ≡ moveAt ms i
-  pub new : moveAt r (ms .count) ≡ m
+-- `ms` is `before` with the move `k` written.
+pub record MovePut (before : List ℕ) (k : ℕ) (m : Move) (ms : List ℕ) : Type 0 where
+  pub size : length ms ≡ length before
+  pub here : moveFrom ms (14 * k) ≡ m
+  pub there : (i : ℕ) → i < k → moveFrom ms (14 * i) ≡ moveFrom before (14 * i)
 
 -- What stands past the end of the rules by value.
 abbrev pub noRule : Rule
@@ -46,6 +44,11 @@ pub record GoodRules (rs : Rules) : Type 0 where
 pub record MovesOf (rs : Rules) (one two : ℕ) (roles : ℕ) (ms : Moves) (i : ℕ) : Type 0 where
   pub fits : i ≤ rs .count
   pub few : ms .count ≤ i
-  pub size : length (ms .moves) ≡ 512
   pub each : (k : ℕ) → k < ms .count → (j : ℕ) × (j < i) × (chosenIn one two roles (ruleAt rs j) ≡ true) × MoveOf (ruleAt rs j) (moveAt ms k)
   pub every : (j : ℕ) → j < i → chosenIn one two roles (ruleAt rs j) ≡ true → (k : ℕ) × (k < ms .count) × MoveOf (ruleAt rs j) (moveAt ms k)
+
+-- The moves of the chosen rules stand in the front of a buffer.
+pub record Gathered (rs : Rules) (one two : ℕ) (roles : ℕ) (n : ℕ) (buffer : List ℕ) : Type 0 where
+  pub few : n ≤ 512
+  pub size : length buffer ≡ 7168
+  pub moves : MovesOf rs one two roles (movesIn (take (14 * n) buffer)) (rs .count)

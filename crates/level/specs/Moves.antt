@@ -2,14 +2,13 @@
 use mathlib.Core.Path.{_≡_}
 use mathlib.Core.Bool.{Bool, true, false, cond, _&&_, _||_}
 use mathlib.Core.List.{List, [], _∷_}
-use Prim.Native.Nat.{ℕ, _+_, _*_, _≤_, _<_}
+use Prim.Native.Nat.{ℕ, _+_, _*_, _/_, _≤_, _<_}
 use lib.Dec.{ltb}
 use lib.ListN.{length, getD, take}
 use Rattle.theory.specs.Facts.{State}
 use Rattle.theory.specs.Plan.{Ask}
 use Rattle.level.specs.Shown.{shown, touches}
 use Rattle.level.specs.declared.Move.{Move}
-use Rattle.level.specs.declared.Moves.{Moves}
 
 -- Whether all of a list pass a test.
 unfoldable pub all : {A : Type 0} → (A → Bool) → List A → Bool
@@ -27,6 +26,7 @@ pub record Fine (m : Move) : Type 0 where
   pub few : m .n ≤ 8
   pub size : length (m .terms) ≡ 8
   pub places : (j : ℕ) → getD (m .terms) j 0 < 320
+  pub bytes : (m .op < 256) × ((m .role < 256) × ((m .a < 256) × (m .v < 256)))
 
 -- The places of a move's terms.
 unfoldable pub placesOf : Move → List ℕ
@@ -44,17 +44,38 @@ flagsMet m x = all (λ k. getD x k false) (placesOf m)
 unfoldable pub flagsWith : Move → List Bool → List Bool → Bool
 flagsWith m T x = all (λ k. getD x k false || touches T (m .fact) k) (placesOf m)
 
--- What stands past the end of the moves.
-abbrev pub noMove : Move
-noMove = record { fact = 0; n = 0; op = 0; role = 0; a = 0; v = 0; terms = [] }
+-- The moves of one side, additions or deletions: numbers, 14 a move, one move behind the other.
+pub record Moves : Type 0 where
+  pub count : ℕ
+  pub numbers : List ℕ
 
--- Move `i` of a list by value.
+-- The moves that numbers write.
+abbrev pub movesIn : List ℕ → Moves
+movesIn xs = record { count = length xs / 14; numbers = xs }
+
+-- The move that 14 numbers write, from a place on: the fact, how many terms, op, role, a and v, and the places of eight terms.
+unfoldable pub moveFrom : List ℕ → ℕ → Move
+moveFrom xs at =
+    record {
+      fact = getD xs at 0;
+      n = getD xs (at + 1) 0;
+      op = getD xs (at + 2) 0;
+      role = getD xs (at + 3) 0;
+      a = getD xs (at + 4) 0;
+      v = getD xs (at + 5) 0;
+      terms =
+          getD xs (at + 6) 0 ∷ getD xs (at + 7) 0 ∷ getD xs (at + 8) 0 ∷ getD xs (at + 9) 0 ∷ getD xs (at + 10) 0 ∷ getD xs (at + 11) 0 ∷ getD xs (at + 12) 0
+          ∷ getD xs (at + 13) 0 ∷ [];
+    }
+
+-- Move `i`.
 unfoldable pub moveAt : Moves → ℕ → Move
-moveAt ms i = getD (ms .moves) i noMove
+moveAt ms i = moveFrom (ms .numbers) (14 * i)
 
--- At most 512 moves, and each is fine.
+-- At most 512 moves, whole, and each is fine.
 pub record Sound (ms : Moves) : Type 0 where
   pub few : ms .count ≤ 512
+  pub room : 14 * ms .count ≤ length (ms .numbers)
   pub fine : (i : ℕ) → i < ms .count → Fine (moveAt ms i)
 
 -- What a move asks for the subject `p`.

@@ -7,10 +7,10 @@ use lib.ListN.{length}
 use Rattle.theory.specs.Facts.{State, _⊆_, minus}
 use Rattle.theory.specs.Plan.{World, Leads, AddClosed, BackClosed}
 use Rattle.theory.specs.Sweep.{Added, PutBack}
+use Rattle.level.specs.Moves.{Moves}
 use Rattle.level.specs.Shown.{direct, Whole}
 use Rattle.level.specs.World.{world}
 use Rattle.level.specs.Notes.{askAt, asks}
-use Rattle.level.specs.declared.Moves.{Moves}
 
 -- The bounds that the rounds of a level come to, from what is allowed at first: each follows from the one before by closed additions and closed deletions.
 pub data Rounds (W : World) (bad s u₀ : State) : State → Type 0 where

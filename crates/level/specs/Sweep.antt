@@ -8,11 +8,10 @@ use Rattle.theory.specs.Facts.{_⊆_}
 use Rattle.theory.specs.Plan.{AddClosed}
 use Rattle.theory.specs.Sweep.{Added}
 use Rattle.level.specs.Shown.{direct, Whole}
-use Rattle.level.specs.Moves.{flagsMet}
+use Rattle.level.specs.Moves.{Moves, flagsMet}
 use Rattle.level.specs.World.{world}
 use Rattle.level.specs.Notes.{askAt, asks}
 use Rattle.level.specs.declared.Move.{Move}
-use Rattle.level.specs.declared.Moves.{Moves}
 
 -- Whether the move adds a fact that is allowed and not there yet, and its terms hold.
 unfoldable pub firesIn : Move → List Bool → List Bool → Bool

@@ -6,8 +6,7 @@ use Prim.Native.Nat.{ℕ, _<_}
 use Rattle.theory.specs.Facts.{State, _⊆_}
 use Rattle.theory.specs.Plan.{Ask, Req, req, World}
 use Rattle.level.specs.Monotone.{met-mono}
-use Rattle.level.specs.declared.Moves.{Moves}
-use Rattle.level.specs.Moves.{moveAt, askOf, met}
+use Rattle.level.specs.Moves.{Moves, moveAt, askOf, met}
 
 -- Some move of the list permits the request.
 pub record Some (T : List Bool) (ms : Moves) (p : ℕ) (S : State) (q : Ask) : Type 0 where

@@ -7,8 +7,8 @@ ghost use Prim.Native.Nat.{_+_, _*_, _≤_, _<_};
 ghost use lib.ListN.{length, getD};
 ghost use Rattle.theory.specs.Facts.{_⊆_};
 ghost use Rattle.level.specs.Shown.{touches, More, rowFlags, Put, direct};
-ghost use Rattle.level.specs.Moves.{flagsMet, flagsWith, placeOf, Fine, Sound, askOf};
-ghost use Rattle.level.specs.Chosen.{chosenIn, Empty, GoodRules, MovesOf};
+ghost use Rattle.level.specs.Moves.{flagsMet, flagsWith, placeOf, Fine, Sound, askOf, moveAt, movesIn};
+ghost use Rattle.level.specs.Chosen.{chosenIn, GoodRules, Numbers, MovePut, Gathered};
 ghost use Rattle.level.specs.Terms.{codeOf, GoodRule, MoveOf};
 ghost use Rattle.level.specs.Notes.{Noted};
 ghost use Rattle.level.specs.Build.{Blank, Built, Stripped, Copied, Lacks};
@@ -20,17 +20,11 @@ ghost use Rattle.level.specs.Settle.{Sizes, Rounded, Result};
 pub struct Move {
     pub fact: usize,
     pub n: usize,
-    pub op: u8,
-    pub role: u8,
-    pub a: u8,
-    pub v: u8,
+    pub op: u16,
+    pub role: u16,
+    pub a: u16,
+    pub v: u16,
     pub terms: [u16; 8],
-}
-
-// The moves of one side, additions or deletions: the first `count`.
-pub struct Moves {
-    pub count: usize,
-    pub moves: [Move; 512],
 }
 
 // ---------------------------------------------------------------- from rules to moves
@@ -82,32 +76,75 @@ pub fn move_of(r: Rule) -> Move
     Move {
         fact,
         n,
-        op: r.op,
-        role: r.role.0,
-        a: r.a,
-        v: r.v,
+        op: r.op as u16,
+        role: r.role.0 as u16,
+        a: r.a as u16,
+        v: r.v as u16,
         terms,
     }
 }
 
-// No moves.
-pub fn none() -> Moves
-    ensures { λ r. ⌜ Empty r ⌝ }
+// A move as 14 numbers.
+fn numbers_of(m: Move) -> [u16; 14]
+    requires { ⌜ Fine m ⌝ }
+    ensures { λ r. ⌜ Numbers m r ⌝ }
 {
-    let ts = [0u16; 8];
-    let m = Move {
-        fact: 0,
-        n: 0,
-        op: 0,
-        role: 0,
-        a: 0,
-        v: 0,
-        terms: ts,
-    };
-    let ms = [m; 512];
-    Moves {
-        count: 0,
-        moves: ms,
+    let terms = m.terms;
+    [
+        m.fact as u16,
+        m.n as u16,
+        m.op,
+        m.role,
+        m.a,
+        m.v,
+        terms[0],
+        terms[1],
+        terms[2],
+        terms[3],
+        terms[4],
+        terms[5],
+        terms[6],
+        terms[7],
+    ]
+}
+
+// Writes move `k` of a list.
+fn put_move(m: Move, k: usize, ms: &mut [u16])
+    requires { ⌜ Fine m × ((k < 512) × (length (now ms) ≡ 7168)) ⌝ }
+    ensures { λ _. ⌜ MovePut (now (ms .entry)) k m (now (ms .exit)) ⌝ }
+{
+    let row = numbers_of(m);
+    let mut j: usize = 0;
+    while j < 14 {
+        ms[14 * k + j] = row[j];
+        j += 1;
+    }
+}
+
+// Move `i` of a list.
+pub fn move_at(ms: &[u16], i: usize) -> Move
+    requires { ⌜ (i < 512) × (14 * i + 14 ≤ length (now ms)) ⌝ }
+    ensures { λ m. ⌜ m ≡ moveAt (movesIn (now (ms .entry))) i ⌝ }
+{
+    let at = 14 * i;
+    let terms = [
+        ms[at + 6],
+        ms[at + 7],
+        ms[at + 8],
+        ms[at + 9],
+        ms[at + 10],
+        ms[at + 11],
+        ms[at + 12],
+        ms[at + 13],
+    ];
+    Move {
+        fact: wide(ms[at]),
+        n: wide(ms[at + 1]),
+        op: ms[at + 2],
+        role: ms[at + 3],
+        a: ms[at + 4],
+        v: ms[at + 5],
+        terms,
     }
 }
 
@@ -125,27 +162,25 @@ pub fn chosen(r: Rule, one: u8, two: u8, roles: u32) -> bool
     false
 }
 
-// The moves of the rules that have one of two ops and one of the roles, in the rules' order.
-pub fn moves_of(rs: Rules, one: u8, two: u8, roles: u32) -> Moves
-    requires { ⌜ GoodRules rs ⌝ }
-    ensures { λ r. ⌜ MovesOf rs one two roles r (rs .count) ⌝ }
+// Writes the moves of the rules that have one of two ops and one of the roles, in the rules' order. Returns how many.
+pub fn moves_of(rs: Rules, one: u8, two: u8, roles: u32, ms: &mut [u16]) -> usize
+    requires { ⌜ GoodRules rs × (length (now ms) ≡ 7168) ⌝ }
+    ensures { λ r. ⌜ Gathered rs one two roles r (now (ms .exit)) ⌝ }
 {
     let n = rs.count;
-    let mut ms = none();
+    let mut k: usize = 0;
     let mut i: usize = 0;
     while i < n {
         let r = rs.rules[i];
         if chosen(r, one, two, roles) {
-            let m = move_of(r);
-            let at = ms.count;
-            ms.moves[at] = m;
-            ms.count = at + 1;
+            put_move(move_of(r), k, ms);
+            k += 1;
             i += 1;
         } else {
             i += 1;
         }
     }
-    ms
+    k
 }
 
 // ---------------------------------------------------------------- the flags of a subject
@@ -234,11 +269,11 @@ pub fn note(m: Move, subject: u8, k: usize, out: &mut [u8])
     ensures { λ _. ⌜ Noted (now (out .entry)) k (askOf subject m) (now (out .exit)) ⌝ }
 {
     let at = 5 * k;
-    out[at] = m.op;
-    out[at + 1] = m.role;
+    out[at] = m.op as u8;
+    out[at + 1] = m.role as u8;
     out[at + 2] = subject;
-    out[at + 3] = m.a;
-    out[at + 4] = m.v;
+    out[at + 3] = m.a as u8;
+    out[at + 4] = m.v as u8;
 }
 
 // ---------------------------------------------------------------- the two sweeps
@@ -271,7 +306,7 @@ fn next(i: usize, n: usize) -> usize
 
 // Adds to `x` what the moves can add within `allowed`, until nothing is left, and notes each request in `out` from request `start` on. Returns how many.
 pub fn close(
-    adds: Moves,
+    adds: &[u16],
     subject: u8,
     table: &[bool],
     allowed: &[bool],
@@ -279,16 +314,16 @@ pub fn close(
     start: usize,
     out: &mut [u8],
 ) -> usize
-    requires { ⌜ Sound adds ⌝ }
+    requires { ⌜ Sound (movesIn (now adds)) ⌝ }
     requires { ⌜ Ready (now table) (now allowed) (now x) (length (now out)) start ⌝ }
-    ensures { λ r. ⌜ Closed adds subject (now (table .entry)) (now (allowed .entry)) (now (x .entry)) (now (x .exit)) start (now (out .entry)) (now (out .exit)) r ⌝ }
+    ensures { λ r. ⌜ Closed (movesIn (now (adds .entry))) subject (now (table .entry)) (now (allowed .entry)) (now (x .entry)) (now (x .exit)) start (now (out .entry)) (now (out .exit)) r ⌝ }
 {
-    let count = adds.count;
+    let count = adds.len() / 14;
     let mut n: usize = 0;
     let mut quiet: usize = 0;
     let mut i: usize = 0;
     while quiet < count {
-        let m = adds.moves[i];
+        let m = move_at(adds, i);
         if fires(m, allowed, x) {
             put(table, m.fact, x);
             note(m, subject, start + n, out);
@@ -349,7 +384,7 @@ pub fn backs(m: Move, table: &[bool], x: &[bool], y: &[bool]) -> bool
 
 // Puts back into `y` what of `x` the moves can delete, until nothing is left, and notes each request in `out`, downwards from request `end`. Returns where the notes begin.
 pub fn back(
-    dels: Moves,
+    dels: &[u16],
     subject: u8,
     table: &[bool],
     bad: &[bool],
@@ -358,16 +393,16 @@ pub fn back(
     end: usize,
     out: &mut [u8],
 ) -> usize
-    requires { ⌜ Sound dels ⌝ }
+    requires { ⌜ Sound (movesIn (now dels)) ⌝ }
     requires { ⌜ ReadyBack (now table) (now bad) (now x) (now y) (length (now out)) end ⌝ }
-    ensures { λ r. ⌜ ClosedBack dels subject (now (table .entry)) (now (bad .entry)) (now (x .entry)) (now (y .exit)) end (now (out .entry)) (now (out .exit)) r ⌝ }
+    ensures { λ r. ⌜ ClosedBack (movesIn (now (dels .entry))) subject (now (table .entry)) (now (bad .entry)) (now (x .entry)) (now (y .exit)) end (now (out .entry)) (now (out .exit)) r ⌝ }
 {
-    let count = dels.count;
+    let count = dels.len() / 14;
     let mut at = end;
     let mut quiet: usize = 0;
     let mut i: usize = 0;
     while quiet < count {
-        let m = dels.moves[i];
+        let m = move_at(dels, i);
         if backs(m, table, x, y) {
             put(table, m.fact, y);
             at -= 1;
@@ -472,8 +507,8 @@ pub struct Ends {
 
 // One round: what can be added to `s` within `u`, to `x`, and what of that can be put back, to `y`.
 pub fn round(
-    adds: Moves,
-    dels: Moves,
+    adds: &[u16],
+    dels: &[u16],
     subject: u8,
     table: &[bool],
     bad: &[bool],
@@ -487,10 +522,10 @@ pub fn round(
     end: usize,
     down: &mut [u8],
 ) -> Ends
-    requires { ⌜ Sound adds × Sound dels ⌝ }
+    requires { ⌜ Sound (movesIn (now adds)) × Sound (movesIn (now dels)) ⌝ }
     requires { ⌜ Sizes (now table) (now bad) (now s) (now u) (now x) (now y) (now d) start (now up) end (now down) ⌝ }
     requires { ⌜ (direct (now s) ⊆ direct (now u)) ⌝ }
-    ensures { λ r. ⌜ Rounded adds dels subject (now (table .entry)) (now (bad .entry)) (now (s .entry)) (now (u .entry)) (now (x .exit)) (now (y .exit)) (now (d .exit)) start (now (up .entry)) (now (up .exit)) (r .ups) end (now (down .entry)) (now (down .exit)) (r .at) ⌝ }
+    ensures { λ r. ⌜ Rounded (movesIn (now (adds .entry))) (movesIn (now (dels .entry))) subject (now (table .entry)) (now (bad .entry)) (now (s .entry)) (now (u .entry)) (now (x .exit)) (now (y .exit)) (now (d .exit)) start (now (up .entry)) (now (up .exit)) (r .ups) end (now (down .entry)) (now (down .exit)) (r .at) ⌝ }
 {
     build(table, s, x);
     let n = close(adds, subject, table, u, x, start, up);
@@ -509,8 +544,8 @@ pub struct Outcome {
 
 // The level: rounds until what was put in can all be put back, or a starting fact is lost. `u` is what is allowed at first; `y` and `d` are room to work in.
 pub fn settle(
-    adds: Moves,
-    dels: Moves,
+    adds: &[u16],
+    dels: &[u16],
     subject: u8,
     table: &[bool],
     bad: &[bool],
@@ -524,10 +559,10 @@ pub fn settle(
     end: usize,
     down: &mut [u8],
 ) -> Outcome
-    requires { ⌜ Sound adds × Sound dels ⌝ }
+    requires { ⌜ Sound (movesIn (now adds)) × Sound (movesIn (now dels)) ⌝ }
     requires { ⌜ Sizes (now table) (now bad) (now s) (now u) (now x) (now y) (now d) start (now up) end (now down) ⌝ }
     requires { ⌜ (direct (now s) ⊆ direct (now u)) ⌝ }
-    ensures { λ r. ⌜ Result adds dels subject (now (table .entry)) (now (bad .entry)) (now (s .entry)) (now (u .entry)) (now (x .exit)) start (now (up .entry)) (now (up .exit)) end (now (down .entry)) (now (down .exit)) (r .found) (r .ups) (r .at) ⌝ }
+    ensures { λ r. ⌜ Result (movesIn (now (adds .entry))) (movesIn (now (dels .entry))) subject (now (table .entry)) (now (bad .entry)) (now (s .entry)) (now (u .entry)) (now (x .exit)) start (now (up .entry)) (now (up .exit)) end (now (down .entry)) (now (down .exit)) (r .found) (r .ups) (r .at) ⌝ }
 {
     loop {
         let e = round(

@@ -20,7 +20,7 @@ use Rattle.frames.specs.Fits.{Admitted}
 use Rattle.theory.specs.Facts.{State, _⊆_, Clear}
 use Rattle.theory.specs.Plan.{Ask, Req, Runs, end, Best}
 use Rattle.theory.proofs.PlanLaws.{bounds-first}
-use Rattle.level.specs.declared.Moves.{Moves}
+use Rattle.level.specs.Moves.{Moves}
 use Rattle.level.specs.Shown.{row, shown, direct, Whole}
 use Rattle.level.specs.Terms.{effective}
 use Rattle.level.specs.World.{world}

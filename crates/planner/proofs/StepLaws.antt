@@ -15,7 +15,7 @@ use Rattle.frames.specs.declared.Book.{Book}
 use Rattle.frames.specs.Book.{contentsOf, listed}
 use Rattle.frames.specs.Fits.{Admitted}
 use Rattle.theory.specs.Facts.{_⊆_}
-use Rattle.level.specs.declared.Moves.{Moves}
+use Rattle.level.specs.Moves.{Moves, movesIn}
 use Rattle.level.specs.Shown.{direct}
 use Rattle.level.specs.World.{world}
 use Rattle.level.specs.Chosen.{GoodRules, MovesOf}
@@ -68,9 +68,9 @@ module _ (bk : Book) (ok : Admitted (contentsOf bk)) where
   pub book-good : length (bk .rules .rules) ≡ 512 → GoodRules (bk .rules)
   book-good room = all-good (contentsOf bk) ok (bk .rules) same-rules few room
 
-  pub side-moves : {adds dels : Moves} {add₁ add₂ del₁ del₂ : ℕ} → length (bk .rules .rules) ≡ 512
-      → MovesOf (bk .rules) add₁ add₂ (bk .query .roles) adds (bk .rules .count) → MovesOf (bk .rules) del₁ del₂ (bk .query .roles) dels (bk .rules .count)
-      → SideMoves bk add₁ add₂ del₁ del₂ adds dels
+  pub side-moves : {adds dels : List ℕ} {add₁ add₂ del₁ del₂ : ℕ} → length (bk .rules .rules) ≡ 512
+      → MovesOf (bk .rules) add₁ add₂ (bk .query .roles) (movesIn adds) (bk .rules .count) → MovesOf (bk .rules) del₁ del₂ (bk .query .roles) (movesIn dels) (bk .rules .count)
+      → SideMoves bk add₁ add₂ del₁ del₂ (movesIn adds) (movesIn dels)
   side-moves room more less =
       record { room = room; more = more; less = less; sound-adds = moves-sound (book-good room) more; sound-dels = moves-sound (book-good room) less }
 

@@ -27,8 +27,7 @@ use Rattle.rules.proofs.SearchLaws.{each-at}
 use Rattle.theory.specs.Facts.{State}
 use Rattle.theory.specs.Plan.{Ask, req}
 use Rattle.level.specs.declared.Move.{Move}
-use Rattle.level.specs.declared.Moves.{Moves}
-use Rattle.level.specs.Moves.{all, placeOf, moveAt, askOf}
+use Rattle.level.specs.Moves.{Moves, all, placeOf, moveAt, askOf}
 use Rattle.level.specs.World.{Some, world}
 use Rattle.level.specs.Terms.{termShown, ruleShown, GoodRule}
 use Rattle.level.specs.Chosen.{noRule, ruleAt, GoodRules, MovesOf}

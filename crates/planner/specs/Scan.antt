@@ -8,8 +8,7 @@ use Rattle.frames.specs.declared.Book.{Book}
 use Rattle.frames.specs.Book.{Contents}
 use Rattle.theory.specs.Facts.{Clear}
 use Rattle.theory.specs.Plan.{Ask, Req, Runs, end, Best}
-use Rattle.level.specs.declared.Moves.{Moves}
-use Rattle.level.specs.Moves.{Sound}
+use Rattle.level.specs.Moves.{Moves, Sound}
 use Rattle.level.specs.Chosen.{MovesOf}
 use Rattle.level.specs.Notes.{asks}
 use Rattle.reach.specs.Tracked.{bytesOf}

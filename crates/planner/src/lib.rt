@@ -11,13 +11,13 @@ ghost use Rattle.facts.specs.Facts.{holds};
 ghost use Rattle.gate.specs.Gate.{InRange};
 ghost use Rattle.replay.specs.Met.{met};
 ghost use Rattle.drafts.specs.Drafts.{carried, flat};
+ghost use Rattle.level.specs.Moves.{movesIn};
 ghost use Rattle.planner.specs.Count.{factCount};
 ghost use Rattle.planner.specs.Answer.{refusalNumber, refusalLine, drafted, Answered, PlanPromise};
 ghost use Rattle.planner.specs.Drive.{Driving};
 ghost use Rattle.planner.specs.Scan.{SideMoves, NoRun, AllAllowed, BlankTable, Scanned, Searched};
 use frames::Book;
 use gate::Sizes;
-use level::Moves;
 use level::Outcome;
 
 // What the planner answers: no way, the count of the plan's requests, or a refusal.
@@ -81,8 +81,8 @@ fn crew_level(
     b: Book,
     juniors: &[u32],
     k: u8,
-    adds: Moves,
-    dels: Moves,
+    adds: &[u16],
+    dels: &[u16],
     reach: &[bool],
     rows: &mut [bool],
     table: &mut [bool],
@@ -91,7 +91,7 @@ fn crew_level(
     at: usize,
     down: &mut [u8],
 ) -> Outcome
-    requires { ⌜ Admitted (contentsOf b) × ((k < b .sizes .crews) × (SideMoves b 3 3 4 4 adds dels × ((length (now reach) ≡ 5120) × (Reaching (b .juniors) (now reach) × (now juniors ≡ b .juniors))))) ⌝ }
+    requires { ⌜ Admitted (contentsOf b) × ((k < b .sizes .crews) × (SideMoves b 3 3 4 4 (movesIn (now adds)) (movesIn (now dels)) × ((length (now reach) ≡ 5120) × (Reaching (b .juniors) (now reach) × (now juniors ≡ b .juniors))))) ⌝ }
     requires { ⌜ BlankTable (now table) ⌝ }
     requires { ⌜ Driving (contentsOf b) k (now rows) ups (now up) at (now down) ⌝ }
     ensures { λ r. ⌜ Scanned (contentsOf b) (k + 1) (now (rows .exit)) (now (up .exit)) (now (down .exit)) (r .found) (ups + r .ups) (r .at) × BlankTable (now (table .exit)) ⌝ }
@@ -145,15 +145,15 @@ fn fill_reach(juniors: &[u32], reach: &mut [bool])
 fn crew_levels(
     b: Book,
     juniors: &[u32],
-    adds: Moves,
-    dels: Moves,
+    adds: &[u16],
+    dels: &[u16],
     reach: &[bool],
     rows: &mut [bool],
     table: &mut [bool],
     up: &mut [u8],
     down: &mut [u8],
 ) -> Outcome
-    requires { ⌜ Admitted (contentsOf b) × (SideMoves b 3 3 4 4 adds dels × ((length (now reach) ≡ 5120) × (Reaching (b .juniors) (now reach) × (now juniors ≡ b .juniors)))) ⌝ }
+    requires { ⌜ Admitted (contentsOf b) × (SideMoves b 3 3 4 4 (movesIn (now adds)) (movesIn (now dels)) × ((length (now reach) ≡ 5120) × (Reaching (b .juniors) (now reach) × (now juniors ≡ b .juniors)))) ⌝ }
     requires { ⌜ BlankTable (now table) ⌝ }
     requires { ⌜ Driving (contentsOf b) 0 (now rows) 0 (now up) 5280 (now down) ⌝ }
     ensures { λ r. ⌜ Scanned (contentsOf b) (b .sizes .crews) (now (rows .exit)) (now (up .exit)) (now (down .exit)) (r .found) (r .ups) (r .at) ⌝ }
@@ -198,8 +198,8 @@ fn crew_levels(
 // The level of the query's person, above all crews.
 fn person_level(
     b: Book,
-    adds: Moves,
-    dels: Moves,
+    adds: &[u16],
+    dels: &[u16],
     rows: &[bool],
     table: &mut [bool],
     ups: usize,
@@ -207,7 +207,7 @@ fn person_level(
     at: usize,
     down: &mut [u8],
 ) -> Outcome
-    requires { ⌜ Admitted (contentsOf b) × (SideMoves b 1 5 2 6 adds dels × (length (now table) ≡ 5280)) ⌝ }
+    requires { ⌜ Admitted (contentsOf b) × (SideMoves b 1 5 2 6 (movesIn (now adds)) (movesIn (now dels)) × (length (now table) ≡ 5280)) ⌝ }
     requires { ⌜ Driving (contentsOf b) (b .sizes .crews) (now rows) ups (now up) at (now down) ⌝ }
     ensures { λ r. ⌜ Searched (contentsOf b) (now (up .exit)) (now (down .exit)) (r .found) (ups + r .ups) (r .at) ⌝ }
 {
@@ -255,8 +255,10 @@ fn search(b: Book, up: &mut [u8], down: &mut [u8]) -> Outcome
     let juniors = b.juniors;
     let roles = b.query.roles;
     let rules = b.rules;
-    let crew_adds = level::moves_of(rules, 3, 3, roles);
-    let crew_dels = level::moves_of(rules, 4, 4, roles);
+    let mut adds = [0u16; 7168];
+    let mut dels = [0u16; 7168];
+    let n = level::moves_of(rules, 3, 3, roles, &mut adds);
+    let m = level::moves_of(rules, 4, 4, roles, &mut dels);
     let mut reach = [false; 5120];
     let mut rows = [false; 5120];
     let mut table = [false; 5280];
@@ -265,8 +267,8 @@ fn search(b: Book, up: &mut [u8], down: &mut [u8]) -> Outcome
     let r = crew_levels(
         b,
         &juniors,
-        crew_adds,
-        crew_dels,
+        &adds[..14 * n],
+        &dels[..14 * m],
         &reach,
         &mut rows,
         &mut table,
@@ -276,9 +278,19 @@ fn search(b: Book, up: &mut [u8], down: &mut [u8]) -> Outcome
     if !r.found {
         return stuck;
     }
-    let adds = level::moves_of(rules, 1, 5, roles);
-    let dels = level::moves_of(rules, 2, 6, roles);
-    let p = person_level(b, adds, dels, &rows, &mut table, r.ups, up, r.at, down);
+    let n = level::moves_of(rules, 1, 5, roles, &mut adds);
+    let m = level::moves_of(rules, 2, 6, roles, &mut dels);
+    let p = person_level(
+        b,
+        &adds[..14 * n],
+        &dels[..14 * m],
+        &rows,
+        &mut table,
+        r.ups,
+        up,
+        r.at,
+        down,
+    );
     if !p.found {
         return stuck;
     }

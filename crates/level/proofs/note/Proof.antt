@@ -9,8 +9,14 @@ use Rattle.level.proofs.note.Tie as tie
 mul-at : tie.Need-mul-at
 mul-at c = search needs
 
+cast-out : tie.Need-cast-out
+cast-out c = search needs
+
 slice-write-out : tie.Need-slice-write-out
 slice-write-out c = search needs
+
+cast-out-2 : tie.Need-cast-out-2
+cast-out-2 c = search needs
 
 add-out : tie.Need-add-out
 add-out c = search needs
@@ -24,11 +30,17 @@ add-out-2 c = search needs
 slice-write-out-3 : tie.Need-slice-write-out-3
 slice-write-out-3 c = simp length-set (omega arith)
 
+cast-out-3 : tie.Need-cast-out-3
+cast-out-3 c = search needs
+
 add-out-3 : tie.Need-add-out-3
 add-out-3 c = search needs
 
 slice-write-out-4 : tie.Need-slice-write-out-4
 slice-write-out-4 c = simp length-set (omega arith)
+
+cast-out-4 : tie.Need-cast-out-4
+cast-out-4 c = search needs
 
 add-out-4 : tie.Need-add-out-4
 add-out-4 c = search needs
@@ -40,20 +52,24 @@ same-length : tie.Need-same-length
 same-length c = search needs
 
 returns : tie.Need-returns
-returns c = noted (c .args .out .now) (c .args .k) (c .args .subject) (c .args .m) (c .pre .0) (c .pre .1)
+returns c = noted (c .before .before .before .before .args .out .now) (c .before .before .before .before .args .k) (c .before .before .before .before .args .subject) (c .before .before .before .before .args .m) (c .before .before .before .before .pre .0) (c .before .before .before .before .pre .1)
 
 pub note-spec : {M : Type 1} → statement M
 note-spec =
     tie.close
     (tie.spec
     mul-at
+    cast-out
     slice-write-out
+    cast-out-2
     add-out
     slice-write-out-2
     add-out-2
     slice-write-out-3
+    cast-out-3
     add-out-3
     slice-write-out-4
+    cast-out-4
     add-out-4
     slice-write-out-5
     same-length

@@ -10,7 +10,7 @@ build-requires c κs = search needs
 close-requires : tie.Need-close-requires
 close-requires c κs =
     let at-build = c .before .before .before .before in
-    let at-start = at-build .before .before .before .before .before .before .before .before .before .before .before in
+    let at-start = at-build .before .before .before .before .before .before .before .before .before .before .before .before .before in
     (at-start .pre .0 .0, ready (at-start .pre .1 .0) (at-build .build .ensures) (at-start .pre .1 .1))
 
 strip-requires : tie.Need-strip-requires
@@ -19,7 +19,7 @@ strip-requires c κs = search needs
 build-requires-2 : tie.Need-build-requires-2
 build-requires-2 c κs =
     let at-strip = c .before .before .before .before in
-    let at-start = at-strip .before .before .before .before .before .before .before .before .before .before .before .before .before .before .before .before .before .before .before .before .before .before .before in
+    let at-start = at-strip .before .before .before .before .before .before .before .before .before .before .before .before .before .before .before .before .before .before .before .before .before .before .before .before .before in
     (at-start .pre .1 .0 .size-y, (at-start .pre .1 .0 .rows, at-strip .strip .ensures .size))
 
 back-requires : tie.Need-back-requires
@@ -27,7 +27,7 @@ back-requires c κs =
     let at-build2 = c .before .before .before .before .before in
     let at-strip = at-build2 .before .before .before .before .before in
     let at-close = at-strip .before .before .before .before .before .before .before in
-    let at-start = at-close .before .before .before .before .before .before .before .before .before .before .before .before .before .before .before .before in
+    let at-start = at-close .before .before .before .before .before .before .before .before .before .before .before .before .before .before .before .before .before .before in
     (at-start .pre .0 .1, ready-back (at-start .pre .1 .0) (at-close .close .ensures .whole) (at-strip .strip .ensures) (at-build2 .build2 .ensures))
 
 same-length : tie.Need-same-length
@@ -51,7 +51,7 @@ returns c =
     let at-strip = at-back .before .before .before .before .before .before .before .before .before .before .before in
     let at-close = at-strip .before .before .before .before .before .before .before in
     let at-build = at-close .before .before .before .before .before in
-    let at-start = at-build .before .before .before .before .before .before .before .before .before .before .before in
+    let at-start = at-build .before .before .before .before .before .before .before .before .before .before .before .before .before in
     rounded (at-start .pre .1 .0) (at-build .build .ensures) (at-close .close .ensures) (at-strip .strip .ensures) (at-back .back .ensures)
 
 pub round-spec : {M : Type 1} → statement M

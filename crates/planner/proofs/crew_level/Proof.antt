@@ -21,14 +21,14 @@ room-down a e = omega arith
 
 is-below-listed-requires : tie.Need-is-below-listed-requires
 unfolding contentsOf
-is-below-listed-requires c κs = let pre = c .before .before .before .before .before .before .pre .0 in (omega (arith, pre .1 .0, pre .0 .sized .crews-most), (pre .1 .1 .1 .0, pre .1 .1 .1 .1 .0))
+is-below-listed-requires c κs = let pre = c .before .before .before .before .before .before .before .before .pre .0 in (omega (arith, pre .1 .0, pre .0 .sized .crews-most), (pre .1 .1 .1 .0, pre .1 .1 .1 .1 .0))
 
 slice-aggregate-bad-flags : tie.Need-slice-aggregate-bad-flags
 slice-aggregate-bad-flags c = search needs
 
 bad-flags-requires : tie.Need-bad-flags-requires
 unfolding contentsOf
-bad-flags-requires c κs = let pre = c .before .before .before .before .before .before .before .before .pre .0 in ((pre .0, (omega (arith, pre .1 .0), refl)), λ h. c .before .is-below-listed .ensures)
+bad-flags-requires c κs = let pre = c .before .before .before .before .before .before .before .before .before .before .pre .0 in ((pre .0, (omega (arith, pre .1 .0), refl)), λ h. c .before .is-below-listed .ensures)
 
 slice-aggregate-start-flags : tie.Need-slice-aggregate-start-flags
 slice-aggregate-start-flags c = search needs
@@ -44,7 +44,7 @@ allow-all-requires c κs = search needs
 
 crew-table-requires : tie.Need-crew-table-requires
 unfolding contentsOf
-crew-table-requires c κs = let pre = c .before .before .before .before .before .before .before .before .before .before .before .before .before .before .before .before .before .before .pre in (omega (arith, pre .0 .1 .0, pre .0 .0 .sized .crews-most), (ap length (pre .0 .1 .1 .1 .1 .1) ∙ pre .0 .0 .edge-room, (pre .1 .1 .rows-right .size, pre .1 .0 .size)))
+crew-table-requires c κs = let pre = c .before .before .before .before .before .before .before .before .before .before .before .before .before .before .before .before .before .before .before .before .pre in (omega (arith, pre .0 .1 .0, pre .0 .0 .sized .crews-most), (ap length (pre .0 .1 .1 .1 .1 .1) ∙ pre .0 .0 .edge-room, (pre .1 .1 .rows-right .size, pre .1 .0 .size)))
 
 slice-aggregate-settle : tie.Need-slice-aggregate-settle
 slice-aggregate-settle c = search needs
@@ -67,7 +67,7 @@ slice-aggregate-settle-6 c = search needs
 settle-requires : tie.Need-settle-requires
 unfolding contentsOf
 settle-requires c κs =
-    let pre = c .before .before .before .before .before .before .before .before .before .before .before .before .before .before .before .before .before .before .before .before .before .before .before .before .before .before .before .before .before .before .pre in
+    let pre = c .before .before .before .before .before .before .before .before .before .before .before .before .before .before .before .before .before .before .before .before .before .before .before .before .before .before .before .before .before .before .before .before .pre in
     let drive = pre .1 .1 in
     let few = drive .few-up in
     let many = drive .few-down in
@@ -97,7 +97,7 @@ slice-aggregate-fill-row c = search needs
 fill-row-requires : tie.Need-fill-row-requires
 unfolding contentsOf
 fill-row-requires c κs =
-    let pre = c .before .before .before .before .before .before .before .before .before .before .before .before .before .before .before .before .before .before .before .before .before .before .before .before .before .before .before .before .before .before .before .before .before .before .before .before .before .before .before .before .before .pre in
+    let pre = c .before .before .before .before .before .before .before .before .before .before .before .before .before .before .before .before .before .before .before .before .before .before .before .before .before .before .before .before .before .before .before .before .before .before .before .before .before .before .before .before .before .before .before .pre in
     (omega (arith, pre .0 .1 .0, pre .0 .0 .sized .crews-most), (ap length (pre .0 .1 .1 .1 .1 .1) ∙ pre .0 .0 .edge-room, (c .before .before .before .before .before .before .before .before .x2 .given, pre .1 .1 .rows-right .size)))
 
 same-length : tie.Need-same-length
@@ -115,7 +115,7 @@ same-length-4 c = search needs
 returns : tie.Need-returns
 unfolding contentsOf
 returns c =
-    let start = c .before .before .before .before .before .before .before .before .before .before .before .before .before .before .before .before .before .before .before .before .before .before .before .before .before .before .before .before .before .before .before .before .before .before .before .before .before .before .before .before .before .before .before .before in
+    let start = c .before .before .before .before .before .before .before .before .before .before .before .before .before .before .before .before .before .before .before .before .before .before .before .before .before .before .before .before .before .before .before .before .before .before .before .before .before .before .before .before .before .before .before .before .before .before in
     let pre = start .pre in
     let same = pre .0 .1 .1 .1 .1 .1 in
     let made = c .before .before .before .before .before .before .before .before .before .before .before .before .before .before .before .before .before .before .before .before .before .before .before .before .before .crew-table .ensures in

@@ -29,33 +29,33 @@ abbrev μ-loop : tie.MeasureT-loop
 μ-loop b juniors adds dels reach rows₀ table₀ up₀ down₀ n ups₀ at₀ k₀ rows table up down ups at k = n - k
 
 loop-holds : tie.Need-loop-holds Inv-loop μ-loop
-loop-holds c = (omega arith, c .before .before .before .before .before .before .pre .1)
+loop-holds c = (omega arith, c .before .before .before .before .before .before .before .before .pre .1)
 
 crew-level-requires : tie.Need-crew-level-requires Inv-loop μ-loop
-crew-level-requires c κs = let pre = c .before .before .before .before .before .before .before .before .before .before .before .before .pre .0 in ((pre .0, (c .before .before .before .before .loop-test .taken, pre .1)), c .before .before .before .before .before .loop .inv .1)
+crew-level-requires c κs = let pre = c .before .before .before .before .before .before .before .before .before .before .before .before .before .before .pre .0 in ((pre .0, (c .before .before .before .before .loop-test .taken, pre .1)), c .before .before .before .before .before .loop .inv .1)
 
 same-length : tie.Need-same-length Inv-loop μ-loop
-same-length c = c .before .before .before .before .before .before .before .before .before .rows .given ∙ (c .before .before .before .before .before .before .before .before .before .before .before .before .before .before .before .before .loop .inv .1 .1 .rows-right .size ∙ sym (c .before .before .before .before .before .before .before .before .before .before .before .before .before .before .before .before .before .before .before .before .before .before .before .pre .1 .1 .rows-right .size))
+same-length c = c .before .before .before .before .before .before .before .before .before .rows .given ∙ (c .before .before .before .before .before .before .before .before .before .before .before .before .before .before .before .before .loop .inv .1 .1 .rows-right .size ∙ sym (c .before .before .before .before .before .before .before .before .before .before .before .before .before .before .before .before .before .before .before .before .before .before .before .before .before .pre .1 .1 .rows-right .size))
 
 same-length-2 : tie.Need-same-length-2 Inv-loop μ-loop
-same-length-2 c = c .before .before .before .before .before .before .before .table .given ∙ (c .before .before .before .before .before .before .before .before .before .before .before .before .before .before .before .before .loop .inv .1 .0 .size ∙ sym (c .before .before .before .before .before .before .before .before .before .before .before .before .before .before .before .before .before .before .before .before .before .before .before .pre .1 .0 .size))
+same-length-2 c = c .before .before .before .before .before .before .before .table .given ∙ (c .before .before .before .before .before .before .before .before .before .before .before .before .before .before .before .before .loop .inv .1 .0 .size ∙ sym (c .before .before .before .before .before .before .before .before .before .before .before .before .before .before .before .before .before .before .before .before .before .before .before .before .before .pre .1 .0 .size))
 
 same-length-3 : tie.Need-same-length-3 Inv-loop μ-loop
-same-length-3 c = c .before .before .before .before .before .up .given ∙ (c .before .before .before .before .before .before .before .before .before .before .before .before .before .before .before .before .loop .inv .1 .1 .size-up ∙ sym (c .before .before .before .before .before .before .before .before .before .before .before .before .before .before .before .before .before .before .before .before .before .before .before .pre .1 .1 .size-up))
+same-length-3 c = c .before .before .before .before .before .up .given ∙ (c .before .before .before .before .before .before .before .before .before .before .before .before .before .before .before .before .loop .inv .1 .1 .size-up ∙ sym (c .before .before .before .before .before .before .before .before .before .before .before .before .before .before .before .before .before .before .before .before .before .before .before .before .before .pre .1 .1 .size-up))
 
 same-length-4 : tie.Need-same-length-4 Inv-loop μ-loop
-same-length-4 c = c .before .before .before .down .given ∙ (c .before .before .before .before .before .before .before .before .before .before .before .before .before .before .before .before .loop .inv .1 .1 .size-down ∙ sym (c .before .before .before .before .before .before .before .before .before .before .before .before .before .before .before .before .before .before .before .before .before .before .before .pre .1 .1 .size-down))
+same-length-4 c = c .before .before .before .down .given ∙ (c .before .before .before .before .before .before .before .before .before .before .before .before .before .before .before .before .loop .inv .1 .1 .size-down ∙ sym (c .before .before .before .before .before .before .before .before .before .before .before .before .before .before .before .before .before .before .before .before .before .before .before .before .before .pre .1 .1 .size-down))
 
 returns : tie.Need-returns Inv-loop μ-loop
 returns c = record { settled = λ e. absurd (true≢false (sym e)); stuck = λ e. c .before .before .before .before .before .before .before .before .before .before .crew-level .ensures .0 .stuck (no-found _ (c .if1 .taken)) }
 
 add-ups : tie.Need-add-ups Inv-loop μ-loop
 unfolding contentsOf
-add-ups c = omega (arith, few (c .before .before .before .before .before .before .before .before .before .before .before .crew-level .ensures .0 .settled (was-found _ (c .before .if1 .left)) .few-up) (c .before .before .before .before .before .before .before .before .before .before .before .before .before .before .before .before .loop-test .taken) (c .before .before .before .before .before .before .before .before .before .before .before .before .before .before .before .before .before .before .before .before .before .before .before .before .pre .0 .0 .sized .crews-most))
+add-ups c = omega (arith, few (c .before .before .before .before .before .before .before .before .before .before .before .crew-level .ensures .0 .settled (was-found _ (c .before .if1 .left)) .few-up) (c .before .before .before .before .before .before .before .before .before .before .before .before .before .before .before .before .loop-test .taken) (c .before .before .before .before .before .before .before .before .before .before .before .before .before .before .before .before .before .before .before .before .before .before .before .before .before .before .pre .0 .0 .sized .crews-most))
 
 add-k : tie.Need-add-k Inv-loop μ-loop
 unfolding contentsOf
-add-k c = omega (arith, small (c .before .before .before .before .before .before .before .before .before .before .before .before .before .before .before .before .loop-test .taken) (c .before .before .before .before .before .before .before .before .before .before .before .before .before .before .before .before .before .before .before .before .before .before .before .before .pre .0 .0 .sized .crews-most))
+add-k c = omega (arith, small (c .before .before .before .before .before .before .before .before .before .before .before .before .before .before .before .before .loop-test .taken) (c .before .before .before .before .before .before .before .before .before .before .before .before .before .before .before .before .before .before .before .before .before .before .before .before .before .before .pre .0 .0 .sized .crews-most))
 
 loop-less : tie.Need-loop-less Inv-loop μ-loop
 loop-less c = search needs
@@ -64,16 +64,16 @@ loop-again : tie.Need-loop-again Inv-loop μ-loop
 loop-again c = (omega (arith, c .before .before .before .before .before .before .before .before .before .before .before .before .before .before .before .before .loop-test .taken), (c .before .before .before .before .before .before .before .before .before .before .before .crew-level .ensures .1, c .before .before .before .before .before .before .before .before .before .before .before .crew-level .ensures .0 .settled (was-found _ (c .before .if1 .left))))
 
 same-length-5 : tie.Need-same-length-5 Inv-loop μ-loop
-same-length-5 c = c .before .loop .inv .1 .1 .rows-right .size ∙ sym (c .before .before .before .before .before .before .before .before .pre .1 .1 .rows-right .size)
+same-length-5 c = c .before .loop .inv .1 .1 .rows-right .size ∙ sym (c .before .before .before .before .before .before .before .before .before .before .pre .1 .1 .rows-right .size)
 
 same-length-6 : tie.Need-same-length-6 Inv-loop μ-loop
-same-length-6 c = c .before .loop .inv .1 .0 .size ∙ sym (c .before .before .before .before .before .before .before .before .pre .1 .0 .size)
+same-length-6 c = c .before .loop .inv .1 .0 .size ∙ sym (c .before .before .before .before .before .before .before .before .before .before .pre .1 .0 .size)
 
 same-length-7 : tie.Need-same-length-7 Inv-loop μ-loop
-same-length-7 c = c .before .loop .inv .1 .1 .size-up ∙ sym (c .before .before .before .before .before .before .before .before .pre .1 .1 .size-up)
+same-length-7 c = c .before .loop .inv .1 .1 .size-up ∙ sym (c .before .before .before .before .before .before .before .before .before .before .pre .1 .1 .size-up)
 
 same-length-8 : tie.Need-same-length-8 Inv-loop μ-loop
-same-length-8 c = c .before .loop .inv .1 .1 .size-down ∙ sym (c .before .before .before .before .before .before .before .before .pre .1 .1 .size-down)
+same-length-8 c = c .before .loop .inv .1 .1 .size-down ∙ sym (c .before .before .before .before .before .before .before .before .before .before .pre .1 .1 .size-down)
 
 returns-2 : tie.Need-returns-2 Inv-loop μ-loop
 returns-2 c = scanned (c .before .loop .inv .1 .1) (omega (arith, c .before .loop .inv .0, c .loop-test .left))

@@ -23,7 +23,7 @@ slice-aggregate-bad-flags c = search needs
 
 bad-flags-requires : tie.Need-bad-flags-requires
 unfolding contentsOf
-bad-flags-requires c κs = ((c .before .before .before .before .before .pre .0 .0, (omega arith, refl)), λ h. absurd (omega arith))
+bad-flags-requires c κs = ((c .before .before .before .before .before .before .before .pre .0 .0, (omega arith, refl)), λ h. absurd (omega arith))
 
 slice-aggregate-start-flags : tie.Need-slice-aggregate-start-flags
 slice-aggregate-start-flags c = search needs
@@ -38,7 +38,7 @@ allow-all-requires : tie.Need-allow-all-requires
 allow-all-requires c κs = search needs
 
 person-table-requires : tie.Need-person-table-requires
-person-table-requires c κs = (c .before .before .before .before .before .before .before .before .before .before .before .before .before .before .pre .1 .rows-right .size, c .before .before .before .before .before .before .before .before .before .before .before .before .before .before .pre .0 .1 .1)
+person-table-requires c κs = (c .before .before .before .before .before .before .before .before .before .before .before .before .before .before .before .before .pre .1 .rows-right .size, c .before .before .before .before .before .before .before .before .before .before .before .before .before .before .before .before .pre .0 .1 .1)
 
 slice-aggregate-settle : tie.Need-slice-aggregate-settle
 slice-aggregate-settle c = search needs
@@ -61,7 +61,7 @@ slice-aggregate-settle-6 c = search needs
 settle-requires : tie.Need-settle-requires
 unfolding contentsOf
 settle-requires c κs =
-    let pre = c .before .before .before .before .before .before .before .before .before .before .before .before .before .before .before .before .before .before .before .before .before .before .before .before .before .before .pre in
+    let pre = c .before .before .before .before .before .before .before .before .before .before .before .before .before .before .before .before .before .before .before .before .before .before .before .before .before .before .before .before .pre in
     let drive = pre .1 in
     let few = drive .few-up in
     let many = drive .few-down in
@@ -96,7 +96,7 @@ same-length-3 c = search needs
 returns : tie.Need-returns
 unfolding contentsOf
 returns c =
-    let start = c .before .before .before .before .before .before .before .before .before .before .before .before .before .before .before .before .before .before .before .before .before .before .before .before .before .before .before .before .before .before .before .before .before .before .before in
+    let start = c .before .before .before .before .before .before .before .before .before .before .before .before .before .before .before .before .before .before .before .before .before .before .before .before .before .before .before .before .before .before .before .before .before .before .before .before .before in
     let pre = start .pre in
     let drive = pre .1 in
     person-searched (start .args .b) (pre .0 .0) (pre .0 .1 .0) drive (c .before .before .before .before .before .before .before .before .before .before .before .before .before .before .before .before .before .before .before .before .person-table .ensures) (c .before .before .before .before .before .before .before .before .before .before .before .before .before .before .before .before .before .before .before .before .before .before .before .before .before .before .before .before .before .bad-flags .ensures) (c .before .before .before .before .before .before .before .before .before .before .before .before .before .before .before .before .before .before .before .before .before .before .before .before .before .before .start-flags .ensures) (c .before .before .before .before .before .before .before .before .before .before .before .before .before .before .before .before .before .before .before .before .before .before .before .allow-all .ensures)
