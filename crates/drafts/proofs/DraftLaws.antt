@@ -11,19 +11,16 @@ use Rattle.facts.specs.Facts.{putFact}
 use Rattle.requests.specs.declared.Request.{Request}
 use Rattle.requests.specs.Requests.{adds, requestOf}
 use Rattle.ledger.specs.Ledger.{after}
-use Rattle.ledger.proofs.LedgerLaws.{after-length}
+use Rattle.ledger.proofs.LedgerLaws.{after-put, after-length}
 use Rattle.theory.specs.Plan.{Ask}
 use Rattle.level.specs.Notes.{askAt, asks}
 use Rattle.level.proofs.NoteLaws.{asks-last}
 use Rattle.reach.specs.Tracked.{bytesOf}
 use Rattle.replay.specs.Chains.{run, ends, fives}
-use Rattle.replay.proofs.ReplayLaws.{run-none, run-parts, fives-append}
+use Rattle.replay.proofs.ReplayLaws.{one-end, run-none, run-parts, fives-none, fives-append}
 use Rattle.drafts.specs.Drafts.{carried, flat}
 
 -- ---------------------------------------------------------------- requests carried out
-
-one-end : (l m : List ℕ) → ends l ≡ ends m → l ≡ m
-one-end l m e = cc
 
 -- What a run that ends leaves is its requests carried out.
 pub run-carried : (b : Contents) (roles : ℕ) (l : List ℕ) (k : ℕ) (qs : List (List ℕ)) (m : List ℕ) → run b roles l k qs ≡ ends m → carried l qs ≡ m
@@ -36,11 +33,6 @@ pub carried-append : (l : List ℕ) (ps qs : List (List ℕ)) → carried l (ps 
 unfolding carried
 carried-append l [] qs = refl
 carried-append l (p ∷ ps) qs = carried-append (after l (requestOf p)) ps qs
-
--- No requests leave the ledger.
-pub carried-none : (l : List ℕ) → carried l [] ≡ l
-unfolding carried
-carried-none l = refl
 
 -- One request is carried out.
 pub carried-one : (l q : List ℕ) → carried l (q ∷ []) ≡ after l (requestOf q)
@@ -63,8 +55,8 @@ flat-append (p ∷ ps) qs = ap (λ (r : List ℕ). p ++ r) (flat-append ps qs) �
 
 -- The bytes of requests write these requests.
 pub fives-flat : (us : List Ask) → fives (flat (map bytesOf us)) ≡ map bytesOf us
-unfolding flat fives
-fives-flat [] = refl
+unfolding flat
+fives-flat [] = fives-none [] (omega arith)
 fives-flat (u ∷ us) = fives-append (bytesOf u) (flat (map bytesOf us)) refl ∙ ap (λ (r : List (List ℕ)). bytesOf u ∷ r) (fives-flat us)
 
 -- Each request has five bytes.
@@ -115,10 +107,6 @@ pub carry-first : (l d : List ℕ) (k : ℕ) → l ≡ carried l (map bytesOf (a
 unfolding asks carried
 carry-first l d k = refl
 
-put-after : (l : List ℕ) (q : Request) → putFact l (q .fact) (adds (q .op)) ≡ after l q
-unfolding after
-put-after l q = refl
-
 -- One request more is carried out.
 pub carry-more : (l₀ l m d : List ℕ) (k i t : ℕ) (r : Request) (on : Bool) → 5 * (k + i) + 5 ≤ length d → t ≡ 5
     → r ≡ requestOf (take t (drop (5 * (k + i)) d)) → on ≡ adds (r .op) → m ≡ putFact l (r .fact) on
@@ -129,7 +117,7 @@ carry-more l₀ l m d k i t r on h five is turn left so-far =
     let bytes : take t (drop (5 * (k + i)) d) ≡ bytesOf u = ap (λ (j : ℕ). take j (drop (5 * (k + i)) d)) five ∙ bytes-at d (k + i) h in
     left
     ∙ ap (putFact l (r .fact)) turn
-    ∙ put-after l r
+    ∙ sym (after-put l r)
     ∙ ap (after l) (is ∙ ap requestOf bytes)
     ∙ ap (λ (x : List ℕ). after x (requestOf (bytesOf u))) so-far
     ∙ sym (carried-one (carried l₀ (map bytesOf (asks d k i))) (bytesOf u))

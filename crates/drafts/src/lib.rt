@@ -9,7 +9,7 @@ ghost use Rattle.drafts.specs.Drafts.{carried, flat};
 
 // Carries out the n requests of a draft from request `from` on, without asking whether they are permitted.
 pub fn carry_out(ledger: &mut [u8], draft: &[u8], from: usize, n: usize)
-    requires { ⌜ (length (now ledger) ≡ 1792) × (5 * (from + n) ≤ length (now draft)) ⌝ }
+    requires { ⌜ 5 * (from + n) ≤ length (now draft) ⌝ }
     ensures { λ _. ⌜ now (ledger .exit) ≡ carried (now (ledger .entry)) (map bytesOf (asks (now (draft .entry)) from n)) ⌝ }
 {
     let mut i: usize = 0;

@@ -1,57 +1,34 @@
 -- The laws of the flags that the query forbids.
-use mathlib.Core.Path.{_≡_, refl, ap, sym, _∙_}
+use mathlib.Core.Path.{_≡_, ap, sym, _∙_}
 use mathlib.Core.Logic.{dite}
-use mathlib.Core.Bool.{Bool, true, false, not, _&&_, _||_}
-use mathlib.Core.List.{List, [], _∷_, _++_}
-use Prim.Native.Nat.{ℕ, zero, suc, _+_, _*_, _/_, _%_, _≤_, _<_}
+use mathlib.Core.Bool.{Bool, true, false, not, _&&_}
+use mathlib.Core.List.{List}
+use Prim.Native.Nat.{ℕ, _+_, _*_, _/_, _%_, _≤_, _<_}
 use native.Mathlib.Decide.{decLt}
 use native.Mathlib.Omega.{arith}
 use lib.Dec.{eqb}
-use lib.ListN.{length, getD, take}
-use lib.Seq.{take-suc}
+use lib.ListN.{length, getD}
 use borrow.Author.Tests.{lt-ltb, le-ltb}
 use Rattle.sets.specs.Sets.{member}
-use Rattle.frames.specs.declared.Want.{Want}
 use Rattle.frames.specs.declared.Query.{Query}
 use Rattle.frames.specs.Book.{Contents, noWant}
 use Rattle.frames.specs.Fits.{wantOf}
 use Rattle.inherit.specs.Inheritance.{anyBelow, downward}
 use Rattle.inherit.proofs.InheritanceLaws.{any-same, any-from, any-next}
-use Rattle.rules.specs.Search.{any}
-use Rattle.replay.specs.Met.{wants}
+use Rattle.rules.proofs.SearchLaws.{any-front}
+use Rattle.replay.proofs.MetLaws.{wants-front}
 use Rattle.reach.specs.Tracked.{track}
 use Rattle.reach.specs.Goal.{banned, belowListed, forbids, forbidden, bad}
 use Rattle.flags.specs.Flags.{Written, hasFact, factIn, SmallWants, lacksValue, bannedValue, forbidFlag, badFlag, BadFlags, listedReaches, listedReach, Reaching}
 use Rattle.flags.proofs.FlagLaws.{track-level}
 
--- ---------------------------------------------------------------- a list's tests by their places
-
--- A list with one more at its end.
-any-last : (p : Want → Bool) (xs : List Want) (y : Want) → any p (xs ++ (y ∷ [])) ≡ any p xs || p y
-unfolding any
-any-last p [] y = or-none (p y)
-  where
-    or-none : (a : Bool) → a || false ≡ a
-    or-none true = refl
-    or-none false = refl
-any-last p (x ∷ xs) y = ap (λ u. p x || u) (any-last p xs y) ∙ or-assoc (p x) (any p xs) (p y)
-  where
-    or-assoc : (a b c : Bool) → a || (b || c) ≡ (a || b) || c
-    or-assoc true b c = refl
-    or-assoc false b c = refl
-
--- The first n of a list, by their places.
-any-take : (p : Want → Bool) (ws : List Want) (n : ℕ) → n ≤ length ws → any p (take n ws) ≡ anyBelow (λ j. p (getD ws j noWant)) n
-unfolding any anyBelow
-any-take p ws zero h = refl
-any-take p ws (suc n) h = ap (any p) (take-suc ws n noWant (omega arith)) ∙ any-last p (take n ws) (getD ws n noWant) ∙ ap (λ u. u || p (getD ws n noWant)) (any-take p ws n (omega arith))
-
 -- ---------------------------------------------------------------- forbidden facts
 
 -- The value is banned by some one of the query's sets.
 pub banned-same : (b : Contents) → SmallWants (b .query) → (a v : ℕ) → bannedValue (b .query) a v ≡ banned b a v
-unfolding banned wants wantOf
-banned-same b w a v = sym (any-take (λ x. eqb (x .attr .0) a && not (member (x .set) v)) (b .query .wants) (b .query .q) (omega (arith, w .few, w .room)))
+unfolding banned wantOf
+banned-same b w a v =
+    rw (wants-front b) (sym (any-front (λ x. eqb (x .attr .0) a && not (member (x .set) v)) noWant (b .query .wants) (b .query .q) (omega (arith, w .few, w .room))))
 
 -- A set that bans the value is found; or it is passed.
 module _ {q : Query} (w : SmallWants q) (a v j : ℕ) where

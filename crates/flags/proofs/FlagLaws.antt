@@ -9,19 +9,14 @@ use native.Mathlib.Omega.{arith}
 use lib.Dec.{eqb, ltb}
 use lib.ListN.{length, getD, set, length-set, List·getD-eq-default}
 use lib.Seq.{getD-set-same, getD-set-other}
-use borrow.Author.Tests.{ltb-true, lt-ltb, le-ltb, eq-eqb}
-use Rattle.sets.specs.Sets.{within}
+use borrow.Author.Tests.{lt-ltb, le-ltb, eq-eqb}
 use Rattle.facts.specs.Facts.{holds}
 use Rattle.facts.specs.declared.Fact.{Fact}
-use Rattle.gate.specs.Gate.{allBelow, isAttr, valuesOf}
-use Rattle.gate.proofs.GateLaws.{all-more}
-use Rattle.frames.specs.declared.Query.{Query}
 use Rattle.frames.specs.Book.{Contents}
-use Rattle.frames.specs.Fits.{Admitted, wantOf, wantFits}
-use Rattle.inherit.proofs.InheritanceLaws.{and-both, any-same}
-use Rattle.requests.proofs.RequestLaws.{all-at}
+use Rattle.frames.specs.Fits.{Admitted}
+use Rattle.inherit.proofs.InheritanceLaws.{any-same}
 use Rattle.reach.specs.Tracked.{personLevel, factAt, isNumber, track}
-use Rattle.flags.specs.Flags.{Written, hasFact, factIn, startFlag, StartFlags, juniorHas, juniorsHave, CrewTable, PersonTable, rowFlag, FilledRow, FirstRows, SmallWants, wantFlag}
+use Rattle.flags.specs.Flags.{Written, hasFact, factIn, startFlag, StartFlags, juniorHas, juniorsHave, CrewTable, PersonTable, rowFlag, FilledRow, FirstRows, SmallWants}
 
 -- ---------------------------------------------------------------- flags written one by one
 
@@ -124,19 +119,8 @@ first-rows-all {before} {rows} e w = record {
       ap (λ i. getD rows i false) (sym z) ∙ w .at (160 * c + f) (omega arith) ∙ rw (d, m);
 }
 
--- ---------------------------------------------------------------- the goal
+-- ---------------------------------------------------------------- what the query forbids
 
 -- The sets of an accepted book's query are small.
 pub small-wants : {t : Contents} → Admitted t → SmallWants (t .query)
-small-wants {t} b = record {
-  few = b .query-in .few;
-  room = b .query-in .room;
-  attrs = λ j l.
-      let fits = all-at (wantFits (t .sizes) (t .query)) (t .query .q) j (b .query-in .wants) l in
-      let attr = and-both (isAttr (t .sizes) (wantOf (t .query) j .attr .0)) (within (wantOf (t .query) j .set) (valuesOf (t .sizes) (wantOf (t .query) j .attr .0))) fits .0 in
-      omega (arith, ltb-true (wantOf (t .query) j .attr .0) (t .sizes .attrs) attr, b .sized .attrs-most);
-}
-
--- One more set of a query with small wants is tested.
-pub wants-more : {q : Query} → SmallWants q → (x : List Bool) (j : ℕ) (b t : Bool) → b ≡ allBelow (wantFlag q x) j → t ≡ wantFlag q x j → (b && t) ≡ allBelow (wantFlag q x) (j + 1)
-wants-more {q} w x j b t e f = all-more (wantFlag q x) j b t e f
+small-wants b = record { few = b .query-in .few; room = b .query-in .room }

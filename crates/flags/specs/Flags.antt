@@ -1,4 +1,4 @@
--- The flags of the planner's levels, and the query's goal on them.
+-- The flags of the planner's levels.
 use Prim.Native.Nat.{ℕ, _+_, _-_, _*_, _/_, _%_, _≤_, _<_}
 use mathlib.Core.Path.{_≡_}
 use mathlib.Core.Bool.{Bool, false, not, cond, _&&_, _||_}
@@ -10,8 +10,6 @@ use Rattle.facts.specs.Facts.{holds}
 use Rattle.facts.specs.declared.Person.{Person}
 use Rattle.facts.specs.declared.Fact.{Fact}
 use Rattle.facts.specs.declared.Fact.the-variants.{Holds, CrewHolds, Member}
-use Rattle.gate.specs.Gate.{allBelow}
-use Rattle.frames.specs.declared.Want.{Want}
 use Rattle.frames.specs.declared.Query.{Query}
 use Rattle.frames.specs.Book.{Contents}
 use Rattle.frames.specs.Fits.{wantOf}
@@ -89,49 +87,12 @@ pub record FirstRows (rows : List Bool) : Type 0 where
   pub size : length rows ≡ 5120
   pub at : (c : ℕ) → c < 32 → (f : ℕ) → f < 160 → getD rows (160 * c + f) false ≡ eqb f (128 + c)
 
--- ---------------------------------------------------------------- the goal
+-- ---------------------------------------------------------------- what the query forbids
 
--- A query has room for eight sets, and each of its sets is one of an attribute below 8.
+-- A query has room for eight sets.
 pub record SmallWants (q : Query) : Type 0 where
   pub few : q .q ≤ 8
   pub room : length (q .wants) ≡ 8
-  pub attrs : (j : ℕ) → j < q .q → wantOf q j .attr .0 < 8
-
--- Value v of attribute a is effective where the set has it.
-abbrev pub valueFlag : List Bool → ℕ → ℕ → ℕ → Bool
-valueFlag x a set v = not (member set v) || getD x (160 + (16 * a + v)) false
-
--- Each value of a named set is effective.
-unfoldable pub wantFlags : List Bool → Want → Bool
-wantFlags x w = allBelow (valueFlag x (w .attr .0) (w .set)) 16
-
--- Named set j is effective.
-abbrev pub wantFlag : Query → List Bool → ℕ → Bool
-wantFlag q x j = wantFlags x (wantOf q j)
-
-abbrev pub wantsFlags : Query → List Bool → Bool
-wantsFlags q x = allBelow (wantFlag q x) (q .q)
-
--- The person effectively holds at least the values in each named set.
-unfoldable pub leastFlags : Contents → List Bool → Bool
-leastFlags b x = wantsFlags (b .query) x
-
--- Crew c is there directly where the set has it.
-abbrev pub crewFlag : ℕ → List Bool → ℕ → Bool
-crewFlag crews x c = not (member crews c) || getD x (128 + c) false
-
-abbrev pub crewsFlags : ℕ → List Bool → Bool
-crewsFlags crews x = allBelow (crewFlag crews x) 32
-
--- The person is directly in at least the listed crews.
-unfoldable pub crewFlags : Contents → List Bool → Bool
-crewFlags b x = crewsFlags (b .query .crews) x
-
--- The query's goal, by its mode.
-unfoldable pub goalFlags : Contents → List Bool → Bool
-goalFlags b x = cond (eqb (b .query .mode) 1) (leastFlags b x) (crewFlags b x && leastFlags b x)
-
--- ---------------------------------------------------------------- what the query forbids
 
 -- Named set j is one of attribute a, and lacks value v.
 abbrev pub lacksValue : Query → ℕ → ℕ → ℕ → Bool

@@ -1,5 +1,5 @@
-// Flags of the planner: what a level starts with and what the query forbids there, what its subject inherits, the rows of the crews,
-// and whether the query's goal is reached. A level has 160 flags: value v of attribute a at 16·a + v, membership in crew c at 128 + c. Level k is crew k, the level
+// Flags of the planner: what a level starts with and what the query forbids there, what its subject inherits, and the rows of the
+// crews. A level has 160 flags: value v of attribute a at 16·a + v, membership in crew c at 128 + c. Level k is crew k, the level
 // above all crews the query's person. Row c of `rows`, at 160·c, is what crew c effectively holds, and which crews it reaches.
 ghost use mathlib.Core.Path.{_≡_};
 ghost use mathlib.Core.Bool.{false};
@@ -7,7 +7,7 @@ ghost use Prim.Native.Nat.{_≤_, _<_};
 ghost use lib.ListN.{length, getD};
 ghost use Rattle.frames.specs.Book.{contentsOf};
 ghost use Rattle.frames.specs.Fits.{Admitted};
-ghost use Rattle.flags.specs.Flags.{Written, hasFact, factIn, startFlag, StartFlags, juniorsHave, CrewTable, PersonTable, rowFlag, FilledRow, FirstRows, SmallWants, wantFlags, wantsFlags, crewsFlags, goalFlags, bannedValue, forbidFlag, badFlag, BadFlags, listedReach, Reaching};
+ghost use Rattle.flags.specs.Flags.{Written, hasFact, factIn, startFlag, StartFlags, juniorsHave, CrewTable, PersonTable, rowFlag, FilledRow, FirstRows, SmallWants, bannedValue, forbidFlag, badFlag, BadFlags, listedReach, Reaching};
 ghost use Rattle.reach.specs.Goal.{belowListed};
 use facts::Attr;
 use facts::Crew;
@@ -15,7 +15,6 @@ use facts::Fact;
 use facts::Person;
 use frames::Book;
 use frames::Query;
-use frames::Want;
 
 // Whether level k has a fact f: a crew has values alone.
 fn has_fact(crews: u8, k: u8, f: u8) -> bool
@@ -157,71 +156,6 @@ pub fn first_rows(rows: &mut [bool])
         rows[i] = i % 160 == 128 + i / 160;
         i += 1;
     }
-}
-
-// Whether each value of the named set is effective.
-fn is_want_held(w: Want, x: &[bool]) -> bool
-    requires { ⌜ (w .attr .0 < 8) × (length (now x) ≡ 320) ⌝ }
-    ensures { λ r. ⌜ r ≡ wantFlags (now (x .entry)) w ⌝ }
-{
-    let a = w.attr.0;
-    let set = w.set;
-    let mut good = true;
-    let mut v: u8 = 0;
-    while v < 16 {
-        let asked = sets::has(set, v);
-        let held = x[160 + (16 * (a as usize) + (v as usize))];
-        good = good & (!asked | held);
-        v += 1;
-    }
-    good
-}
-
-// Whether each named set is effective.
-fn are_wants_held(q: Query, x: &[bool]) -> bool
-    requires { ⌜ SmallWants q × (length (now x) ≡ 320) ⌝ }
-    ensures { λ r. ⌜ r ≡ wantsFlags q (now (x .entry)) ⌝ }
-{
-    let n = q.q;
-    let mut good = true;
-    let mut j: u8 = 0;
-    while j < n {
-        let w = q.wants[j as usize];
-        let held = is_want_held(w, x);
-        good = good & held;
-        j += 1;
-    }
-    good
-}
-
-// Whether each listed crew is there directly.
-fn are_crews_held(crews: u32, x: &[bool]) -> bool
-    requires { ⌜ length (now x) ≡ 320 ⌝ }
-    ensures { λ r. ⌜ r ≡ crewsFlags crews (now (x .entry)) ⌝ }
-{
-    let mut good = true;
-    let mut c: u8 = 0;
-    while c < 32 {
-        let asked = sets::has(crews, c);
-        let held = x[128 + (c as usize)];
-        good = good & (!asked | held);
-        c += 1;
-    }
-    good
-}
-
-// Whether the flags of the person's level reach the query's goal.
-pub fn is_reached(b: Book, x: &[bool]) -> bool
-    requires { ⌜ Admitted (contentsOf b) × (length (now x) ≡ 320) ⌝ }
-    ensures { λ r. ⌜ r ≡ goalFlags (contentsOf b) (now (x .entry)) ⌝ }
-{
-    let q = b.query;
-    let least = are_wants_held(q, x);
-    if q.mode == 1 {
-        return least;
-    }
-    let crews = are_crews_held(q.crews, x);
-    crews & least
 }
 
 // Whether some named set of attribute a lacks value v.

@@ -1,7 +1,7 @@
 -- A plan is no longer than the facts that it may change are many: two requests for each.
 use mathlib.Core.Path.{_≡_, refl, ap, sym, subst, fun-ext, _∙_}
 use mathlib.Core.Logic.{dite}
-use mathlib.Core.Bool.{Bool, true, false, _&&_, true≢false}
+use mathlib.Core.Bool.{Bool, true, false, _&&_, and-true, true≢false}
 use mathlib.Core.List.{List, [], _∷_, _++_, map}
 use Prim.Native.Nat.{ℕ, zero, suc, _+_, _-_, _*_, _/_, _%_, _≤_, _<_}
 use native.Mathlib.Decide.{decLt}
@@ -75,10 +75,6 @@ only-in S I f = right (S f) (I f)
 only-put : (S I : State) (f : ℕ) (on : Bool) → I f ≡ true → only (put S f on) I ≡ put (only S I) f on
 only-put S I f on h =
     fun-ext λ g. at (λ g. (put S f on g && I g) ≡ put (only S I) f on g) f g (rw (put-same, put-same, h) (and-true on)) (λ n. rw (put-other, put-other) refl)
-  where
-    and-true : (x : Bool) → (x && true) ≡ x
-    and-true true = refl
-    and-true false = refl
 
 module _ (W : World) (I : State) (in-set : (S : State) (on : Bool) (q : Ask) → W .May S (req on q) → I (q .fact) ≡ true) where
   -- Each request that changes a fact of the set changes the count by one.

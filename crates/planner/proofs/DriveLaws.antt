@@ -1,7 +1,7 @@
 -- From level to level: the first, a crew's, and the query's person's.
 use mathlib.Core.Path.{_≡_, refl, ap, sym, fun-ext, _∙_}
 use mathlib.Core.Logic.{⊎-elim, dite}
-use mathlib.Core.Bool.{Bool, true, false, _&&_, _||_, true≢false}
+use mathlib.Core.Bool.{Bool, true, false, _&&_, _||_, or-false, true≢false}
 use mathlib.Core.List.{List, [], _∷_, _++_, map}
 use Prim.Native.Nat.{ℕ, zero, suc, _+_, _-_, _*_, _/_, _%_, _≤_, _<_}
 use native.Mathlib.Decide.{ℕ-discrete, decLt}
@@ -9,11 +9,10 @@ use native.Mathlib.Omega.{arith}
 use lib.Dec.{eqb, leb}
 use lib.ListN.{length, getD}
 use borrow.Author.Tests.{le-ltb, le-leb, lt-leb, eq-eqb, ne-eqb, eqb-true}
-use Rattle.sets.specs.Sets.{member}
 use Rattle.facts.specs.declared.Attr.{Attr}
 use Rattle.facts.specs.declared.Fact.the-variants.{CrewHolds}
 use Rattle.inherit.specs.Inheritance.{isJunior, anyBelow, downward, crewHolds}
-use Rattle.inherit.proofs.InheritanceLaws.{and-both, any-same, any-cases, downward-step, crew-holds-cases}
+use Rattle.inherit.proofs.InheritanceLaws.{and-both, not-on, any-same, any-cases, junior-member, downward-step, crew-holds-cases}
 use Rattle.frames.specs.declared.Rules.{Rules}
 use Rattle.frames.specs.Book.{Contents, listed}
 use Rattle.frames.specs.Fits.{Admitted}
@@ -46,21 +45,16 @@ shown-at : (T : List Bool) (S : State) (f : ℕ) → shown T S (160 + f) ≡ eff
 unfolding shown effective
 shown-at T S f = let e : 160 + f - 160 ≡ f = omega arith in rw (le-ltb (160 + f) 160 (omega arith), e) refl
 
-not-true : (x : Bool) → (x ≡ true → ⊥) → x ≡ false
-not-true true h = absurd (h refl)
-not-true false h = refl
-
 -- ---------------------------------------------------------------- numbers that are no crew's
 
 module _ (b : Contents) (ok : Admitted b) where
   no-juniors : (c j : ℕ) → b .sizes .crews ≤ c → isJunior (b .juniors) c j ≡ false
-  unfolding isJunior
-  no-juniors c j far = not-true (member (getD (b .juniors) c 0) j) (λ e. omega (arith, ok .edges c j e .1))
+  no-juniors c j far = not-on (isJunior (b .juniors) c j) (λ e. omega (arith, ok .edges c j (sym (junior-member (b .juniors) c j) ∙ e) .1))
 
   crew-none : (S : State) (a : Attr) (v c : ℕ) → b .sizes .crews ≤ c → crewHolds (b .juniors) (lift b S) a v c ≡ false
   unfolding lift
   crew-none S a v c far =
-      not-true (crewHolds (b .juniors) (λ f. tracked b f && S (numberOf b f)) a v c)
+      not-on (crewHolds (b .juniors) (λ f. tracked b f && S (numberOf b f)) a v c)
       (λ e. ⊎-elim
       (λ d. let t = tracked-crew b (record { 0 = c }) a v (and-both (tracked b (CrewHolds (record { 0 = c }) a v)) (S (numberOf b (CrewHolds (record { 0 = c }) a v))) d .0) in omega (arith, t .0))
       (λ w. true≢false (sym (w .1 .0) ∙ no-juniors c (w .0) far))
@@ -70,14 +64,10 @@ module _ (b : Contents) (ok : Admitted b) where
   reach-none d c far =
       downward-step (b .juniors) (λ x. eqb x d) c
       ∙ ap (λ (x : Bool). eqb c d || x)
-      (not-true (anyBelow (λ j. isJunior (b .juniors) c j && downward (b .juniors) (λ x. eqb x d) j) c)
+      (not-on (anyBelow (λ j. isJunior (b .juniors) c j && downward (b .juniors) (λ x. eqb x d) j) c)
       (λ e. let w = any-cases (λ j. isJunior (b .juniors) c j && downward (b .juniors) (λ x. eqb x d) j) c e in
       true≢false (sym (and-both (isJunior (b .juniors) c (w .0)) (downward (b .juniors) (λ x. eqb x d) (w .0)) (w .1 .1) .0) ∙ no-juniors c (w .0) far)))
-      ∙ or-none (eqb c d)
-    where
-      or-none : (x : Bool) → (x || false) ≡ x
-      or-none true = refl
-      or-none false = refl
+      ∙ or-false (eqb c d)
 
   -- ---------------------------------------------------------------- the first level
 

@@ -1,29 +1,19 @@
 -- A plan lies within the lent buffer.
-use mathlib.Core.Path.{_≡_, refl, ap, sym, subst, _∙_}
+use mathlib.Core.Path.{_≡_, ap, sym, subst}
 use mathlib.Core.Logic.{dite}
 use mathlib.Core.Bool.{Bool, true, false, true≢false}
-use mathlib.Core.List.{List, [], _∷_}
-use Prim.Native.Nat.{ℕ, _+_, _*_, _≤_, _<_}
+use mathlib.Core.List.{List}
+use Prim.Native.Nat.{ℕ, _*_, _≤_, _<_}
 use native.Mathlib.Decide.{decLt}
 use native.Mathlib.Omega.{arith}
 use lib.ListN.{length, take, length-take}
 use Rattle.frames.specs.Book.{Contents, Answer, refused, accepted, bookOf}
-use Rattle.replay.specs.Chains.{fives}
+use Rattle.replay.proofs.ReplayLaws.{fives-short}
 use Rattle.planner.specs.declared.Planned.{Planned}
 use Rattle.planner.specs.declared.Planned.the-variants.{NoWay, Plan, Refused}
 use Rattle.planner.specs.declared.Refusal.{Refusal}
 use Rattle.planner.specs.Count.{factCount}
-use Rattle.planner.specs.Answer.{front, PlanGiven, Decided, AnsweredFor, PlanPromise}
-
--- Five bytes for each request.
-fives-short : (xs : List ℕ) → 5 * length (fives xs) ≤ length xs
-unfolding fives
-fives-short [] = omega arith
-fives-short (a ∷ []) = omega arith
-fives-short (a ∷ b ∷ []) = omega arith
-fives-short (a ∷ b ∷ c ∷ []) = omega arith
-fives-short (a ∷ b ∷ c ∷ d ∷ []) = omega arith
-fives-short (a ∷ b ∷ c ∷ d ∷ e ∷ rest) = omega (arith, fives-short rest)
+use Rattle.planner.specs.Answer.{front, PlanGiven, AnsweredFor, PlanPromise}
 
 take-short : (k : ℕ) (xs : List ℕ) → length (take k xs) ≤ length xs
 take-short k xs = omega (arith, length-take k xs)

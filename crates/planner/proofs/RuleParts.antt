@@ -1,21 +1,18 @@
 -- What a rule within the sizes says, field by field.
-use mathlib.Core.Path.{_≡_, refl}
+use mathlib.Core.Path.{_≡_}
 use mathlib.Core.Logic.{_⊎_, inl, inr, ⊎-elim}
-use mathlib.Core.Bool.{Bool, true, false, _&&_, _||_}
+use mathlib.Core.Bool.{true, _&&_, _||_}
 use Prim.Native.Nat.{ℕ, _≤_, _<_}
 use native.Mathlib.Omega.{arith}
-use lib.Dec.{eqb, ltb, leb}
+use lib.Dec.{eqb, leb}
 use borrow.Author.Tests.{leb-true, ltb-true, eqb-true}
 use Rattle.gate.specs.declared.Sizes.{Sizes}
-use Rattle.gate.specs.Gate.{InRange, allBelow, between, isCrew, isAttr, isValue, isCrewField, valuesOf, headGood}
+use Rattle.gate.specs.Gate.{InRange, allBelow, between, isCrew, isValue, isCrewField, headGood}
 use Rattle.gate.proofs.PassedLaws.{and-both, between-true}
+use Rattle.inherit.proofs.InheritanceLaws.{or-cases}
 use Rattle.requests.proofs.RequestLaws.{all-at}
 use Rattle.frames.specs.declared.Rule.{Rule}
 use Rattle.frames.specs.Fits.{termOf, termFits, ruleFits}
-
-pub or-cases : (a b : Bool) → (a || b) ≡ true → (a ≡ true) ⊎ (b ≡ true)
-or-cases true b e = inl refl
-or-cases false b e = inr e
 
 -- The parts of a rule within the sizes.
 pub record Parts (z : Sizes) (r : Rule) : Type 0 where
@@ -49,13 +46,7 @@ rule-parts z r e =
         (or-cases (between 1 2 (termOf r j .kind) && isValue z (termOf r j .a) (termOf r j .v)) (between 3 4 (termOf r j .kind) && isCrewField z (termOf r j .a) (termOf r j .v)) x)
 
 module _ (z : Sizes) (range : InRange z) where
-  -- A value of the book is below 16, of an attribute below 8; a crew is below 32.
-  pub value-low : (a v : ℕ) → isValue z a v ≡ true → (a < 8) × (v < 16)
-  unfolding valuesOf
-  value-low a v e =
-      let both = and-both (isAttr z a) (ltb v (valuesOf z a)) e in
-      (omega (arith, ltb-true a (z .attrs) (both .0), range .attrs-most), omega (arith, ltb-true v (z .values) (both .1), range .values-most))
-
+  -- A crew of the book is below 32.
   pub crew-low : (a v : ℕ) → isCrewField z a v ≡ true → (a < 32) × (v ≡ 0)
   crew-low a v e =
       let both = and-both (isCrew z a) (eqb v 0) e in

@@ -1,13 +1,14 @@
 -- One level's step, over plain values.
 use mathlib.Core.Path.{_≡_, refl, ap, sym, subst, _∙_}
 use mathlib.Core.Logic.{dite}
-use mathlib.Core.Bool.{Bool, true, false, not, _&&_, _||_, true≢false}
+use mathlib.Core.Bool.{Bool, true, false, not, _&&_, _||_}
 use mathlib.Core.List.{List, map, _++_}
 use Prim.Native.Nat.{ℕ, _+_, _-_, _*_, _≤_, _<_}
 use native.Mathlib.Numerals.{add-one}
 use native.Mathlib.Decide.{ℕ-discrete}
 use native.Mathlib.Omega.{arith}
 use lib.Dec.{eqb}
+use borrow.Author.Tests.{not-true, not-false}
 use Rattle.inherit.specs.Inheritance.{isJunior, downward}
 use Rattle.inherit.proofs.InheritanceLaws.{any-same, downward-step}
 use lib.ListN.{length, getD}
@@ -35,12 +36,10 @@ use Rattle.planner.proofs.DriveLaws.{Handed, crew-table, person-table, 
 
 -- What is told by the negation.
 pub no-found : (x : Bool) → not x ≡ true → x ≡ false
-no-found true e = absurd (true≢false (sym e))
-no-found false e = refl
+no-found x e = not-true x e
 
 pub was-found : (x : Bool) → not x ≡ false → x ≡ true
-was-found true e = refl
-was-found false e = absurd (true≢false e)
+was-found x e = not-false x e
 
 -- What a level may start with it may have.
 pub starts-allowed : (s : List Bool) {u : List Bool} → AllAllowed u → direct s ⊆ direct u

@@ -1,25 +1,24 @@
 -- The two kinds of levels: a crew's and the query's person's.
 use mathlib.Core.Path.{_≡_, refl, ap, sym, _∙_}
 use mathlib.Core.Logic.{_⊎_, inl, inr, ⊎-elim, dite}
-use mathlib.Core.Bool.{Bool, true, false, _&&_, _||_, true≢false}
+use mathlib.Core.Bool.{Bool, true, false, true≢false}
 use mathlib.Core.List.{List}
 use Prim.Native.Nat.{ℕ, _+_, _*_, _/_, _≤_, _<_}
 use native.Mathlib.Decide.{decLt}
 use native.Mathlib.Omega.{arith}
-use lib.Dec.{leb}
 use lib.ListN.{length, getD}
-use borrow.Author.Tests.{lt-ltb, le-ltb, le-leb, lt-leb, eq-eqb}
+use borrow.Author.Tests.{lt-ltb, le-ltb, eq-eqb}
 use Rattle.facts.specs.declared.Person.{Person}
 use Rattle.facts.specs.declared.Fact.the-variants.{Holds, CrewHolds, Member}
-use Rattle.gate.specs.Gate.{between, isPerson, isCrew, isValue, isCrewField}
-use Rattle.gate.proofs.PassedLaws.{and-both, between-true}
 use Rattle.frames.specs.declared.Rule.{Rule}
 use Rattle.frames.specs.declared.Rules.{Rules}
 use Rattle.frames.specs.Book.{Contents, listed, noTerm}
 use Rattle.frames.specs.Fits.{termOf, Admitted}
 use Rattle.requests.specs.Requests.{aimed, fieldsGood}
+use Rattle.requests.proofs.RequestLaws.{value-bounds, aimed-value, aimed-crew, aimed-member, fields-on-person, fields-on-crew, fields-joins, fields-op}
 use Rattle.rules.specs.declared.Subject.the-variants.{User, Group}
 use Rattle.rules.specs.Rules.{subjectOf, termHolds}
+use Rattle.rules.proofs.RuleLaws.{subject-value, subject-crew, subject-member}
 use Rattle.theory.specs.Facts.{State}
 use Rattle.level.specs.Moves.{placeOf}
 use Rattle.level.specs.Terms.{termShown, GoodRule}
@@ -27,7 +26,7 @@ use Rattle.level.specs.Levels.{onLevel}
 use Rattle.reach.specs.Tracked.{personLevel, tracked, numberOf, lift}
 use Rattle.reach.proofs.TrackLaws.{tracked-value, tracked-crew, tracked-member}
 use Rattle.planner.specs.Tables.{CrewTable, PersonTable}
-use Rattle.planner.proofs.RuleParts.{Parts, or-cases, value-low, crew-low, rule-value, rule-crew}
+use Rattle.planner.proofs.RuleParts.{Parts, crew-low, rule-value, rule-crew}
 use Rattle.planner.proofs.TermBridge.{crew-term, person-term}
 use Rattle.planner.proofs.WithinLaws.{LevelIs, SideIs}
 
@@ -39,33 +38,7 @@ abbrev pub OnPerson : ℕ → Type 0
 OnPerson op = ((op ≡ 1) ⊎ (op ≡ 2)) ⊎ ((op ≡ 5) ⊎ (op ≡ 6))
 
 module _ (b : Contents) (ok : Admitted b) (rs : Rules) (same-rules : b .rules ≡ listed rs) (few : rs .count ≤ 512) (room : length (rs .rules) ≡ 512) where
-  -- ---------------------------------------------------------------- what fields tell of an op
-
-  op-range : (op role sub a v : ℕ) → fieldsGood (b .sizes) op role sub a v ≡ true → (1 ≤ op) × (op ≤ 6)
-  unfolding fieldsGood
-  op-range op role sub a v e =
-      let x = between 1 2 op && isPerson (b .sizes) sub && isValue (b .sizes) a v in
-      let y = between 3 4 op && isCrew (b .sizes) sub && isValue (b .sizes) a v in
-      let w = between 5 6 op && isPerson (b .sizes) sub && isCrewField (b .sizes) a v in
-      ⊎-elim
-      (λ g. ⊎-elim
-      (λ h. let k = between-true 1 2 op (and-both (between 1 2 op) (isPerson (b .sizes) sub) (and-both (between 1 2 op && isPerson (b .sizes) sub) (isValue (b .sizes) a v) h .0) .0) in (k .0, omega (arith, k .1)))
-      (λ h. let k = between-true 3 4 op (and-both (between 3 4 op) (isCrew (b .sizes) sub) (and-both (between 3 4 op && isCrew (b .sizes) sub) (isValue (b .sizes) a v) h .0) .0) in (omega (arith, k .0), omega (arith, k .1)))
-      (or-cases x y g))
-      (λ h. let k = between-true 5 6 op (and-both (between 5 6 op) (isPerson (b .sizes) sub) (and-both (between 5 6 op && isPerson (b .sizes) sub) (isCrewField (b .sizes) a v) h .0) .0) in (omega (arith, k .0), k .1))
-      (or-cases (x || y) w (and-both ((x || y) || w) (leb role 15) e .0))
-
-  aimed-value : (op s a v : ℕ) → op ≤ 2 → aimed op s a v ≡ Holds (record { 0 = s }) (record { 0 = a }) v
-  unfolding aimed
-  aimed-value op s a v h = rw (le-leb op 2 h) refl
-
-  aimed-crew : (op s a v : ℕ) → 2 < op → op ≤ 4 → aimed op s a v ≡ CrewHolds (record { 0 = s }) (record { 0 = a }) v
-  unfolding aimed
-  aimed-crew op s a v h k = rw (lt-leb op 2 h, le-leb op 4 k) refl
-
-  aimed-member : (op s a v : ℕ) → 4 < op → aimed op s a v ≡ Member (record { 0 = s }) (record { 0 = a })
-  unfolding aimed
-  aimed-member op s a v h = rw (lt-leb op 2 (omega arith), lt-leb op 4 h) refl
+  -- ---------------------------------------------------------------- the level of a fact
 
   number-value : (p : Person) (a v : ℕ) → tracked b (Holds p (record { 0 = a }) v) ≡ true → numberOf b (Holds p (record { 0 = a }) v) / 160 ≡ personLevel b
   unfolding numberOf
@@ -86,16 +59,15 @@ module _ (b : Contents) (ok : Admitted b) (rs : Rules) (same-rules : b .rules �
     crew-op op h = ⊎-elim (λ (e : op ≡ 3). (omega arith, omega arith)) (λ (e : op ≡ 4). (omega arith, omega arith)) h
 
     crew-good : (r : Rule) → Parts (b .sizes) r → OnCrew (r .op) → fieldsGood (b .sizes) (r .op) (r .role .0) k (r .a) (r .v) ≡ true
-    unfolding fieldsGood
     crew-good r p h =
-        let value = rule-value (b .sizes) (ok .sized) r p (crew-op (r .op) h .1) in
-        ⊎-elim (λ (e : r .op ≡ 3). rw (e, lt-ltb k (b .sizes .crews) is-crew, value, p .role) refl) (λ (e : r .op ≡ 4). rw (e, lt-ltb k (b .sizes .crews) is-crew, value, p .role) refl) h
+        let at = crew-op (r .op) h in
+        fields-on-crew (b .sizes) (r .op) (r .role .0) k (r .a) (r .v) (omega (arith, at .0)) (at .1) (lt-ltb k (b .sizes .crews) is-crew) (rule-value (b .sizes) (ok .sized) r p (at .1)) (p .role)
 
     crew-tracks : (r : Rule) → Parts (b .sizes) r → OnCrew (r .op) → tracked b (aimed (r .op) k (r .a) (r .v)) ≡ true
     unfolding tracked
     crew-tracks r p h =
         let at = crew-op (r .op) h in
-        let low = value-low (b .sizes) (ok .sized) (r .a) (r .v) (rule-value (b .sizes) (ok .sized) r p (at .1)) in
+        let low = value-bounds (b .sizes) (r .a) (r .v) (ok .sized) (rule-value (b .sizes) (ok .sized) r p (at .1)) in
         rw (aimed-crew (r .op) k (r .a) (r .v) (at .0) (at .1), lt-ltb k (b .sizes .crews) is-crew, lt-ltb (r .a) 8 (low .0), lt-ltb (r .v) 16 (low .1)) refl
 
     crew-number : (r : Rule) → Parts (b .sizes) r → OnCrew (r .op) → numberOf b (aimed (r .op) k (r .a) (r .v)) ≡ 160 * k + placeOf (r .op) (r .a) (r .v)
@@ -105,12 +77,13 @@ module _ (b : Contents) (ok : Admitted b) (rs : Rules) (same-rules : b .rules �
         rw (aimed-crew (r .op) k (r .a) (r .v) (at .0) (at .1), lt-ltb (r .op) 5 (omega (arith, at .1))) refl
 
     crew-subject : (r : Rule) → OnCrew (r .op) → subjectOf (aimed (r .op) k (r .a) (r .v)) ≡ Group (record { 0 = k })
-    unfolding subjectOf
-    crew-subject r h = let at = crew-op (r .op) h in rw (aimed-crew (r .op) k (r .a) (r .v) (at .0) (at .1)) refl
+    crew-subject r h =
+        let at = crew-op (r .op) h in
+        ap subjectOf (aimed-crew (r .op) k (r .a) (r .v) (at .0) (at .1)) ∙ subject-crew (record { 0 = k }) (record { 0 = r .a }) (r .v)
 
     crew-from : (op sub a v role : ℕ) → fieldsGood (b .sizes) op role sub a v ≡ true → tracked b (aimed op sub a v) ≡ true → numberOf b (aimed op sub a v) / 160 ≡ k → OnCrew op × (sub ≡ k)
     crew-from op sub a v role good t at =
-        let range = op-range op role sub a v good in
+        let range = fields-op (b .sizes) op role sub a v good in
         dite (decLt op 3)
         (λ (two : op < 3).
         let e = aimed-value op sub a v (omega arith) in
@@ -170,23 +143,23 @@ module _ (b : Contents) (ok : Admitted b) (rs : Rules) (same-rules : b .rules �
       (λ x. ⊎-elim (λ (e : op ≡ 5). high (omega arith, omega arith)) (λ (e : op ≡ 6). high (omega arith, omega arith)) x) h
 
   person-good : (r : Rule) → Parts (b .sizes) r → OnPerson (r .op) → fieldsGood (b .sizes) (r .op) (r .role .0) person (r .a) (r .v) ≡ true
-  unfolding fieldsGood person
+  unfolding person
   person-good r p h =
       let is = ok .query-in .person in
-      ⊎-elim
-      (λ x. ⊎-elim
-      (λ (e : r .op ≡ 1). let value = rule-value (b .sizes) (ok .sized) r p (omega arith) in rw (e, is, value, p .role) refl)
-      (λ (e : r .op ≡ 2). let value = rule-value (b .sizes) (ok .sized) r p (omega arith) in rw (e, is, value, p .role) refl) x)
-      (λ x. ⊎-elim
-      (λ (e : r .op ≡ 5). let crew = rule-crew (b .sizes) (ok .sized) r p (omega arith) in rw (e, is, crew, p .role) refl)
-      (λ (e : r .op ≡ 6). let crew = rule-crew (b .sizes) (ok .sized) r p (omega arith) in rw (e, is, crew, p .role) refl) x) h
+      by-op (r .op) h
+      (λ at.
+      fields-on-person (b .sizes) (r .op) (r .role .0) (b .query .person .0) (r .a) (r .v) (at .0) (at .1) is
+      (rule-value (b .sizes) (ok .sized) r p (omega (arith, at .1))) (p .role))
+      (λ at.
+      fields-joins (b .sizes) (r .op) (r .role .0) (b .query .person .0) (r .a) (r .v) (at .0) (at .1) is
+      (rule-crew (b .sizes) (ok .sized) r p (at .0)) (p .role))
 
   person-tracks : (r : Rule) → Parts (b .sizes) r → OnPerson (r .op) → tracked b (aimed (r .op) person (r .a) (r .v)) ≡ true
   unfolding tracked person
   person-tracks r p h =
       by-op (r .op) h
       (λ at.
-      let low = value-low (b .sizes) (ok .sized) (r .a) (r .v) (rule-value (b .sizes) (ok .sized) r p (omega (arith, at .1))) in
+      let low = value-bounds (b .sizes) (r .a) (r .v) (ok .sized) (rule-value (b .sizes) (ok .sized) r p (omega (arith, at .1))) in
       rw (aimed-value (r .op) (b .query .person .0) (r .a) (r .v) (at .1), eq-eqb (b .query .person .0) (b .query .person .0) refl, lt-ltb (r .a) 8 (low .0), lt-ltb (r .v) 16 (low .1)) refl)
       (λ at.
       let low = crew-low (b .sizes) (ok .sized) (r .a) (r .v) (rule-crew (b .sizes) (ok .sized) r p (at .0)) in
@@ -200,14 +173,16 @@ module _ (b : Contents) (ok : Admitted b) (rs : Rules) (same-rules : b .rules �
       (λ at. rw (aimed-member (r .op) person (r .a) (r .v) (at .0), le-ltb (r .op) 5 (at .0)) refl)
 
   person-subject : (r : Rule) → OnPerson (r .op) → subjectOf (aimed (r .op) person (r .a) (r .v)) ≡ User (b .query .person)
-  unfolding subjectOf person
+  unfolding person
   person-subject r h =
-      by-op (r .op) h (λ at. rw (aimed-value (r .op) (b .query .person .0) (r .a) (r .v) (at .1)) refl) (λ at. rw (aimed-member (r .op) (b .query .person .0) (r .a) (r .v) (at .0)) refl)
+      by-op (r .op) h
+      (λ at. ap subjectOf (aimed-value (r .op) (b .query .person .0) (r .a) (r .v) (at .1)) ∙ subject-value (b .query .person) (record { 0 = r .a }) (r .v))
+      (λ at. ap subjectOf (aimed-member (r .op) (b .query .person .0) (r .a) (r .v) (at .0)) ∙ subject-member (b .query .person) (record { 0 = r .a }))
 
   person-from : (op sub a v role : ℕ) → fieldsGood (b .sizes) op role sub a v ≡ true → tracked b (aimed op sub a v) ≡ true → numberOf b (aimed op sub a v) / 160 ≡ personLevel b → OnPerson op × (sub ≡ person)
   unfolding person
   person-from op sub a v role good t at =
-      let range = op-range op role sub a v good in
+      let range = fields-op (b .sizes) op role sub a v good in
       dite (decLt op 3)
       (λ (two : op < 3).
       let e = aimed-value op sub a v (omega arith) in

@@ -1,7 +1,7 @@
 -- A level's terms are the ledger's at that level.
 use mathlib.Core.Path.{_≡_, refl, ap, sym, _∙_}
 use mathlib.Core.Logic.{dite}
-use mathlib.Core.Bool.{Bool, true, false, _&&_, _||_}
+use mathlib.Core.Bool.{Bool, true, false, _&&_, _||_, and-false, or-false}
 use mathlib.Core.List.{List}
 use Prim.Native.Nat.{ℕ, zero, suc, _+_, _*_, _/_, _%_, _≤_, _<_}
 use native.Mathlib.Decide.{ℕ-discrete}
@@ -12,11 +12,12 @@ use Rattle.facts.specs.declared.Attr.{Attr}
 use Rattle.facts.specs.declared.Fact.{Fact}
 use Rattle.facts.specs.declared.Fact.the-variants.{Holds, CrewHolds, Member}
 use Rattle.inherit.specs.Inheritance.{isJunior, anyBelow, downward, crewHolds, personIn, personHolds}
-use Rattle.inherit.proofs.InheritanceLaws.{any-same, any-from, downward-step, downward-here, crew-holds-local}
+use Rattle.inherit.proofs.InheritanceLaws.{any-zero, any-step, any-same, any-from, downward-here, crew-holds-step, person-in-step, person-holds-step, crew-holds-local}
 use Rattle.frames.specs.Book.{Contents}
 use Rattle.frames.specs.declared.Term.{Term}
 use Rattle.rules.specs.declared.Subject.the-variants.{User, Group}
-use Rattle.rules.specs.Rules.{directly, effectively, inDirectly, inEffectively, termHolds}
+use Rattle.rules.specs.Rules.{termHolds}
+use Rattle.rules.proofs.RuleLaws.{term-person-direct, term-crew-direct, term-person-effective, term-crew-effective, term-in-direct, term-in-effective}
 use Rattle.theory.specs.Facts.{State}
 use Rattle.level.specs.Shown as shown
 use Rattle.level.specs.Shown.{row, inherited}
@@ -27,14 +28,6 @@ use Rattle.reach.specs.Tracked.{personLevel, tracked, numberOf, lift}
 use Rattle.reach.proofs.TrackLaws.{lift-same, tracked-crew}
 use Rattle.planner.specs.Tables.{CrewTable, PersonTable}
 
-or-none : (b : Bool) → (b || false) ≡ b
-or-none true = refl
-or-none false = refl
-
-and-none : (b : Bool) → (b && false) ≡ false
-and-none true = refl
-and-none false = refl
-
 any-false : (p : ℕ → Bool) (n : ℕ) → ((i : ℕ) → i < n → p i ≡ false) → shown.anyBelow p n ≡ false
 unfolding shown.anyBelow
 any-false p zero h = refl
@@ -42,9 +35,9 @@ any-false p (suc n) h = rw (any-false p n (λ i l. h i (omega arith)), h n (omeg
 
 -- The two crates' tests of some number below a bound are one.
 any-one : (p q : ℕ → Bool) (n : ℕ) → ((i : ℕ) → i < n → p i ≡ q i) → shown.anyBelow p n ≡ anyBelow q n
-unfolding shown.anyBelow anyBelow
-any-one p q zero h = refl
-any-one p q (suc n) h = rw (any-one p q n (λ i l. h i (omega arith)), h n (omega arith)) refl
+unfolding shown.anyBelow
+any-one p q zero h = sym (any-zero q)
+any-one p q (suc n) h = rw (any-one p q n (λ i l. h i (omega arith)), h n (omega arith)) (sym (any-step q n))
 
 module _ (b : Contents) (R S : State) where
   -- ---------------------------------------------------------------- what the state of a level says
@@ -85,14 +78,14 @@ module _ (b : Contents) (R S : State) where
   module _ (k : ℕ) (T : List Bool) (table : CrewTable b R k T) (is-crew : k < b .sizes .crews) where
     -- What a crew effectively holds.
     pub crew-effective : (a : Attr) (v : ℕ) → a .0 < 8 → v < 16 → effective T S (16 * a .0 + v) ≡ crewHolds (b .juniors) (lift b (onLevel k R S)) a v k
-    unfolding effective inherited crewHolds
+    unfolding effective inherited
     crew-effective a v s t =
         let f = 16 * a .0 + v in
         let at : f / 16 ≡ a .0 = omega arith in
         let rest : f % 16 ≡ v = omega arith in
-        let none : shown.anyBelow (λ c. S (128 + c) && row T c f) 32 ≡ false = any-false (λ c. S (128 + c) && row T c f) 32 (λ c l. ap (λ (x : Bool). S (128 + c) && x) (table .rows c f l (omega arith)) ∙ and-none (S (128 + c))) in
-        rw (none, or-none (row T 32 f), table .own f (omega arith), at, rest)
-        (sym (downward-step (b .juniors) (λ x. lift b (onLevel k R S) (CrewHolds (record { 0 = x }) a v)) k
+        let none : shown.anyBelow (λ c. S (128 + c) && row T c f) 32 ≡ false = any-false (λ c. S (128 + c) && row T c f) 32 (λ c l. ap (λ (x : Bool). S (128 + c) && x) (table .rows c f l (omega arith)) ∙ and-false (S (128 + c))) in
+        rw (none, or-false (row T 32 f), table .own f (omega arith), at, rest)
+        (sym (crew-holds-step (b .juniors) (lift b (onLevel k R S)) a v k
         ∙ rw (crew-value k a v is-crew s t)
         (ap (λ (x : Bool). S f || x)
         (any-same (λ j. isJunior (b .juniors) k j && crewHolds (b .juniors) (lift b (onLevel k R S)) a v j) (λ j. isJunior (b .juniors) k j && crewHolds (b .juniors) (lift b R) a v j) k
@@ -100,13 +93,14 @@ module _ (b : Contents) (R S : State) where
 
     pub crew-term : (t : Term) → TermInRange t → t .kind ≤ 2 → 1 ≤ t .kind
         → termShown T S t ≡ termHolds (b .juniors) (lift b (onLevel k R S)) (Group (record { 0 = k })) t
-    unfolding termShown termHolds directly effectively
+    unfolding termShown
     crew-term t good two one =
         dite (ℕ-discrete (t .kind) 1)
-        (λ (is : t .kind ≡ 1). rw is (sym (crew-value k (record { 0 = t .a }) (t .v) is-crew (good .value is .0) (good .value is .1))))
+        (λ (is : t .kind ≡ 1).
+        rw (term-crew-direct (b .juniors) (lift b (onLevel k R S)) t (record { 0 = k }) is, is) (sym (crew-value k (record { 0 = t .a }) (t .v) is-crew (good .value is .0) (good .value is .1))))
         (λ (no : t .kind ≡ 1 → ⊥).
         let is : t .kind ≡ 2 = omega arith in
-        rw is (crew-effective (record { 0 = t .a }) (t .v) (good .value-2 is .0) (good .value-2 is .1)))
+        rw (term-crew-effective (b .juniors) (lift b (onLevel k R S)) t (record { 0 = k }) is, is) (crew-effective (record { 0 = t .a }) (t .v) (good .value-2 is .0) (good .value-2 is .1)))
 
   -- ---------------------------------------------------------------- the query's person's terms
 
@@ -116,20 +110,21 @@ module _ (b : Contents) (R S : State) where
 
     person-effective : (a : Attr) (v : ℕ) → a .0 < 8 → v < 16
         → effective T S (16 * a .0 + v) ≡ personHolds (b .juniors) (lift b (onLevel (personLevel b) R S)) (b .query .person) a v
-    unfolding effective inherited personHolds
+    unfolding effective inherited
     person-effective a v s t =
         let f = 16 * a .0 + v in
         let at : f / 16 ≡ a .0 = omega arith in
         let rest : f % 16 ≡ v = omega arith in
-        rw (table .own f (omega arith), person-value a v s t)
+        rw (person-holds-step (b .juniors) held (b .query .person) a v, table .own f (omega arith), person-value a v s t)
         (ap (λ (x : Bool). S f || x)
         (any-one (λ c. S (128 + c) && row T c f) (λ d. lift b (onLevel (personLevel b) R S) (Member (b .query .person) (record { 0 = d })) && crewHolds (b .juniors) (lift b (onLevel (personLevel b) R S)) a v d) 32
         (λ c l. rw (person-member c l, table .values c f l (omega arith), at, rest) (ap (λ (x : Bool). S (128 + c) && x) (sym (lower-holds (personLevel b) c a v (λ x h i. i)))))))
 
     person-reaches : (a : ℕ) → a < 32 → effective T S (128 + a) ≡ personIn (b .juniors) (lift b (onLevel (personLevel b) R S)) (b .query .person) a
-    unfolding effective inherited personIn
+    unfolding effective inherited
     person-reaches a s =
         rw (
+          person-in-step (b .juniors) held (b .query .person) a,
           table .own (128 + a) (omega arith),
           any-one (λ c. S (128 + c) && row T c (128 + a)) (λ d. lift b (onLevel (personLevel b) R S) (Member (b .query .person) (record { 0 = d })) && downward (b .juniors) (λ x. eqb x a) d) 32
               (λ c l. rw (person-member c l, table .crews c a l s) refl),
@@ -146,16 +141,16 @@ module _ (b : Contents) (R S : State) where
 
     pub person-term : (t : Term) → TermInRange t → 1 ≤ t .kind → t .kind ≤ 4
         → termShown T S t ≡ termHolds (b .juniors) (lift b (onLevel (personLevel b) R S)) (User (b .query .person)) t
-    unfolding termShown termHolds directly effectively inDirectly inEffectively
+    unfolding termShown
     person-term t good one four =
         dite (ℕ-discrete (t .kind) 1)
-        (λ (is : t .kind ≡ 1). rw is (sym (person-value (record { 0 = t .a }) (t .v) (good .value is .0) (good .value is .1))))
+        (λ (is : t .kind ≡ 1). rw (term-person-direct (b .juniors) held t (b .query .person) is, is) (sym (person-value (record { 0 = t .a }) (t .v) (good .value is .0) (good .value is .1))))
         (λ (no1 : t .kind ≡ 1 → ⊥).
         dite (ℕ-discrete (t .kind) 2)
-        (λ (is : t .kind ≡ 2). rw is (person-effective (record { 0 = t .a }) (t .v) (good .value-2 is .0) (good .value-2 is .1)))
+        (λ (is : t .kind ≡ 2). rw (term-person-effective (b .juniors) held t (b .query .person) is, is) (person-effective (record { 0 = t .a }) (t .v) (good .value-2 is .0) (good .value-2 is .1)))
         (λ (no2 : t .kind ≡ 2 → ⊥).
         dite (ℕ-discrete (t .kind) 3)
-        (λ (is : t .kind ≡ 3). rw is (sym (person-member (t .a) (good .crew no1 no2))))
+        (λ (is : t .kind ≡ 3). rw (term-in-direct (b .juniors) held t (b .query .person) is, is) (sym (person-member (t .a) (good .crew no1 no2))))
         (λ (no3 : t .kind ≡ 3 → ⊥).
         let is : t .kind ≡ 4 = omega arith in
-        rw is (person-reaches (t .a) (good .crew no1 no2)))))
+        rw (term-in-effective (b .juniors) held t (b .query .person) is, is) (person-reaches (t .a) (good .crew no1 no2)))))

@@ -1,29 +1,26 @@
 -- A level's world is the depot's at that level.
 use mathlib.Core.Path.{_≡_, refl, ap, sym, subst, _∙_}
-use mathlib.Core.Logic.{_⊎_, ⊎-elim, dite}
-use mathlib.Core.Bool.{Bool, true, false, cond, _&&_, _||_, true≢false}
+use mathlib.Core.Logic.{_⊎_}
+use mathlib.Core.Bool.{Bool, true, false}
 use mathlib.Core.List.{List, [], _∷_}
-use Prim.Native.Nat.{ℕ, zero, suc, _+_, _*_, _/_, _%_, _≤_, _<_}
-use native.Mathlib.Decide.{decLt}
+use Prim.Native.Nat.{ℕ, suc, _+_, _*_, _/_, _%_, _≤_, _<_}
 use native.Mathlib.Omega.{arith}
-use lib.Dec.{eqb, leb}
 use lib.ListN.{length, getD, take}
 use lib.Seq.{getD-take, length-take-le}
-use borrow.Author.Tests.{eqb-true, eq-eqb, le-leb, lt-leb}
 use Rattle.sets.specs.Sets.{member}
 use Rattle.facts.specs.declared.Fact.{Fact}
-use Rattle.facts.specs.declared.Fact.the-variants.{Holds, CrewHolds, Member}
-use Rattle.gate.specs.Gate.{between, isPerson, isCrew, isValue, isCrewField}
-use Rattle.gate.proofs.PassedLaws.{and-both, between-true}
 use Rattle.frames.specs.declared.Rule.{Rule}
 use Rattle.frames.specs.declared.Rules.{Rules}
 use Rattle.frames.specs.Book.{Contents, listed, noTerm}
 use Rattle.frames.specs.Fits.{ruleFits, Each, Short, Admitted}
-use Rattle.requests.specs.Requests.{adds, aimed, requestOf, fieldsGood, wellFormed}
+use Rattle.requests.specs.declared.Request.{Request}
+use Rattle.requests.specs.Requests.{adds, aimed, fieldsGood, wellFormed}
+use Rattle.requests.proofs.RequestLaws.{request-parts, well-formed-parts, well-formed-from, fields-zero}
 use Rattle.rules.specs.declared.Subject.{Subject}
 use Rattle.rules.specs.Search as search-in
-use Rattle.rules.specs.Rules.{subjectOf, aOf, vOf, termHolds, names, permits, permitted}
-use Rattle.rules.proofs.SearchLaws.{each-at}
+use Rattle.rules.specs.Rules.{subjectOf, termHolds}
+use Rattle.rules.proofs.SearchLaws.{all-nil, all-cons, each-at}
+use Rattle.rules.proofs.RuleLaws.{a-of-aimed, v-of-aimed, PermittedBy, permitted-from, permitted-cases}
 use Rattle.theory.specs.Facts.{State}
 use Rattle.theory.specs.Plan.{Ask, req}
 use Rattle.level.specs.declared.Move.{Move}
@@ -37,63 +34,19 @@ use Rattle.level.proofs.RuleLaws.{rules-good}
 use Rattle.level.proofs.ChosenLaws.{chosen-parts, chosen-from}
 use Rattle.reach.specs.Tracked.{tracked, numberOf, lift, bytesOf, asked, May}
 use Rattle.reach.proofs.DepotLaws.{depot}
-use Rattle.planner.proofs.RuleParts.{Parts, rule-parts, or-cases, crew-low, rule-crew}
+use Rattle.planner.proofs.RuleParts.{Parts, rule-parts, crew-low, rule-crew}
 
 -- ---------------------------------------------------------------- tests over lists
 
 -- The two crates' tests of all of a list are one.
 all-one : {A : Type 0} (p q : A → Bool) (d : A) (xs : List A) → ((j : ℕ) → j < length xs → p (getD xs j d) ≡ q (getD xs j d)) → all p xs ≡ search-in.all q xs
-unfolding all search-in.all
-all-one p q d [] h = refl
-all-one p q d (x ∷ xs) h = rw (h 0 (omega arith), all-one p q d xs (λ j l. h (suc j) (omega arith))) refl
-
-any-at : {A : Type 0} (p : A → Bool) (d : A) (xs : List A) (j : ℕ) → j < length xs → p (getD xs j d) ≡ true → search-in.any p xs ≡ true
-unfolding search-in.any
-any-at p d [] j l e = absurd (omega arith)
-any-at p d (x ∷ xs) zero l e = rw e refl
-any-at p d (x ∷ xs) (suc j) l e = or-right (p x) (any-at p d xs j (omega arith) e)
-  where
-    or-right : (b : Bool) → search-in.any p xs ≡ true → (b || search-in.any p xs) ≡ true
-    or-right true f = refl
-    or-right false f = f
-
-any-of : {A : Type 0} (p : A → Bool) (d : A) (xs : List A) → search-in.any p xs ≡ true → (j : ℕ) × ((j < length xs) × (p (getD xs j d) ≡ true))
-unfolding search-in.any
-any-of p d [] e = absurd (true≢false (sym e))
-any-of p d (x ∷ xs) e = by-head (p x) refl e (any-of p d xs)
-  where
-    by-head : (b : Bool) → p x ≡ b → (b || search-in.any p xs) ≡ true → (search-in.any p xs ≡ true → (j : ℕ) × ((j < length xs) × (p (getD xs j d) ≡ true)))
-        → (j : ℕ) × ((j < suc (length xs)) × (p (getD (x ∷ xs) j d) ≡ true))
-    by-head true i f go = (0, (omega arith, i))
-    by-head false i f go = let r = go f in (suc (r .0), (omega (arith, r .1 .0), r .1 .1))
-
-and-true : (a b : Bool) → a ≡ true → b ≡ true → (a && b) ≡ true
-and-true a b e f = rw (e, f) refl
+unfolding all
+all-one p q d [] h = sym (all-nil q)
+all-one p q d (x ∷ xs) h = rw (h 0 (omega arith), all-one p q d xs (λ j l. h (suc j) (omega arith))) (sym (all-cons q x xs))
 
 -- A request with a move's fields is the move's.
 ask-same : (q : Ask) (m : Move) (p : ℕ) → m .fact ≡ q .fact % 160 → m .op ≡ q .op → m .role ≡ q .role → q .subject ≡ p → m .a ≡ q .a → m .v ≡ q .v → toLevel q ≡ askOf p m
 ask-same q m p f o r s a v = rw (f, o, r, s, a, v) refl
-
--- ---------------------------------------------------------------- the fields of an aimed fact
-
-a-of-aimed : (op s a v : ℕ) → aOf (aimed op s a v) ≡ a
-unfolding aOf aimed
-a-of-aimed op s a v = by-op (leb op 2) (leb op 4)
-  where
-    by-op : (x y : Bool) → aOf (cond x (Holds (record { 0 = s }) (record { 0 = a }) v) (cond y (CrewHolds (record { 0 = s }) (record { 0 = a }) v) (Member (record { 0 = s }) (record { 0 = a })))) ≡ a
-    by-op true y = refl
-    by-op false true = refl
-    by-op false false = refl
-
-v-of-aimed : (op s a v : ℕ) → (5 ≤ op → v ≡ 0) → vOf (aimed op s a v) ≡ v
-unfolding vOf aimed
-v-of-aimed op s a v h =
-    dite (decLt op 3)
-    (λ (two : op < 3). rw (le-leb op 2 (omega arith)) refl)
-    (λ (more : op < 3 → ⊥).
-    dite (decLt op 5)
-    (λ (four : op < 5). rw (lt-leb op 2 (omega arith), le-leb op 4 (omega arith)) refl)
-    (λ (five : op < 5 → ⊥). rw (lt-leb op 2 (omega arith), lt-leb op 4 (omega arith)) (sym (h (omega arith)))))
 
 module _ (b : Contents) (ok : Admitted b) (rs : Rules) (same-rules : b .rules ≡ listed rs) (few : rs .count ≤ 512) (room : length (rs .rules) ≡ 512) where
   rules-fit : Each (λ r. ruleFits (b .sizes) r ≡ true) (listed rs)
@@ -152,30 +105,38 @@ module _ (b : Contents) (ok : Admitted b) (rs : Rules) (same-rules : b .rules �
     wholeAsk : Rule → Ask
     wholeAsk r = record { fact = 160 * k + placeOf (r .op) (r .a) (r .v); op = r .op; role = r .role .0; subject = p; a = r .a; v = r .v }
 
+    -- The depot's request with a rule's fields.
+    rule-asked : (r : Rule) → asked (wholeAsk r) ≡ record { op = r .op; role = r .role; fact = aimed (r .op) p (r .a) (r .v) }
+    unfolding wholeAsk
+    rule-asked r = request-parts (bytesOf (wholeAsk r))
+
     permits-rule : (S : State) (r : Rule) → Parts (b .sizes) r → GoodRule r → Op (r .op) → ruleShown T S r ≡ true
-        → permits (b .juniors) (lift b (onLevel k R S)) (asked (wholeAsk r)) r ≡ true
-    unfolding wholeAsk requestOf permits names
+        → PermittedBy (b .juniors) (lift b (onLevel k R S)) (asked (wholeAsk r)) r
     permits-rule S r parts good op shows =
-        and-true (eqb (r .op) (r .op) && (eqb (r .role .0) (r .role .0) && (eqb (r .a) (aOf (aimed (r .op) p (r .a) (r .v))) && eqb (r .v) (vOf (aimed (r .op) p (r .a) (r .v))))))
-        (search-in.all (termHolds (b .juniors) (lift b (onLevel k R S)) (subjectOf (aimed (r .op) p (r .a) (r .v)))) (take (r .n) (r .terms)))
-        (rw (a-of-aimed (r .op) p (r .a) (r .v), v-of-aimed (r .op) p (r .a) (r .v) (zero-value r parts), eq-eqb (r .op) (r .op) refl, eq-eqb (r .role .0) (r .role .0) refl, eq-eqb (r .a) (r .a) refl, eq-eqb (r .v) (r .v) refl) refl)
-        (rw (level .subject r op) (sym (rule-same S r parts good op) ∙ shows))
+        rw (rule-asked r)
+        (record {
+          op = refl;
+          role = refl;
+          a = sym (a-of-aimed (r .op) p (r .a) (r .v));
+          v = sym (v-of-aimed (r .op) p (r .a) (r .v) (zero-value r parts));
+          terms = rw (level .subject r op) (sym (rule-same S r parts good op) ∙ shows);
+        })
 
     may-rule : (S : State) (j : ℕ) (on : Bool) → j < rs .count → Op (ruleAt rs j .op) → adds (ruleAt rs j .op) ≡ on → member (b .query .roles) (ruleAt rs j .role .0) ≡ true
         → ruleShown T S (ruleAt rs j) ≡ true → May b (onLevel k R S) on (wholeAsk (ruleAt rs j))
-    unfolding wholeAsk wellFormed requestOf permitted
+    unfolding wholeAsk
     may-rule S j on l op add role shows =
         let r = ruleAt rs j in
         let parts = rule-parts (b .sizes) r (fits-at j l) in
         let good = all-good .good j l in
         record {
-          formed = level .good r parts op;
+          formed = well-formed-from (b .sizes) (bytesOf (wholeAsk r)) refl (level .good r parts op);
           role = role;
           adding = add;
-          of-fact = level .tracks r parts op;
-          number = level .number r parts op;
+          of-fact = rw (rule-asked r) (level .tracks r parts op);
+          number = rw (rule-asked r) (level .number r parts op);
           bounded = omega (arith, level .low, good .aims);
-          allows = any-at (permits (b .juniors) (lift b (onLevel k R S)) (asked (wholeAsk r))) noRule (b .rules) j (rw listed-length l)
+          allows = permitted-from (b .juniors) (lift b (onLevel k R S)) (asked (wholeAsk r)) (b .rules) noRule j (rw listed-length l)
               (rw (listed-at j l) (permits-rule S r parts good op shows));
         }
 
@@ -188,37 +149,17 @@ module _ (b : Contents) (ok : Admitted b) (rs : Rules) (same-rules : b .rules �
       all-hold : search-in.all (termHolds (b .juniors) F (subjectOf (aimed (q .op) (q .subject) (q .a) (q .v)))) (take (r .n) (r .terms)) ≡ true
 
     fields-of : (q : Ask) → wellFormed (b .sizes) (bytesOf q) ≡ true → fieldsGood (b .sizes) (q .op) (q .role) (q .subject) (q .a) (q .v) ≡ true
-    unfolding wellFormed
-    fields-of q e = e
+    fields-of q e = well-formed-parts (b .sizes) (bytesOf q) e .1
 
-    zero-field : (op role sub a v : ℕ) → fieldsGood (b .sizes) op role sub a v ≡ true → 5 ≤ op → v ≡ 0
-    unfolding fieldsGood
-    zero-field op role sub a v e five =
-        let x = between 1 2 op && isPerson (b .sizes) sub && isValue (b .sizes) a v in
-        let y = between 3 4 op && isCrew (b .sizes) sub && isValue (b .sizes) a v in
-        let w = between 5 6 op && isPerson (b .sizes) sub && isCrewField (b .sizes) a v in
-        ⊎-elim
-        (λ g. ⊎-elim
-        (λ h. absurd (omega (arith, between-true 1 2 op (and-both (between 1 2 op) (isPerson (b .sizes) sub) (and-both (between 1 2 op && isPerson (b .sizes) sub) (isValue (b .sizes) a v) h .0) .0) .1)))
-        (λ h. absurd (omega (arith, between-true 3 4 op (and-both (between 3 4 op) (isCrew (b .sizes) sub) (and-both (between 3 4 op && isCrew (b .sizes) sub) (isValue (b .sizes) a v) h .0) .0) .1)))
-        (or-cases x y g))
-        (λ h. crew-low (b .sizes) (ok .sized) a v (and-both (between 5 6 op && isPerson (b .sizes) sub) (isCrewField (b .sizes) a v) h .1) .1)
-        (or-cases (x || y) w (and-both ((x || y) || w) (leb role 15) e .0))
-
-    named-parts : (F : Fact → Bool) (q : Ask) (r : Rule) → fieldsGood (b .sizes) (q .op) (q .role) (q .subject) (q .a) (q .v) ≡ true → permits (b .juniors) F (asked q) r ≡ true → Named F q r
-    unfolding permits names requestOf
+    named-parts : (F : Fact → Bool) (q : Ask) (r : Rule) → fieldsGood (b .sizes) (q .op) (q .role) (q .subject) (q .a) (q .v) ≡ true → PermittedBy (b .juniors) F (asked q) r → Named F q r
     named-parts F q r good e =
-        let aim = aimed (q .op) (q .subject) (q .a) (q .v) in
-        let one = and-both (eqb (r .op) (q .op) && (eqb (r .role .0) (q .role) && (eqb (r .a) (aOf aim) && eqb (r .v) (vOf aim)))) (search-in.all (termHolds (b .juniors) F (subjectOf aim)) (take (r .n) (r .terms))) e in
-        let two = and-both (eqb (r .op) (q .op)) (eqb (r .role .0) (q .role) && (eqb (r .a) (aOf aim) && eqb (r .v) (vOf aim))) (one .0) in
-        let three = and-both (eqb (r .role .0) (q .role)) (eqb (r .a) (aOf aim) && eqb (r .v) (vOf aim)) (two .1) in
-        let four = and-both (eqb (r .a) (aOf aim)) (eqb (r .v) (vOf aim)) (three .1) in
+        let by = rw (request-parts (bytesOf q)) at e in
         record {
-          op = eqb-true (r .op) (q .op) (two .0);
-          role = eqb-true (r .role .0) (q .role) (three .0);
-          a = eqb-true (r .a) (aOf aim) (four .0) ∙ a-of-aimed (q .op) (q .subject) (q .a) (q .v);
-          v = eqb-true (r .v) (vOf aim) (four .1) ∙ v-of-aimed (q .op) (q .subject) (q .a) (q .v) (zero-field (q .op) (q .role) (q .subject) (q .a) (q .v) good);
-          all-hold = one .1;
+          op = by .op;
+          role = by .role;
+          a = by .a ∙ a-of-aimed (q .op) (q .subject) (q .a) (q .v);
+          v = by .v ∙ v-of-aimed (q .op) (q .subject) (q .a) (q .v) (fields-zero (b .sizes) (q .op) (q .role) (q .subject) (q .a) (q .v) good);
+          all-hold = by .terms;
         }
 
     module _ {one two : ℕ} {on : Bool} (side : SideIs Op one two on) (ms : Moves) (moves : MovesOf rs one two (b .query .roles) ms (rs .count)) where
@@ -237,15 +178,16 @@ module _ (b : Contents) (ok : Admitted b) (rs : Rules) (same-rules : b .rules �
           (may-rule S j on l (op .0) (op .1) (parts .1) (sym (move-met T S (all-good .good j l) move) ∙ some .holds))
 
       some-of : (S : State) (q : Ask) → q .fact / 160 ≡ k → May b (onLevel k R S) on q → (j : ℕ) → j < rs .count → Named (lift b (onLevel k R S)) q (ruleAt rs j) → Some T ms p S (toLevel q)
-      unfolding requestOf
       some-of S q here may j l named =
           let r = ruleAt rs j in
+          let fact-of = ap (λ (x : Request). x .fact) (request-parts (bytesOf q)) in
+          let on-level = sym (ap (numberOf b) fact-of) ∙ may .number in
           let parts = rule-parts (b .sizes) r (fits-at j l) in
           let good = all-good .good j l in
-          let where-at = level .from-number (q .op) (q .subject) (q .a) (q .v) (q .role) (fields-of q (may .formed)) (may .of-fact) (ap (λ (n : ℕ). n / 160) (may .number) ∙ here) in
+          let where-at = level .from-number (q .op) (q .subject) (q .a) (q .v) (q .role) (fields-of q (may .formed)) (sym (ap (tracked b) fact-of) ∙ may .of-fact) (ap (λ (n : ℕ). n / 160) on-level ∙ here) in
           let op : Op (r .op) = subst Op (sym (named .op)) (where-at .0) in
           let aim : aimed (q .op) (q .subject) (q .a) (q .v) ≡ aimed (r .op) p (r .a) (r .v) = rw (named .op, named .a, named .v, where-at .1) refl in
-          let number : q .fact ≡ 160 * k + placeOf (r .op) (r .a) (r .v) = sym (may .number) ∙ ap (numberOf b) aim ∙ level .number r parts op in
+          let number : q .fact ≡ 160 * k + placeOf (r .op) (r .a) (r .v) = sym on-level ∙ ap (numberOf b) aim ∙ level .number r parts op in
           let chosen = chosen-from one two (b .query .roles) r (side .from (r .op) op (ap adds (named .op) ∙ may .adding)) (ap (member (b .query .roles)) (named .role) ∙ may .role) in
           let found = moves .every j l chosen in
           let move = found .2 in
@@ -263,9 +205,8 @@ module _ (b : Contents) (ok : Admitted b) (rs : Rules) (same-rules : b .rules �
 
       -- What the depot permits at the level, some move permits.
       side-out : (S : State) (q : Ask) → q .fact / 160 ≡ k → May b (onLevel k R S) on q → Some T ms p S (toLevel q)
-      unfolding permitted
       side-out S q here may =
-          let found = any-of (permits (b .juniors) (lift b (onLevel k R S)) (asked q)) noRule (b .rules) (may .allows) in
+          let found = permitted-cases (b .juniors) (lift b (onLevel k R S)) (asked q) (b .rules) noRule (may .allows) in
           let l : found .0 < rs .count = rw listed-length at (found .1 .0) in
           some-of S q here may (found .0) l (named-parts (lift b (onLevel k R S)) q (ruleAt rs (found .0)) (fields-of q (may .formed)) (rw (listed-at (found .0) l) at (found .1 .1)))
 

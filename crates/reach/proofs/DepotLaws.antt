@@ -10,6 +10,7 @@ use Rattle.frames.specs.Book.{Contents}
 use Rattle.frames.specs.declared.Term.{Term}
 use Rattle.requests.specs.declared.Request.{Request}
 use Rattle.rules.specs.Rules.{subjectOf, termHolds, permitted}
+use Rattle.rules.proofs.RuleLaws.{subject-value, subject-crew, subject-member}
 use Rattle.ledger.proofs.LedgerLaws.{SameOf, permitted-mono, permitted-local, term-of-crew, term-of-person}
 use Rattle.theory.specs.Facts.{State, _⊆_}
 use Rattle.theory.specs.Plan.{Ask, Req, req, World}
@@ -52,11 +53,11 @@ module _ (b : Contents) (S T : State) where
   -- A term about a tracked subject reads facts of its level and those below alone.
   terms-agree : (f : Fact) → tracked b f ≡ true → Upto (numberOf b f / 160) S T
       → (t : Term) → termHolds (b .juniors) (lift b S) (subjectOf f) t ≡ termHolds (b .juniors) (lift b T) (subjectOf f) t
-  unfolding subjectOf numberOf
+  unfolding numberOf
   terms-agree (Holds p a v) e agree t =
       let h = tracked-value b p a v e in
       let k : (160 * personLevel b + (16 * a .0 + v)) / 160 ≡ personLevel b = omega (arith, h .1 .0, h .1 .1) in
-      term-of-person (b .juniors) (lift b S) (lift b T) p (all-of p (λ f i. agree (numberOf b f) (omega (arith, level-low b f i, k)))) t
+      rw (subject-value p a v) (term-of-person (b .juniors) (lift b S) (lift b T) p (all-of p (λ f i. agree (numberOf b f) (omega (arith, level-low b f i, k)))) t)
     where
       all-of : (p : Person) → ((f : Fact) → tracked b f ≡ true → S (numberOf b f) ≡ T (numberOf b f)) → SameOf (lift b S) (lift b T) p
       all-of p h =
@@ -68,21 +69,21 @@ module _ (b : Contents) (S T : State) where
   terms-agree (CrewHolds c a v) e agree t =
       let h = tracked-crew b c a v e in
       let k : (160 * c .0 + (16 * a .0 + v)) / 160 ≡ c .0 = omega (arith, h .1 .0, h .1 .1) in
-      term-of-crew (b .juniors) (lift b S) (lift b T) c
+      rw (subject-crew c a v) (term-of-crew (b .juniors) (lift b S) (lift b T) c
       (record {
         crew = λ x a′ v′ le. lift-same b S T (CrewHolds (record { 0 = x }) a′ v′) (λ i.
             let j = tracked-crew b (record { 0 = x }) a′ v′ i in
             agree (160 * x + (16 * a′ .0 + v′)) (omega (arith, j .1 .0, j .1 .1, k, le)));
-      }) t
+      }) t)
   terms-agree (Member p c) e agree t =
       let h = tracked-member b p c e in
       let k : (160 * personLevel b + (128 + c .0)) / 160 ≡ personLevel b = omega (arith, h .1) in
-      term-of-person (b .juniors) (lift b S) (lift b T) p
+      rw (subject-member p c) (term-of-person (b .juniors) (lift b S) (lift b T) p
       (record {
         value = λ a v. lift-same b S T (Holds p a v) (λ i. agree (numberOf b (Holds p a v)) (omega (arith, level-low b (Holds p a v) i, k)));
         crew-of = λ d. lift-same b S T (Member p d) (λ i. agree (numberOf b (Member p d)) (omega (arith, level-low b (Member p d) i, k)));
         crews = λ x a v. lift-same b S T (CrewHolds (record { 0 = x }) a v) (λ i. agree (numberOf b (CrewHolds (record { 0 = x }) a v)) (omega (arith, level-low b (CrewHolds (record { 0 = x }) a v) i, k)));
-      }) t
+      }) t)
 
   -- So does a permission.
   pub permitted-agree : (r : Request) → tracked b (r .fact) ≡ true → Upto (numberOf b (r .fact) / 160) S T

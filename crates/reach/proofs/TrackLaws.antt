@@ -1,7 +1,7 @@
 -- What numbers, states and sets of facts have to do with each other.
 use mathlib.Core.Path.{_≡_, refl, ap, sym, fun-ext, _∙_}
 use mathlib.Core.Logic.{dite}
-use mathlib.Core.Bool.{Bool, true, false, _&&_, true≢false}
+use mathlib.Core.Bool.{Bool, true, false, _&&_, and-false, true≢false}
 use Prim.Native.Nat.{ℕ, _+_, _-_, _*_, _/_, _%_, _≤_, _<_}
 use native.Mathlib.Decide.{ℕ-discrete, decLt}
 use native.Mathlib.Omega.{arith}
@@ -15,13 +15,14 @@ use Rattle.facts.specs.declared.Fact.the-variants.{Holds, CrewHolds, Member}
 use Rattle.facts.proofs.FactLaws.{same-person}
 use Rattle.inherit.specs.Inheritance.{Subset}
 use Rattle.inherit.proofs.InheritanceLaws.{and-both}
+use Rattle.gate.specs.Gate.{isPerson, isCrew, isValue}
 use Rattle.frames.specs.Book.{Contents}
+use Rattle.frames.specs.Fits.{inSizes, Admitted}
+use Rattle.requests.proofs.RequestLaws.{and-from, value-bounds}
+use Rattle.ledger.proofs.LedgerLaws.{SameOf}
 use Rattle.theory.specs.Facts.{State, _⊆_, put}
 use Rattle.theory.proofs.FactLaws.{put-same, put-other}
 use Rattle.reach.specs.Tracked.{personLevel, isAsked, tracked, numberOf, lift, factAt, isNumber, track}
-
-and-true : (a b : Bool) → a ≡ true → b ≡ true → (a && b) ≡ true
-and-true a b e f = rw (e, f) refl
 
 -- ---------------------------------------------------------------- tracked facts
 
@@ -101,8 +102,8 @@ fact-tracked b g e =
     (λ (low : g / 160 < personLevel b).
     let i : g % 160 < 128 = ltb-true (g % 160) 128 (rw (lt-ltb (g / 160) (personLevel b) low) at e) in
     rw (lt-ltb (g / 160) (personLevel b) low) (
-      and-true (ltb (g / 160) (b .sizes .crews)) (ltb (g % 160 / 16) 8 && ltb (g % 160 % 16) 16) (lt-ltb (g / 160) (b .sizes .crews) low)
-          (and-true (ltb (g % 160 / 16) 8) (ltb (g % 160 % 16) 16) (lt-ltb (g % 160 / 16) 8 (omega arith)) (lt-ltb (g % 160 % 16) 16 (omega arith))),
+      and-from (ltb (g / 160) (b .sizes .crews)) (ltb (g % 160 / 16) 8 && ltb (g % 160 % 16) 16) (lt-ltb (g / 160) (b .sizes .crews) low)
+          (and-from (ltb (g % 160 / 16) 8) (ltb (g % 160 % 16) 16) (lt-ltb (g % 160 / 16) 8 (omega arith)) (lt-ltb (g % 160 % 16) 16 (omega arith))),
       omega arith,
     ))
     (λ (high : g / 160 < personLevel b → ⊥).
@@ -110,13 +111,13 @@ fact-tracked b g e =
     dite (decLt (g % 160) 128)
     (λ (value : g % 160 < 128).
     rw (le-ltb (g / 160) (personLevel b) (omega arith), lt-ltb (g % 160) 128 value) (
-      and-true (isAsked b (b .query .person .0)) (ltb (g % 160 / 16) 8 && ltb (g % 160 % 16) 16) (eq-eqb (b .query .person .0) (b .query .person .0) refl)
-          (and-true (ltb (g % 160 / 16) 8) (ltb (g % 160 % 16) 16) (lt-ltb (g % 160 / 16) 8 (omega arith)) (lt-ltb (g % 160 % 16) 16 (omega arith))),
+      and-from (isAsked b (b .query .person .0)) (ltb (g % 160 / 16) 8 && ltb (g % 160 % 16) 16) (eq-eqb (b .query .person .0) (b .query .person .0) refl)
+          (and-from (ltb (g % 160 / 16) 8) (ltb (g % 160 % 16) 16) (lt-ltb (g % 160 / 16) 8 (omega arith)) (lt-ltb (g % 160 % 16) 16 (omega arith))),
       omega (arith, k),
     ))
     (λ (crew : g % 160 < 128 → ⊥).
     rw (le-ltb (g / 160) (personLevel b) (omega arith), le-ltb (g % 160) 128 (omega arith))
-    (and-true (isAsked b (b .query .person .0)) (ltb (g % 160 - 128) 32) (eq-eqb (b .query .person .0) (b .query .person .0) refl) (lt-ltb (g % 160 - 128) 32 (omega arith)), omega (arith, k))))
+    (and-from (isAsked b (b .query .person .0)) (ltb (g % 160 - 128) 32) (eq-eqb (b .query .person .0) (b .query .person .0) refl) (lt-ltb (g % 160 - 128) 32 (omega arith)), omega (arith, k))))
 
 -- ---------------------------------------------------------------- states and sets of facts
 
@@ -138,7 +139,7 @@ lift-track b F f = by-tracked (tracked b f) refl
 pub lift-mono : (b : Contents) {S T : State} → S ⊆ T → Subset (lift b S) (lift b T)
 unfolding lift
 lift-mono b {S} {T} le =
-    record { each = λ f e. let both = and-both (tracked b f) (S (numberOf b f)) e in and-true (tracked b f) (T (numberOf b f)) (both .0) (le (numberOf b f) (both .1)) }
+    record { each = λ f e. let both = and-both (tracked b f) (S (numberOf b f)) e in and-from (tracked b f) (T (numberOf b f)) (both .0) (le (numberOf b f) (both .1)) }
 
 -- States that agree at a tracked fact agree on it.
 pub lift-same : (b : Contents) (S T : State) (f : Fact) → (tracked b f ≡ true → S (numberOf b f) ≡ T (numberOf b f)) → lift b S f ≡ lift b T f
@@ -176,3 +177,51 @@ track-other b F H f t other = fun-ext at-number
         by-number : (n : Bool) → isNumber b g ≡ n → (n && H (factAt b (g / 160) (g % 160))) ≡ n && F (factAt b (g / 160) (g % 160))
         by-number true i = other (factAt b (g / 160) (g % 160)) (λ e. true≢false (sym (fact-tracked b g i .0) ∙ ap (tracked b) e ∙ t))
         by-number false i = refl
+
+-- ---------------------------------------------------------------- facts within the sizes
+
+module _ (b : Contents) (ok : Admitted b) where
+  -- A fact within the sizes that is a crew's, or the query's person's, is tracked.
+  pub crew-in : (c : Crew) (a : Attr) (v : ℕ) → inSizes (b .sizes) (CrewHolds c a v) ≡ true → tracked b (CrewHolds c a v) ≡ true
+  unfolding inSizes tracked
+  crew-in c a v e =
+      let both = and-both (isCrew (b .sizes) (c .0)) (isValue (b .sizes) (a .0) v) e in
+      let small = value-bounds (b .sizes) (a .0) v (ok .sized) (both .1) in
+      and-from (ltb (c .0) (b .sizes .crews)) (ltb (a .0) 8 && ltb v 16) (both .0) (and-from (ltb (a .0) 8) (ltb v 16) (lt-ltb (a .0) 8 (small .0)) (lt-ltb v 16 (small .1)))
+
+  pub value-in : (p : Person) (a : Attr) (v : ℕ) → p ≡ b .query .person → inSizes (b .sizes) (Holds p a v) ≡ true → tracked b (Holds p a v) ≡ true
+  unfolding inSizes tracked
+  value-in p a v is e =
+      let both = and-both (isPerson (b .sizes) (p .0)) (isValue (b .sizes) (a .0) v) e in
+      let small = value-bounds (b .sizes) (a .0) v (ok .sized) (both .1) in
+      and-from (isAsked b (p .0)) (ltb (a .0) 8 && ltb v 16) (eq-eqb (p .0) (b .query .person .0) (ap (λ (x : Person). x .0) is))
+      (and-from (ltb (a .0) 8) (ltb v 16) (lt-ltb (a .0) 8 (small .0)) (lt-ltb v 16 (small .1)))
+
+  pub member-in : (p : Person) (c : Crew) → p ≡ b .query .person → inSizes (b .sizes) (Member p c) ≡ true → tracked b (Member p c) ≡ true
+  unfolding inSizes tracked
+  member-in p c is e =
+      let both = and-both (isPerson (b .sizes) (p .0)) (isCrew (b .sizes) (c .0)) e in
+      and-from (isAsked b (p .0)) (ltb (c .0) 32) (eq-eqb (p .0) (b .query .person .0) (ap (λ (x : Person). x .0) is))
+      (lt-ltb (c .0) 32 (omega (arith, ltb-true (c .0) (b .sizes .crews) (both .1), ok .sized .crews-most)))
+
+  module _ (F : Fact → Bool) (inside : (f : Fact) → F f ≡ true → inSizes (b .sizes) f ≡ true) where
+    -- A fact that is tracked where it is within the sizes is in the set's state as in the set.
+    same-held : (f : Fact) → (inSizes (b .sizes) f ≡ true → tracked b f ≡ true) → F f ≡ lift b (track b F) f
+    same-held f h = by-held (F f) refl ∙ sym (lift-track b F f)
+      where
+        by-held : (x : Bool) → F f ≡ x → x ≡ tracked b f && F f
+        by-held true i = sym (and-from (tracked b f) (F f) (h (inside f i)) i)
+        by-held false i = sym (rw i (and-false (tracked b f)))
+
+    -- So is what each crew holds.
+    pub crew-held : (x : ℕ) (a : Attr) (v : ℕ) → F (CrewHolds (record { 0 = x }) a v) ≡ lift b (track b F) (CrewHolds (record { 0 = x }) a v)
+    crew-held x a v = same-held (CrewHolds (record { 0 = x }) a v) (crew-in (record { 0 = x }) a v)
+
+    -- The tracked facts of a set have all that is read of the query's person.
+    pub person-held : (p : Person) → p ≡ b .query .person → SameOf F (lift b (track b F)) p
+    person-held p is =
+        record {
+          value = λ a v. same-held (Holds p a v) (value-in p a v is);
+          crew-of = λ c. same-held (Member p c) (member-in p c is);
+          crews = crew-held;
+        }

@@ -1,14 +1,14 @@
 -- Laws of well-formed requests and suitable ledgers: their facts are within the book's sizes, and a ledger whose facts are is suitable.
 use mathlib.Core.Path.{_≡_, refl, sym, _∙_}
 use mathlib.Core.Logic.{dite}
-use mathlib.Core.Bool.{Bool, true, false, cond, _&&_, _||_, true≢false}
+use mathlib.Core.Bool.{Bool, true, false, cond, _&&_, _||_, or-true, true≢false}
 use mathlib.Core.List.{List}
 use Prim.Native.Nat.{ℕ, zero, suc, _+_, _*_, _/_, _%_, _≤_, _<_}
 use native.Mathlib.Decide.{decLt}
 use native.Mathlib.Omega.{arith}
 use lib.Dec.{eqb, ltb, leb}
 use lib.ListN.{length, getD}
-use borrow.Author.Tests.{eqb-true, ltb-true, leb-true, lt-ltb, le-leb, lt-leb}
+use borrow.Author.Tests.{eqb-true, ltb-true, leb-true, lt-ltb, le-leb, lt-leb, eq-eqb}
 use Rattle.sets.specs.Sets.{within, memberAt, numberAt}
 use Rattle.sets.proofs.SetLaws.{within-member, within-from, number-lt, member-number, member-beyond}
 use Rattle.facts.specs.Facts.{ledgerSize, fits, setAt, setWidth, memberOf, holds, putFact}
@@ -24,7 +24,7 @@ use Rattle.requests.specs.Suitable.{roomOf, valueSetGood, personSetGood,
 
 -- ---- tests
 
-and-from : (a b : Bool) → a ≡ true → b ≡ true → (a && b) ≡ true
+pub and-from : (a b : Bool) → a ≡ true → b ≡ true → (a && b) ≡ true
 and-from a b e f = rw (e, f) refl
 
 or-either : {A : Type 0} (a b : Bool) → (a || b) ≡ true → (a ≡ true → A) → (b ≡ true → A) → A
@@ -62,7 +62,8 @@ all-from p (suc n) h = and-from (allBelow p n) (p n) (all-from p n (λ i l. h i 
 
 -- ---- facts within the sizes
 
-value-bounds : (z : Sizes) (a v : ℕ) → InRange z → isValue z a v ≡ true → (a < 8) × (v < 16)
+-- A value of the book is below 16, of an attribute below 8.
+pub value-bounds : (z : Sizes) (a v : ℕ) → InRange z → isValue z a v ≡ true → (a < 8) × (v < 16)
 unfolding valuesOf
 value-bounds z a v r e =
     let both = and-both (isAttr z a) (ltb v (z .values)) e in
@@ -87,17 +88,51 @@ in-sizes-fits z (Member p c) r e =
     let crew : c .0 < 32 = omega (arith, r .crews-most, ltb-true (c .0) (z .crews) (both .1)) in
     and-from _ _ (lt-ltb (p .0) 64 person) (lt-ltb (c .0) 32 crew)
 
+-- ---- the parts of a request
+
+-- "A request is five bytes: op role subject a v": its op, its role, and the fact that it aims at.
+pub request-parts : (q : List ℕ)
+    → requestOf q ≡ record { op = getD q 0 0; role = record { 0 = getD q 1 0 }; fact = aimed (getD q 0 0) (getD q 2 0) (getD q 3 0) (getD q 4 0) }
+unfolding requestOf
+request-parts q = refl
+
+module _ (op s a v : ℕ) where
+  -- "01 add to a person, 02 delete from a person"
+  pub aimed-value : op ≤ 2 → aimed op s a v ≡ Holds (record { 0 = s }) (record { 0 = a }) v
+  unfolding aimed
+  aimed-value h = rw (le-leb op 2 h) refl
+
+  -- "03 add to a crew, 04 delete from a crew"
+  pub aimed-crew : 2 < op → op ≤ 4 → aimed op s a v ≡ CrewHolds (record { 0 = s }) (record { 0 = a }) v
+  unfolding aimed
+  aimed-crew h k = rw (lt-leb op 2 h, le-leb op 4 k) refl
+
+  -- "05 assign a person, 06 remove a person. In 05 and 06 a is the crew"
+  pub aimed-member : 4 < op → aimed op s a v ≡ Member (record { 0 = s }) (record { 0 = a })
+  unfolding aimed
+  aimed-member h = rw (lt-leb op 2 (omega arith), lt-leb op 4 h) refl
+
 -- ---- well-formed requests
 
-fields-parts : (z : Sizes) (q : List ℕ) → wellFormed z q ≡ true
+-- 12: a well-formed request is five bytes with good fields.
+pub well-formed-parts : (z : Sizes) (q : List ℕ) → wellFormed z q ≡ true
     → (length q ≡ 5) × (fieldsGood z (getD q 0 0) (getD q 1 0) (getD q 2 0) (getD q 3 0) (getD q 4 0) ≡ true)
 unfolding wellFormed
-fields-parts z q e =
+well-formed-parts z q e =
     let both = and-both (eqb (length q) 5) (fieldsGood z (getD q 0 0) (getD q 1 0) (getD q 2 0) (getD q 3 0) (getD q 4 0)) e in
     (eqb-true (length q) 5 (both .0), both .1)
 
--- The three kinds of requests whose fields are good.
+-- Five bytes with good fields are a well-formed request.
+pub well-formed-from : (z : Sizes) (q : List ℕ) → length q ≡ 5
+    → fieldsGood z (getD q 0 0) (getD q 1 0) (getD q 2 0) (getD q 3 0) (getD q 4 0) ≡ true → wellFormed z q ≡ true
+unfolding wellFormed
+well-formed-from z q n e = and-from (eqb (length q) 5) (fieldsGood z (getD q 0 0) (getD q 1 0) (getD q 2 0) (getD q 3 0) (getD q 4 0)) (eq-eqb (length q) 5 n) e
+
+between-from : (lo hi n : ℕ) → lo ≤ n → n ≤ hi → between lo hi n ≡ true
+between-from lo hi n h k = and-from (leb lo n) (leb n hi) (le-leb lo n h) (le-leb n hi k)
+
 module _ (z : Sizes) (op role s a v : ℕ) where
+  -- "fields as in a rule": the three kinds of requests whose fields are good.
   by-op : {A : Type 0} → fieldsGood z op role s a v ≡ true
       → (1 ≤ op → op ≤ 2 → isPerson z s ≡ true → isValue z a v ≡ true → A)
       → (3 ≤ op → op ≤ 4 → isCrew z s ≡ true → isValue z a v ≡ true → A)
@@ -120,8 +155,33 @@ module _ (z : Sizes) (op role s a v : ℕ) where
           let range = between-true lo hi op (front .0) in
           give (range .0) (range .1) (front .1) (last .1)
 
-  fields-op : fieldsGood z op role s a v ≡ true → (1 ≤ op) × (op ≤ 6)
+  -- Fields of each of the three kinds are good with a role of 00-0F.
+  pub fields-on-person : 1 ≤ op → op ≤ 2 → isPerson z s ≡ true → isValue z a v ≡ true → leb role 15 ≡ true → fieldsGood z op role s a v ≡ true
+  unfolding fieldsGood
+  fields-on-person l h x y r =
+      let here : (between 1 2 op && isPerson z s && isValue z a v) ≡ true = and-from (between 1 2 op && isPerson z s) (isValue z a v) (and-from (between 1 2 op) (isPerson z s) (between-from 1 2 op l h) x) y in
+      rw (here, r) refl
+
+  pub fields-on-crew : 3 ≤ op → op ≤ 4 → isCrew z s ≡ true → isValue z a v ≡ true → leb role 15 ≡ true → fieldsGood z op role s a v ≡ true
+  unfolding fieldsGood
+  fields-on-crew l h x y r =
+      let here : (between 3 4 op && isCrew z s && isValue z a v) ≡ true = and-from (between 3 4 op && isCrew z s) (isValue z a v) (and-from (between 3 4 op) (isCrew z s) (between-from 3 4 op l h) x) y in
+      rw (here, or-true (between 1 2 op && isPerson z s && isValue z a v), r) refl
+
+  pub fields-joins : 5 ≤ op → op ≤ 6 → isPerson z s ≡ true → isCrewField z a v ≡ true → leb role 15 ≡ true → fieldsGood z op role s a v ≡ true
+  unfolding fieldsGood
+  fields-joins l h x y r =
+      let here : (between 5 6 op && isPerson z s && isCrewField z a v) ≡ true = and-from (between 5 6 op && isPerson z s) (isCrewField z a v) (and-from (between 5 6 op) (isPerson z s) (between-from 5 6 op l h) x) y in
+      rw (here, or-true ((between 1 2 op && isPerson z s && isValue z a v) || (between 3 4 op && isCrew z s && isValue z a v)), r) refl
+
+  -- Good fields have an op of 01-06.
+  pub fields-op : fieldsGood z op role s a v ≡ true → (1 ≤ op) × (op ≤ 6)
   fields-op e = by-op e (λ l h x y. (omega arith, omega arith)) (λ l h x y. (omega arith, omega arith)) (λ l h x y. (omega arith, omega arith))
+
+  -- "In 05 and 06 a is the crew and v is 00."
+  pub fields-zero : fieldsGood z op role s a v ≡ true → 5 ≤ op → v ≡ 0
+  fields-zero e five =
+      by-op e (λ l h x y. absurd (omega arith)) (λ l h x y. absurd (omega arith)) (λ l h x y. eqb-true v 0 (and-both (isCrew z a) (eqb v 0) y .1))
 
   fields-role : fieldsGood z op role s a v ≡ true → role ≤ 15
   unfolding fieldsGood
@@ -138,22 +198,22 @@ module _ (z : Sizes) (op role s a v : ℕ) where
 module _ (z : Sizes) (q : List ℕ) (well : wellFormed z q ≡ true) where
   -- A well-formed request is five bytes.
   pub well-formed-length : length q ≡ 5
-  well-formed-length = fields-parts z q well .0
+  well-formed-length = well-formed-parts z q well .0
 
   -- Its op is one of 01-06.
   pub well-formed-op : (1 ≤ requestOf q .op) × (requestOf q .op ≤ 6)
   unfolding requestOf
-  well-formed-op = fields-op z (getD q 0 0) (getD q 1 0) (getD q 2 0) (getD q 3 0) (getD q 4 0) (fields-parts z q well .1)
+  well-formed-op = fields-op z (getD q 0 0) (getD q 1 0) (getD q 2 0) (getD q 3 0) (getD q 4 0) (well-formed-parts z q well .1)
 
   -- Its role is one of 00-0F.
   pub well-formed-role : requestOf q .role .0 ≤ 15
   unfolding requestOf
-  well-formed-role = fields-role z (getD q 0 0) (getD q 1 0) (getD q 2 0) (getD q 3 0) (getD q 4 0) (fields-parts z q well .1)
+  well-formed-role = fields-role z (getD q 0 0) (getD q 1 0) (getD q 2 0) (getD q 3 0) (getD q 4 0) (well-formed-parts z q well .1)
 
   -- Its fact is within the sizes.
   pub well-formed-fact : inSizes z (requestOf q .fact) ≡ true
   unfolding requestOf
-  well-formed-fact = fields-fact z (getD q 0 0) (getD q 1 0) (getD q 2 0) (getD q 3 0) (getD q 4 0) (fields-parts z q well .1)
+  well-formed-fact = fields-fact z (getD q 0 0) (getD q 1 0) (getD q 2 0) (getD q 3 0) (getD q 4 0) (well-formed-parts z q well .1)
 
 -- ---- a set of bytes and a bound
 

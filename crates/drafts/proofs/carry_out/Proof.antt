@@ -61,7 +61,7 @@ loop-again c =
     let i = c .before .before .before .before .before .before .before .before .loop .i in
     let from = start .args .from in
     let five : 5 * (from + i) + 5 - 5 * (from + i) ≡ 5 = omega arith in
-    (omega (arith, c .before .before .before .before .before .before .before .loop-test .taken), carry-more (start .args .ledger .now) (c .before .before .before .before .before .before .before .before .loop .ledger) _ (start .args .draft .now) from i (5 * (from + i) + 5 - 5 * (from + i)) _ _ (omega (arith, c .before .before .before .before .before .before .before .loop-test .taken, start .pre .1)) five (c .before .before .before .before .before .request-of .ensures) (c .before .before .before .before .is-adding .ensures) (c .before .before .put-fact .ensures) (c .before .before .before .before .before .before .before .before .loop .inv .1))
+    (omega (arith, c .before .before .before .before .before .before .before .loop-test .taken), carry-more (start .args .ledger .now) (c .before .before .before .before .before .before .before .before .loop .ledger) _ (start .args .draft .now) from i (5 * (from + i) + 5 - 5 * (from + i)) _ _ (omega (arith, c .before .before .before .before .before .before .before .loop-test .taken, start .pre)) five (c .before .before .before .before .before .request-of .ensures) (c .before .before .before .before .is-adding .ensures) (c .before .before .put-fact .ensures) (c .before .before .before .before .before .before .before .before .loop .inv .1))
 
 same-length : tie.Need-same-length Inv-loop μ-loop
 same-length c = let start = c .before .before .before .before in ap length (c .before .loop .inv .1) ∙ carried-length (start .args .ledger .now) (map bytesOf (asks (start .args .draft .now) (start .args .from) (c .before .loop .i)))

@@ -2,8 +2,8 @@
 use mathlib.Core.Path.{_≡_, ap, sym, _∙_}
 use mathlib.Core.Bool.{false}
 use Prim.Native.Nat.{_≤_, _-_}
-use Rattle.inherit.specs.Inheritance.{isJunior, anyBelow}
-use Rattle.inherit.proofs.InheritanceLaws.{any-zero, any-next, any-from}
+use Rattle.inherit.specs.Inheritance.{anyBelow}
+use Rattle.inherit.proofs.InheritanceLaws.{any-zero, any-next, any-from, junior-member}
 use Rattle.flags.specs.Flags.{juniorHas}
 use borrow.Author.Needs.{needs}
 use native.Mathlib.Omega.{arith}
@@ -41,8 +41,7 @@ shared-slice-read-held : tie.Need-shared-slice-read-held Inv-loop μ-loop
 shared-slice-read-held c = search needs
 
 returns : tie.Need-returns Inv-loop μ-loop
-unfolding isJunior
-returns c = let start = c .before .before .before .before .before .before .before .before .args in sym (any-from (juniorHas (start .juniors .now) (start .k) (start .rows .now) (start .f)) (start .k) (c .before .before .before .before .before .loop .j) (rw (← c .before .before .has .ensures) (c .if1 .taken)) (c .before .before .before .before .loop-test .taken))
+returns c = let start = c .before .before .before .before .before .before .before .before .args in sym (any-from (juniorHas (start .juniors .now) (start .k) (start .rows .now) (start .f)) (start .k) (c .before .before .before .before .before .loop .j) (rw (junior-member, ← c .before .before .has .ensures) (c .if1 .taken)) (c .before .before .before .before .loop-test .taken))
 
 add-j : tie.Need-add-j Inv-loop μ-loop
 add-j c = search needs
@@ -51,8 +50,7 @@ loop-less : tie.Need-loop-less Inv-loop μ-loop
 loop-less c = search needs
 
 loop-again : tie.Need-loop-again Inv-loop μ-loop
-unfolding isJunior
-loop-again c = let start = c .before .before .before .before .before .before .before .before .args in (omega arith, any-next (juniorHas (start .juniors .now) (start .k) (start .rows .now) (start .f)) (c .before .before .before .before .before .loop .j) (c .before .before .before .before .before .loop .inv .1) (rw (← c .before .before .has .ensures) (c .if1 .left)))
+loop-again c = let start = c .before .before .before .before .before .before .before .before .args in (omega arith, any-next (juniorHas (start .juniors .now) (start .k) (start .rows .now) (start .f)) (c .before .before .before .before .before .loop .j) (c .before .before .before .before .before .loop .inv .1) (rw (junior-member, ← c .before .before .has .ensures) (c .if1 .left)))
 
 returns-2 : tie.Need-returns-2 Inv-loop μ-loop
 returns-2 c = let last : c .before .loop .j ≡ c .before .before .before .before .args .k = omega (arith, c .before .loop .inv .0, c .loop-test .left) in sym (ap (anyBelow _) (sym last) ∙ c .before .loop .inv .1)

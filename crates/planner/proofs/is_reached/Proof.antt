@@ -21,15 +21,13 @@ slice-aggregate-carry-out : tie.Need-slice-aggregate-carry-out
 slice-aggregate-carry-out c = search needs
 
 carry-out-requires : tie.Need-carry-out-requires
-unfolding contentsOf
-carry-out-requires c κs = (c .before .before .before .before .pre .0 .0 .facts-room, omega (arith, c .before .before .before .before .pre .0 .1 .0, c .before .before .before .before .pre .1 .0))
+carry-out-requires c κs = omega (arith, c .before .before .before .before .pre .0 .1 .0, c .before .before .before .before .pre .1 .0)
 
 slice-aggregate-carry-out-2 : tie.Need-slice-aggregate-carry-out-2
 slice-aggregate-carry-out-2 c = search needs
 
 carry-out-requires-2 : tie.Need-carry-out-requires-2
-unfolding contentsOf
-carry-out-requires-2 c κs = (c .before .ledger3 .given, omega (arith, c .before .before .before .before .before .before .before .pre .0 .1 .1, c .before .before .before .before .before .before .before .pre .1 .1))
+carry-out-requires-2 c κs = omega (arith, c .before .before .before .before .before .before .before .pre .0 .1 .1, c .before .before .before .before .before .before .before .pre .1 .1)
 
 slice-aggregate-is-met : tie.Need-slice-aggregate-is-met
 slice-aggregate-is-met c = search needs

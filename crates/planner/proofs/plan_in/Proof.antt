@@ -3,10 +3,10 @@ use mathlib.Core.Path.{_≡_, refl, sym, _∙_}
 use Prim.Native.Nat.{ℕ, _*_, _≤_, _<_}
 use Rattle.frames.specs.Book.{contentsOf}
 use Rattle.planner.specs.Count.{factCount}
-use Rattle.planner.proofs.StepLaws.{no-found, was-found}
 use Rattle.planner.proofs.PromiseLaws.{no-run-no-way}
 use Rattle.planner.proofs.AnswerLaws.{facts-few, written-few, not-reached, reached, answered-short, answered-long}
 use borrow.Author.Needs.{needs}
+use borrow.Author.Tests.{not-true, not-false}
 use native.Mathlib.Omega.{arith}
 use Rattle.planner.proofs.plan_in.Statement.{statement}
 use Rattle.planner.proofs.plan_in.Tie as tie
@@ -46,7 +46,7 @@ search-requires c κs = (c .before .before .before .before .before .before .pre,
 
 returns-2 : tie.Need-returns-2
 unfolding contentsOf
-returns-2 c = answered-long (contentsOf (c .before .before .before .before .before .before .before .before .before .before .before .args .b)) _ (above-of (c .before .before .before .before .before .before .before .if1 .left) (c .before .before .before .before .before .before .before .before .fact-count .ensures)) (no-run-no-way (contentsOf (c .before .before .before .before .before .before .before .before .before .before .before .args .b)) (c .before .before .before .before .before .before .before .before .before .before .before .pre) (c .before .before .before .before .search .ensures .stuck (no-found _ (c .if2 .taken))), refl)
+returns-2 c = answered-long (contentsOf (c .before .before .before .before .before .before .before .before .before .before .before .args .b)) _ (above-of (c .before .before .before .before .before .before .before .if1 .left) (c .before .before .before .before .before .before .before .before .fact-count .ensures)) (no-run-no-way (contentsOf (c .before .before .before .before .before .before .before .before .before .before .before .args .b)) (c .before .before .before .before .before .before .before .before .before .before .before .pre) (c .before .before .before .before .search .ensures .stuck (not-true _ (c .if2 .taken))), refl)
 
 slice-aggregate-is-reached : tie.Need-slice-aggregate-is-reached
 slice-aggregate-is-reached c = search needs
@@ -55,11 +55,11 @@ slice-aggregate-is-reached-2 : tie.Need-slice-aggregate-is-reached-2
 slice-aggregate-is-reached-2 c = search needs
 
 is-reached-requires : tie.Need-is-reached-requires
-is-reached-requires c κs = let w = c .before .before .before .before .before .before .search .ensures .written (was-found _ (c .before .before .if2 .left)) in ((c .before .before .before .before .before .before .before .before .before .before .before .before .before .pre, (w .few-up, w .most-down)), (w .size-up, w .size-down))
+is-reached-requires c κs = let w = c .before .before .before .before .before .before .search .ensures .written (not-false _ (c .before .before .if2 .left)) in ((c .before .before .before .before .before .before .before .before .before .before .before .before .before .pre, (w .few-up, w .most-down)), (w .size-up, w .size-down))
 
 returns-3 : tie.Need-returns-3
 unfolding contentsOf
-returns-3 c = answered-long (contentsOf (c .before .before .before .before .before .before .before .before .before .before .before .before .before .before .before .args .b)) _ (above-of (c .before .before .before .before .before .before .before .before .before .before .before .if1 .left) (c .before .before .before .before .before .before .before .before .before .before .before .before .fact-count .ensures)) (not-reached (contentsOf (c .before .before .before .before .before .before .before .before .before .before .before .before .before .before .before .args .b)) (c .before .before .before .before .before .before .before .before .before .before .before .before .before .before .before .pre) (c .before .before .before .before .before .before .before .before .search .ensures .written (was-found _ (c .before .before .before .before .if2 .left))) (sym (c .before .is-reached .ensures) ∙ no-found _ (c .if3 .taken)), refl)
+returns-3 c = answered-long (contentsOf (c .before .before .before .before .before .before .before .before .before .before .before .before .before .before .before .args .b)) _ (above-of (c .before .before .before .before .before .before .before .before .before .before .before .if1 .left) (c .before .before .before .before .before .before .before .before .before .before .before .before .fact-count .ensures)) (not-reached (contentsOf (c .before .before .before .before .before .before .before .before .before .before .before .before .before .before .before .args .b)) (c .before .before .before .before .before .before .before .before .before .before .before .before .before .before .before .pre) (c .before .before .before .before .before .before .before .before .search .ensures .written (not-false _ (c .before .before .before .before .if2 .left))) (sym (c .before .is-reached .ensures) ∙ not-true _ (c .if3 .taken)), refl)
 
 slice-aggregate-write-plan : tie.Need-slice-aggregate-write-plan
 slice-aggregate-write-plan c = search needs
@@ -70,7 +70,7 @@ slice-aggregate-write-plan-2 c = search needs
 write-plan-requires : tie.Need-write-plan-requires
 unfolding contentsOf
 write-plan-requires c κs =
-    let w = c .before .before .before .before .before .before .before .before .before .before .before .search .ensures .written (was-found _ (c .before .before .before .before .before .before .before .if2 .left)) in
+    let w = c .before .before .before .before .before .before .before .before .before .before .before .search .ensures .written (not-false _ (c .before .before .before .before .before .before .before .if2 .left)) in
     ((w .few-up, (w .most-down, room (factCount _) (written-few (contentsOf (c .before .before .before .before .before .before .before .before .before .before .before .before .before .before .before .before .before .before .args .b)) (c .before .before .before .before .before .before .before .before .before .before .before .before .before .before .before .before .before .before .pre) w) (above-of (c .before .before .before .before .before .before .before .before .before .before .before .before .before .before .if1 .left) (c .before .before .before .before .before .before .before .before .before .before .before .before .before .before .before .fact-count .ensures)))), (w .size-up, w .size-down))
 
 same-length : tie.Need-same-length
@@ -79,11 +79,11 @@ same-length c = c .before .out .given
 returns-4 : tie.Need-returns-4
 unfolding contentsOf
 returns-4 c =
-    let w = c .before .before .before .before .before .before .before .before .before .before .before .before .before .before .search .ensures .written (was-found _ (c .before .before .before .before .before .before .before .before .before .before .if2 .left)) in
+    let w = c .before .before .before .before .before .before .before .before .before .before .before .before .before .before .search .ensures .written (not-false _ (c .before .before .before .before .before .before .before .before .before .before .if2 .left)) in
     let long = above-of (c .before .before .before .before .before .before .before .before .before .before .before .before .before .before .before .before .before .if1 .left) (c .before .before .before .before .before .before .before .before .before .before .before .before .before .before .before .before .before .before .fact-count .ensures) in
     let made = c .before .before .write-plan .ensures in
     answered-long (contentsOf (c .before .before .before .before .before .before .before .before .before .before .before .before .before .before .before .before .before .before .before .before .before .args .b)) _ long
-    (reached (contentsOf (c .before .before .before .before .before .before .before .before .before .before .before .before .before .before .before .before .before .before .before .before .before .args .b)) (c .before .before .before .before .before .before .before .before .before .before .before .before .before .before .before .before .before .before .before .before .before .pre) w (sym (c .before .before .before .before .before .before .before .is-reached .ensures) ∙ was-found _ (c .before .before .before .before .before .before .if3 .left)) (c .before .before .before .before .before .before .before .before .before .before .before .before .before .before .before .before .before .before .before .before .before .args .out .now) (c .before .before .write-plan .result) _ (made .0)
+    (reached (contentsOf (c .before .before .before .before .before .before .before .before .before .before .before .before .before .before .before .before .before .before .before .before .before .args .b)) (c .before .before .before .before .before .before .before .before .before .before .before .before .before .before .before .before .before .before .before .before .before .pre) w (sym (c .before .before .before .before .before .before .before .is-reached .ensures) ∙ not-false _ (c .before .before .before .before .before .before .if3 .left)) (c .before .before .before .before .before .before .before .before .before .before .before .before .before .before .before .before .before .before .before .before .before .args .out .now) (c .before .before .write-plan .result) _ (made .0)
     (room-of (made .0) (room (factCount _) (written-few (contentsOf (c .before .before .before .before .before .before .before .before .before .before .before .before .before .before .before .before .before .before .before .before .before .args .b)) (c .before .before .before .before .before .before .before .before .before .before .before .before .before .before .before .before .before .before .before .before .before .pre) w) long)) (made .1 ∙ rw (made .0) refl))
 
 pub plan-in-spec : {M : Type 1} → statement M
