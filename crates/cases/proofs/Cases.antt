@@ -1,0 +1,50 @@
+-- D1 to D12 hold, each as its row of the table claims: one computation over the whole table, and one law. Assumes nothing.
+use mathlib.Core.Path.{_≡_, refl}
+use mathlib.Core.Bool.{Bool, true}
+use mathlib.Core.List.{List, [], _∷_}
+use Rattle.lines.specs.Digits as digits
+use Rattle.frames.specs.Fits.{Each}
+use Rattle.inherit.proofs.InheritanceLaws.{and-both}
+use Rattle.cases.specs.Claims.{Meant}
+use Rattle.cases.specs.Table.{d1, d2, d3, d4, d5, d6, d7, d8, d9, d10-senior, d10-junior, d11, d12, table}
+use Rattle.sets.specs.Sets.{bit, member, put, within, subset, memberAt, putAt}
+use Rattle.facts.specs.Facts.{fits, setAt, setWidth, memberOf, holds, putFact, noFacts}
+use Rattle.lines.specs.Digits.{digit, isDigit, malformed, nibbleAt, byteAt}
+use Rattle.lines.specs.Lines.{extend, lines}
+use Rattle.gate.specs.Gate.{allBelow, valuesOf, pairAt, quadAt, misplaced, lengthOf, mislengthed, sizesVerdict, edgeVerdict, ruleGood, foreign, ruleVerdict, factVerdict, queryGood, queryVerdict, fieldsVerdict, verdict}
+use Rattle.frames.specs.Book.{termAt, termsOf, ruleOf, juniorsAfter, factOf, factsAfter, rulesAfter, wantAt, wantsOf, queryOf, queryAfter, knownAfter, nothing, enter, walk, bookOf}
+use Rattle.inherit.specs.Inheritance.{isJunior, anyBelow, downWithin, downward, crewHolds, personIn, personHolds}
+use Rattle.requests.specs.Requests.{aimed, requestOf, fieldsGood, wellFormed}
+use Rattle.rules.specs.Search.{all, any}
+use Rattle.rules.specs.Rules.{subjectOf, aOf, vOf, directly, effectively, inDirectly, inEffectively, termHolds, names, permits, permitted}
+use Rattle.ledger.specs.Ledger.{after, allowed}
+use Rattle.ledger.specs.Show.{setBelow, valueSet, valueSets, crewSet}
+use Rattle.replay.specs.Chains.{goes, run, fives}
+use Rattle.replay.specs.Met.{wants, directCrews, metAtLeast, metExactly, met}
+use Rattle.replay.specs.Replay.{judge, replayIn}
+use Rattle.cases.specs.Text.{codes, written, five, fivesOf}
+use Rattle.cases.proofs.Search.{sameBytes, among, named, namedBelow, allNamed, candidates, join, stepped, spread, reached, stays, closed, unmet, shut}
+use Rattle.cases.proofs.Tests.{isReaches, showsIn, doneIn, passes, passesOn, test, sound}
+
+-- What the test of each element tells, holds of each.
+each : {A : Type 0} {P : A → Type 0} (t : A → Bool) → ((x : A) → t x ≡ true → P x) → (xs : List A) → all t xs ≡ true → Each P xs
+unfolding all Each
+each t h [] e = tt
+each t h (x ∷ xs) e = let both = and-both (t x) (all t xs) e in (h x (both .0), each t h xs (both .1))
+
+-- Every row passes: computed.
+computed : all test table ≡ true
+unfolding table d1 d2 d3 d4 d5 d6 d7 d8 d9 d10-senior d10-junior d11 d12 codes written five fivesOf
+    test passesOn passes isReaches showsIn doneIn sameBytes among named namedBelow allNamed candidates join stepped spread reached stays closed unmet shut
+    bit member put within subset memberAt putAt fits setAt setWidth memberOf holds putFact noFacts
+    digits.all digit isDigit malformed nibbleAt byteAt extend lines
+    allBelow valuesOf pairAt quadAt misplaced lengthOf mislengthed sizesVerdict edgeVerdict ruleGood foreign ruleVerdict factVerdict queryGood queryVerdict fieldsVerdict verdict
+    termAt termsOf ruleOf juniorsAfter factOf factsAfter rulesAfter wantAt wantsOf queryOf queryAfter knownAfter nothing enter walk bookOf
+    isJunior anyBelow downWithin downward crewHolds personIn personHolds aimed requestOf fieldsGood wellFormed
+    all any subjectOf aOf vOf directly effectively inDirectly inEffectively termHolds names permits permitted
+    after allowed setBelow valueSet valueSets crewSet goes run fives wants directCrews metAtLeast metExactly met judge replayIn
+computed = refl
+
+-- D1 to D12: every row of the table is as it claims.
+pub every-case : Each Meant table
+every-case = each test sound table computed
