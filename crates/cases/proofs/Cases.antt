@@ -9,9 +9,9 @@ use Rattle.cases.specs.Claims.{Meant}
 use Rattle.cases.specs.Table.{d1, d2, d3, d4, d5, d6, d7, d8, d9, d10-senior, d10-junior, d11, d12, table}
 use Rattle.sets.specs.Sets.{bit, member, put, within, subset, memberAt, putAt}
 use Rattle.facts.specs.Facts.{fits, setAt, setWidth, memberOf, holds, putFact, noFacts}
-use Rattle.lines.specs.Digits.{digit, isDigit, malformed, nibbleAt, byteAt}
+use Rattle.lines.specs.Digits.{digit, isDigit, malformed, frameOf, byteAt}
 use Rattle.lines.specs.Lines.{extend, lines}
-use Rattle.gate.specs.Gate.{allBelow, valuesOf, pairAt, quadAt, misplaced, lengthOf, mislengthed, sizesVerdict, edgeVerdict, ruleGood, foreign, ruleVerdict, factVerdict, queryGood, queryVerdict, fieldsVerdict, verdict}
+use Rattle.gate.specs.Gate.{allBelow, valuesOf, pairAt, quadAt, misplaced, lengthOf, mislengthed, sizesVerdict, edgeVerdict, ruleGood, foreign, ruleVerdict, factVerdict, queryGood, queryVerdict, fieldsVerdict, verdict, lineVerdict}
 use Rattle.frames.specs.Book.{termAt, termsOf, ruleOf, juniorsAfter, factOf, factsAfter, rulesAfter, wantAt, wantsOf, queryOf, queryAfter, knownAfter, nothing, enter, walk, bookOf}
 use Rattle.inherit.specs.Inheritance.{isJunior, anyBelow, downWithin, downward, crewHolds, personIn, personHolds}
 use Rattle.requests.specs.Requests.{aimed, requestOf, fieldsGood, wellFormed}
@@ -37,8 +37,8 @@ computed : all test table ≡ true
 unfolding table d1 d2 d3 d4 d5 d6 d7 d8 d9 d10-senior d10-junior d11 d12 codes written five fivesOf
     test passesOn passes isReaches showsIn doneIn sameBytes among named namedBelow allNamed candidates join stepped spread reached stays closed unmet shut
     bit member put within subset memberAt putAt fits setAt setWidth memberOf holds putFact noFacts
-    digits.all digit isDigit malformed nibbleAt byteAt extend lines
-    allBelow valuesOf pairAt quadAt misplaced lengthOf mislengthed sizesVerdict edgeVerdict ruleGood foreign ruleVerdict factVerdict queryGood queryVerdict fieldsVerdict verdict
+    digits.all digit isDigit malformed frameOf byteAt extend lines
+    allBelow valuesOf pairAt quadAt misplaced lengthOf mislengthed sizesVerdict edgeVerdict ruleGood foreign ruleVerdict factVerdict queryGood queryVerdict fieldsVerdict verdict lineVerdict
     termAt termsOf ruleOf juniorsAfter factOf factsAfter rulesAfter wantAt wantsOf queryOf queryAfter knownAfter nothing enter walk bookOf
     isJunior anyBelow downWithin downward crewHolds personIn personHolds aimed requestOf fieldsGood wellFormed
     all any subjectOf aOf vOf directly effectively inDirectly inEffectively termHolds names permits permitted

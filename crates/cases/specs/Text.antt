@@ -3,7 +3,7 @@ use Prim.Native.Nat.{ℕ}
 use Prim.Native.Char.{code}
 use Prim.Native.String.{String, [], _∷_}
 use mathlib.Core.List.{List, [] as []ᴸ, _∷_ as _∷ᴸ_, _++_}
-use Rattle.lines.specs.Digits.{byteAt}
+use Rattle.lines.specs.Digits.{frameOf}
 
 -- The characters of a text, each by its number.
 unfoldable pub codes : String → List ℕ
@@ -17,7 +17,7 @@ written (x ∷ᴸ xs) = codes x ++ 10 ∷ᴸ written xs
 
 -- The five bytes of a request that is written as the program prints it, ten digits on a line.
 unfoldable pub five : String → List ℕ
-five x = byteAt (codes x) 0 ∷ᴸ byteAt (codes x) 1 ∷ᴸ byteAt (codes x) 2 ∷ᴸ byteAt (codes x) 3 ∷ᴸ byteAt (codes x) 4 ∷ᴸ []ᴸ
+five x = frameOf (codes x)
 
 -- The bytes of a list of requests.
 unfoldable pub fivesOf : List String → List ℕ
