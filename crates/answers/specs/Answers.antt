@@ -11,7 +11,6 @@ use Rattle.frames.specs.declared.Refusal.{Refusal}
 use Rattle.frames.specs.declared.Outcome.{Outcome}
 use Rattle.frames.specs.declared.Outcome.the-variants.{Accepted, Refused}
 use Rattle.frames.specs.declared.Book.{Book}
-use Rattle.frames.specs.declared.Reading.{Reading}
 use Rattle.answers.specs.declared.Text.{Text}
 
 -- The characters of a text.

@@ -1,12 +1,13 @@
 -- The laws of the planner's flags: lists of flags written one by one, and what each list then is.
 use mathlib.Core.Path.{_≡_, refl, ap, sym, _∙_}
 use mathlib.Core.Logic.{dite}
-use mathlib.Core.Bool.{Bool, false, cond, _&&_, _||_}
+use mathlib.Core.Bool.{Bool, true, false, _&&_, _||_}
 use mathlib.Core.List.{List}
 use Prim.Native.Nat.{ℕ, _+_, _-_, _*_, _/_, _%_, _≤_, _<_}
 use native.Mathlib.Decide.{ℕ-discrete, decLt}
+use native.Mathlib.Numerals.{add-one}
 use native.Mathlib.Omega.{arith}
-use lib.Dec.{eqb, ltb}
+use lib.Dec.{eqb}
 use lib.ListN.{length, getD, set, length-set, List·getD-eq-default}
 use lib.Seq.{getD-set-same, getD-set-other}
 use borrow.Author.Tests.{lt-ltb, le-ltb, eq-eqb}
@@ -14,9 +15,10 @@ use Rattle.facts.specs.Facts.{holds}
 use Rattle.facts.specs.declared.Fact.{Fact}
 use Rattle.frames.specs.Book.{Contents}
 use Rattle.frames.specs.Fits.{Admitted}
-use Rattle.inherit.proofs.InheritanceLaws.{any-same}
+use Rattle.inherit.specs.Inheritance.{isJunior, anyBelow}
+use Rattle.inherit.proofs.InheritanceLaws.{any-zero, any-step}
 use Rattle.reach.specs.Tracked.{personLevel, factAt, isNumber, track}
-use Rattle.flags.specs.Flags.{Written, hasFact, factIn, startFlag, StartFlags, juniorHas, juniorsHave, CrewTable, PersonTable, rowFlag, FilledRow, FirstRows, SmallWants}
+use Rattle.flags.specs.Flags.{Written, hasFact, factIn, startFlag, StartFlags, juniorHas, addedFlag, CrewTable, PersonTable, rowFlag, FilledRow, FirstRows, SmallWants}
 
 -- ---------------------------------------------------------------- flags written one by one
 
@@ -39,6 +41,18 @@ written-more {before} {x} {base} {i} {p} v n w z h e = record {
 -- The count may be named otherwise.
 pub written-end : {before x : List Bool} {base i n : ℕ} {p : ℕ → Bool} → Written before base p i x → i ≡ n → Written before base p n x
 written-end w e = rw e at w
+
+-- The flags may be named otherwise.
+pub written-same : {before x : List Bool} {base i : ℕ} {p q : ℕ → Bool} → Written before base p i x → ((f : ℕ) → f < i → p f ≡ q f) → Written before base q i x
+written-same w h = record { size = w .size; at = λ f l. w .at f l ∙ h f l; below = w .below; above = w .above }
+
+-- Flags written over others.
+pub written-over : {before x y : List Bool} {base i : ℕ} {p q : ℕ → Bool} → Written before base p i x → Written x base q i y → Written before base q i y
+written-over w v = record { size = v .size ∙ w .size; at = v .at; below = λ j l. v .below j l ∙ w .below j l; above = λ j l. v .above j l ∙ w .above j l }
+
+or-false : (b : Bool) → (b || false) ≡ b
+or-false true = refl
+or-false false = refl
 
 -- ---------------------------------------------------------------- what a level starts with
 
@@ -65,10 +79,27 @@ start-all b k {before} {s} h e w = record {
 
 -- ---------------------------------------------------------------- tables and rows
 
--- What the last row says where all of it is written.
-pub crew-table-all : {js : List ℕ} {k : ℕ} {rows before table : List Bool} → length before ≡ 5280
-    → Written before 5120 (juniorsHave js k rows) 160 table → CrewTable js k rows before table
-crew-table-all e w = record { size = w .size ∙ e; kept = w .below; last = w .at }
+-- What crew k has by its juniors below j.
+abbrev pub juniorsBelow : List ℕ → ℕ → List Bool → ℕ → ℕ → Bool
+juniorsBelow js k rows j f = anyBelow (juniorHas js k rows f) j
+
+module _ (js : List ℕ) (k : ℕ) (rows : List Bool) {before : List Bool} where
+  -- At first nothing, from no junior.
+  pub juniors-none : {x : List Bool} → Written before 5120 (λ _. false) 160 x → Written x 5120 (juniorsBelow js k rows 0) 160 x
+  juniors-none w = record { size = refl; at = λ f l. w .at f l ∙ sym (any-zero (juniorHas js k rows f)); below = λ j l. refl; above = λ j l. refl }
+
+  -- A direct junior's row is added.
+  pub juniors-add : {x y : List Bool} (j : ℕ) → isJunior js k j ≡ true → Written before 5120 (juniorsBelow js k rows j) 160 x → Written x 5120 (addedFlag rows j x) 160 y
+      → Written before 5120 (juniorsBelow js k rows (j + 1)) 160 y
+  juniors-add j e w v = written-over w (written-same v (λ f l. rw (w .at f l, add-one, any-step (juniorHas js k rows f) j, e) refl))
+
+  -- Any other crew's is not.
+  pub juniors-skip : {x : List Bool} (j : ℕ) → isJunior js k j ≡ false → Written before 5120 (juniorsBelow js k rows j) 160 x → Written before 5120 (juniorsBelow js k rows (j + 1)) 160 x
+  juniors-skip j e w = written-same w (λ f l. sym (rw (add-one, any-step (juniorHas js k rows f) j, e) (or-false (anyBelow (juniorHas js k rows f) j))))
+
+  -- What the last row says when all juniors are looked at.
+  pub crew-table-all : {table : List Bool} → length before ≡ 5280 → Written before 5120 (juniorsBelow js k rows k) 160 table → CrewTable js k rows before table
+  crew-table-all e w = record { size = w .size ∙ e; kept = w .below; last = w .at }
 
 -- Where all is copied, past the rows nothing is left.
 pub person-table-all : {rows before table : List Bool} → length rows ≡ 5120 → length before ≡ 5280
@@ -84,22 +115,14 @@ person-table-all {rows} {before} {table} r e w = record {
     all : (j : ℕ) → j < 5280 → getD table j false ≡ getD rows j false
     all j l = let z : 0 + j ≡ j = omega arith in ap (λ i. getD table i false) (sym z) ∙ w .at j l
 
--- A crew's row leans on its juniors' rows, which are below it.
-pub row-same : (js : List ℕ) (k : ℕ) (x rows before : List Bool) (f : ℕ) → f < 160
-    → ((j : ℕ) → j < 160 * k → getD rows j false ≡ getD before j false) → rowFlag js k x rows f ≡ rowFlag js k x before f
-unfolding rowFlag
-row-same js k x rows before f l h =
-    ap (λ u. cond (ltb f 128) (getD x (160 + f) false) (eqb k (f - 128) || u))
-    (any-same (juniorHas js k rows f) (juniorHas js k before f) k (λ j m. rw (h (160 * j + f) (omega arith))))
-
 -- What row k says where all of it is written.
-pub fill-all : {js : List ℕ} {k : ℕ} {x before rows : List Bool} → length before ≡ 5120
-    → Written before (160 * k) (rowFlag js k x before) 160 rows → FilledRow js k x before rows
+pub filled-row : {js : List ℕ} {k : ℕ} {x before old table rows : List Bool} → length before ≡ 5120 → CrewTable js k before old table
+    → Written before (160 * k) (rowFlag table k x) 160 rows → FilledRow js k x before rows
 unfolding rowFlag
-fill-all {js} {k} {x} {before} {rows} e w = record {
+filled-row {js} {k} {x} {before} {old} {table} {rows} e t w = record {
   size = w .size ∙ e;
   values = λ f l. w .at f (omega arith) ∙ rw (lt-ltb f 128 l);
-  crews = λ d l. let z : 128 + d - 128 ≡ d = omega arith in w .at (128 + d) (omega arith) ∙ rw (le-ltb (128 + d) 128 (omega arith), z);
+  crews = λ d l. let z : 128 + d - 128 ≡ d = omega arith in w .at (128 + d) (omega arith) ∙ rw (le-ltb (128 + d) 128 (omega arith), z, t .last (128 + d) (omega arith));
   below = w .below;
   above = w .above;
 }

@@ -58,6 +58,10 @@ juniorHas js k rows f j = isJunior js k j && getD rows (160 * j + f) false
 abbrev pub juniorsHave : List ℕ → ℕ → List Bool → ℕ → Bool
 juniorsHave js k rows f = anyBelow (juniorHas js k rows f) k
 
+-- Flag f of the table's row 32 with row j of the crews added.
+abbrev pub addedFlag : List Bool → ℕ → List Bool → ℕ → Bool
+addedFlag rows j table f = getD table (5120 + f) false || getD rows (160 * j + f) false
+
 -- Row 32 of the table is what crew k has by its juniors; the other rows stay.
 pub record CrewTable (js : List ℕ) (k : ℕ) (rows before table : List Bool) : Type 0 where
   pub size : length table ≡ 5280
@@ -70,9 +74,9 @@ pub record PersonTable (rows table : List Bool) : Type 0 where
   pub same : (j : ℕ) → j < 5120 → getD table j false ≡ getD rows j false
   pub last : (j : ℕ) → 5120 ≤ j → getD table j false ≡ false
 
--- Flag f of crew k's row: an effective value, or a crew that is k itself or that a junior reaches.
-unfoldable pub rowFlag : List ℕ → ℕ → List Bool → List Bool → ℕ → Bool
-rowFlag js k x rows f = cond (ltb f 128) (getD x (160 + f) false) (eqb k (f - 128) || juniorsHave js k rows f)
+-- Flag f of crew k's row: an effective value, or a crew that is k itself or that k has by its juniors, as row 32 of its table says.
+unfoldable pub rowFlag : List Bool → ℕ → List Bool → ℕ → Bool
+rowFlag table k x f = cond (ltb f 128) (getD x (160 + f) false) (eqb k (f - 128) || getD table (5120 + f) false)
 
 -- Row k is filled from the flags x of level k; the other rows stay.
 pub record FilledRow (js : List ℕ) (k : ℕ) (x before rows : List Bool) : Type 0 where

@@ -3,11 +3,11 @@
 // above all crews the query's person. Row c of `rows`, at 160·c, is what crew c effectively holds, and which crews it reaches.
 ghost use mathlib.Core.Path.{_≡_};
 ghost use mathlib.Core.Bool.{false};
-ghost use Prim.Native.Nat.{_≤_, _<_};
+ghost use Prim.Native.Nat.{_*_, _≤_, _<_};
 ghost use lib.ListN.{length, getD};
 ghost use Rattle.frames.specs.Book.{contentsOf};
 ghost use Rattle.frames.specs.Fits.{Admitted};
-ghost use Rattle.flags.specs.Flags.{Written, hasFact, factIn, startFlag, StartFlags, juniorsHave, CrewTable, PersonTable, rowFlag, FilledRow, FirstRows, SmallWants, bannedValue, forbidFlag, badFlag, BadFlags, listedReach, Reaching};
+ghost use Rattle.flags.specs.Flags.{Written, hasFact, factIn, startFlag, StartFlags, addedFlag, CrewTable, PersonTable, rowFlag, FirstRows, SmallWants, bannedValue, forbidFlag, badFlag, listedReach, Reaching};
 ghost use Rattle.reach.specs.Goal.{belowListed};
 use facts::Attr;
 use facts::Crew;
@@ -68,21 +68,31 @@ pub fn start_flags(b: Book, k: u8, s: &mut [bool])
     write_start(&facts, z.crews, q.person, k, s);
 }
 
-// Whether the row of some direct junior of crew k has flag f.
-fn juniors_have(juniors: &[u32], k: u8, rows: &[bool], f: usize) -> bool
-    requires { ⌜ (k < 32) × ((f < 160) × ((length (now juniors) ≡ 32) × (length (now rows) ≡ 5120))) ⌝ }
-    ensures { λ r. ⌜ r ≡ juniorsHave (now (juniors .entry)) k (now (rows .entry)) f ⌝ }
+// Row 32 of the table with nothing in it.
+fn clear_last(table: &mut [bool])
+    requires { ⌜ length (now table) ≡ 5280 ⌝ }
+    ensures { λ _. ⌜ Written (now (table .entry)) 5120 (λ _. false) 160 (now (table .exit)) ⌝ }
 {
-    let mut j: u8 = 0;
-    while j < k {
-        let direct = sets::has(juniors[k as usize], j);
-        let held = rows[160 * (j as usize) + f];
-        if direct & held {
-            return true;
-        }
-        j += 1;
+    let mut f: usize = 0;
+    while f < 160 {
+        table[5120 + f] = false;
+        f += 1;
     }
-    false
+}
+
+// Adds row j of the crews to row 32 of the table.
+fn add_last(rows: &[bool], j: u8, table: &mut [bool])
+    requires { ⌜ (j < 32) × ((length (now rows) ≡ 5120) × (length (now table) ≡ 5280)) ⌝ }
+    ensures { λ _. ⌜ Written (now (table .entry)) 5120 (addedFlag (now (rows .entry)) j (now (table .entry))) 160 (now (table .exit)) ⌝ }
+{
+    let row = 160 * (j as usize);
+    let mut f: usize = 0;
+    while f < 160 {
+        let has = table[5120 + f];
+        let more = rows[row + f];
+        table[5120 + f] = has | more;
+        f += 1;
+    }
 }
 
 // The last row of the table is what crew k has by its juniors.
@@ -90,10 +100,16 @@ pub fn crew_table(juniors: &[u32], k: u8, rows: &[bool], table: &mut [bool])
     requires { ⌜ (k < 32) × ((length (now juniors) ≡ 32) × ((length (now rows) ≡ 5120) × (length (now table) ≡ 5280))) ⌝ }
     ensures { λ _. ⌜ CrewTable (now (juniors .entry)) k (now (rows .entry)) (now (table .entry)) (now (table .exit)) ⌝ }
 {
-    let mut f: usize = 0;
-    while f < 160 {
-        table[5120 + f] = juniors_have(juniors, k, rows, f);
-        f += 1;
+    let direct = juniors[k as usize];
+    clear_last(table);
+    let mut j: u8 = 0;
+    while j < k {
+        if sets::has(direct, j) {
+            add_last(rows, j, table);
+            j += 1;
+        } else {
+            j += 1;
+        }
     }
 }
 
@@ -119,10 +135,10 @@ pub fn person_table(rows: &[bool], table: &mut [bool])
     }
 }
 
-// Flag f of crew k's row: a value where its effective flags have it, a crew where it is crew k or a junior of k reaches it.
-fn row_flag(juniors: &[u32], k: u8, x: &[bool], rows: &[bool], f: usize) -> bool
-    requires { ⌜ (k < 32) × ((f < 160) × ((length (now juniors) ≡ 32) × ((length (now x) ≡ 320) × (length (now rows) ≡ 5120)))) ⌝ }
-    ensures { λ r. ⌜ r ≡ rowFlag (now (juniors .entry)) k (now (x .entry)) (now (rows .entry)) f ⌝ }
+// Flag f of crew k's row: a value where its effective flags have it, a crew where it is crew k or its juniors have it.
+fn row_flag(table: &[bool], k: u8, x: &[bool], f: usize) -> bool
+    requires { ⌜ (f < 160) × ((length (now x) ≡ 320) × (length (now table) ≡ 5280)) ⌝ }
+    ensures { λ r. ⌜ r ≡ rowFlag (now (table .entry)) k (now (x .entry)) f ⌝ }
 {
     if f < 128 {
         return x[160 + f];
@@ -130,18 +146,18 @@ fn row_flag(juniors: &[u32], k: u8, x: &[bool], rows: &[bool], f: usize) -> bool
     if k as usize == f - 128 {
         return true;
     }
-    juniors_have(juniors, k, rows, f)
+    table[5120 + f]
 }
 
-// Row k from the flags `x` of level k.
-pub fn fill_row(juniors: &[u32], k: u8, x: &[bool], rows: &mut [bool])
-    requires { ⌜ (k < 32) × ((length (now juniors) ≡ 32) × ((length (now x) ≡ 320) × (length (now rows) ≡ 5120))) ⌝ }
-    ensures { λ _. ⌜ FilledRow (now (juniors .entry)) k (now (x .entry)) (now (rows .entry)) (now (rows .exit)) ⌝ }
+// Fills crew k's row from the flags of its level and from the last row of its table.
+pub fn fill_row(table: &[bool], k: u8, x: &[bool], rows: &mut [bool])
+    requires { ⌜ (k < 32) × ((length (now x) ≡ 320) × ((length (now table) ≡ 5280) × (length (now rows) ≡ 5120))) ⌝ }
+    ensures { λ _. ⌜ Written (now (rows .entry)) (160 * k) (rowFlag (now (table .entry)) k (now (x .entry))) 160 (now (rows .exit)) ⌝ }
 {
     let mut f: usize = 0;
     while f < 160 {
-        let on = row_flag(juniors, k, x, rows, f);
-        rows[160 * (k as usize) + f] = on;
+        let flag = row_flag(table, k, x, f);
+        rows[160 * (k as usize) + f] = flag;
         f += 1;
     }
 }
@@ -205,7 +221,8 @@ fn is_bad(q: Query, crews: u8, k: u8, below: bool, f: u8) -> bool
     is_forbidden(q, crews, k, below, f)
 }
 
-fn write_bad(q: Query, crews: u8, k: u8, below: bool, bad: &mut [bool])
+// The facts of level k that the query forbids. At a crew's level `below` says whether the crew is listed or lies below a listed one.
+pub fn bad_flags(q: Query, crews: u8, k: u8, below: bool, bad: &mut [bool])
     requires { ⌜ SmallWants q × (length (now bad) ≡ 160) ⌝ }
     ensures { λ _. ⌜ Written (now (bad .entry)) 0 (badFlag q crews k below) 160 (now (bad .exit)) ⌝ }
 {
@@ -214,17 +231,6 @@ fn write_bad(q: Query, crews: u8, k: u8, below: bool, bad: &mut [bool])
         bad[f as usize] = is_bad(q, crews, k, below, f);
         f += 1;
     }
-}
-
-// The facts of level k that the query forbids. At a crew's level `below` says whether the crew is listed or lies below a listed one.
-pub fn bad_flags(b: Book, k: u8, below: bool, bad: &mut [bool])
-    requires { ⌜ Admitted (contentsOf b) × ((k ≤ b .sizes .crews) × (length (now bad) ≡ 160)) ⌝ }
-    requires { ⌜ (k < b .sizes .crews → below ≡ belowListed (contentsOf b) k) ⌝ }
-    ensures { λ _. ⌜ BadFlags (contentsOf b) k (now (bad .exit)) ⌝ }
-{
-    let z = b.sizes;
-    let q = b.query;
-    write_bad(q, z.crews, k, below, bad);
 }
 
 // Whether the row of some listed crew reaches crew c.

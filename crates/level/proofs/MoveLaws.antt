@@ -62,8 +62,22 @@ pub move-same : (xs ys : List ℕ) (a b : ℕ) → ((j : ℕ) → j < 14 → get
 unfolding moveFrom
 move-same xs ys a b h =
     let first : getD xs a 0 ≡ getD ys b 0 = rw (add-zero a, add-zero b) at (h 0 (omega arith)) in
-    rw (first, h 1 (omega arith), h 2 (omega arith), h 3 (omega arith), h 4 (omega arith), h 5 (omega arith), h 6 (omega arith), h 7 (omega arith), h 8 (omega arith),
-        h 9 (omega arith), h 10 (omega arith), h 11 (omega arith), h 12 (omega arith), h 13 (omega arith)) refl
+    rw (
+      first,
+      h 1 (omega arith),
+      h 2 (omega arith),
+      h 3 (omega arith),
+      h 4 (omega arith),
+      h 5 (omega arith),
+      h 6 (omega arith),
+      h 7 (omega arith),
+      h 8 (omega arith),
+      h 9 (omega arith),
+      h 10 (omega arith),
+      h 11 (omega arith),
+      h 12 (omega arith),
+      h 13 (omega arith),
+    ) refl
 
 -- A list of eight is its eight elements.
 pub eight : (xs : List ℕ) → length xs ≡ 8

@@ -3,7 +3,7 @@ use mathlib.Core.Path.{_≡_, refl, ap, sym, subst, _∙_}
 use mathlib.Core.Logic.{dite}
 use mathlib.Core.Bool.{Bool, true, false, not, _&&_, _||_}
 use mathlib.Core.List.{List, map, _++_}
-use Prim.Native.Nat.{ℕ, _+_, _-_, _*_, _≤_, _<_}
+use Prim.Native.Nat.{ℕ, _+_, _*_, _-_, _≤_, _<_}
 use native.Mathlib.Numerals.{add-one}
 use native.Mathlib.Decide.{ℕ-discrete}
 use native.Mathlib.Omega.{arith}
@@ -40,6 +40,16 @@ no-found x e = not-true x e
 
 pub was-found : (x : Bool) → not x ≡ false → x ≡ true
 was-found x e = not-false x e
+
+-- Room for a level's requests in the two buffers.
+pub room-up : {ups k n : ℕ} → ups ≤ 160 * k → k ≤ 32 → n ≡ 26400 → 5 * (ups + 160) ≤ n
+room-up a b e = omega arith
+
+pub room-below : {at k : ℕ} → 5280 ≤ at + 160 * k → k ≤ 32 → 160 ≤ at
+room-below a b = omega arith
+
+pub room-down : {at n : ℕ} → at ≤ 5280 → n ≡ 26400 → 5 * at ≤ n
+room-down a e = omega arith
 
 -- What a level may start with it may have.
 pub starts-allowed : (s : List Bool) {u : List Bool} → AllAllowed u → direct s ⊆ direct u

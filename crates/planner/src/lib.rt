@@ -103,7 +103,9 @@ fn crew_level(
     let mut x = [false; 320];
     let mut y = [false; 320];
     let mut d = [false; 160];
-    flags::bad_flags(b, k, below, &mut bad);
+    let q = b.query;
+    let z = b.sizes;
+    flags::bad_flags(q, z.crews, k, below, &mut bad);
     flags::start_flags(b, k, &mut s);
     allow_all(&mut u);
     flags::crew_table(juniors, k, rows, table);
@@ -123,7 +125,7 @@ fn crew_level(
         at,
         down,
     );
-    flags::fill_row(juniors, k, &x, rows);
+    flags::fill_row(table, k, &x, rows);
     r
 }
 
@@ -133,10 +135,12 @@ fn fill_reach(juniors: &[u32], reach: &mut [bool])
     ensures { λ _. ⌜ (length (now (reach .exit)) ≡ 5120) × Reaching (now (juniors .entry)) (now (reach .exit)) ⌝ }
 {
     let x = [false; 320];
+    let mut table = [false; 5280];
     flags::first_rows(reach);
     let mut k: u8 = 0;
     while k < 32 {
-        flags::fill_row(juniors, k, &x, reach);
+        flags::crew_table(juniors, k, reach, &mut table);
+        flags::fill_row(&table, k, &x, reach);
         k += 1;
     }
 }
@@ -219,7 +223,8 @@ fn person_level(
     let mut x = [false; 320];
     let mut y = [false; 320];
     let mut d = [false; 160];
-    flags::bad_flags(b, k, false, &mut bad);
+    let q = b.query;
+    flags::bad_flags(q, k, k, false, &mut bad);
     flags::start_flags(b, k, &mut s);
     allow_all(&mut u);
     flags::person_table(rows, table);

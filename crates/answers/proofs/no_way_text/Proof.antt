@@ -1,6 +1,5 @@
 -- `answers::no_way_text` meets its contract: one byte, then the line ends. Assumes nothing.
 use mathlib.Core.Path.{_≡_, _∙_}
-use mathlib.Core.List.{[], _∷_}
 use native.Mathlib.Omega.{arith}
 use Rattle.answers.specs.Answers.{hex, hexLine, noWayBytes}
 use borrow.Author.Needs.{needs}

@@ -1,45 +1,61 @@
--- `flags::crew_table` meets its contract: the invariant says that the first f flags of the last row are written; the measure is how many are left. Assumes nothing.
-use mathlib.Core.Path.{refl}
-use Prim.Native.Nat.{_+_, _≤_, _-_}
-use Rattle.flags.specs.Flags.{Written, juniorsHave}
-use Rattle.flags.proofs.FlagLaws.{written-none, written-more, written-end, crew-table-all}
-use borrow.Author.Needs.{needs}
+-- `flags::crew_table` meets its contract: the last row has what the juniors below j give; the measure is what is left of k. Assumes nothing.
+use mathlib.Core.Path.{_≡_, sym, _∙_}
+use Prim.Native.Nat.{_≤_, _-_}
 use native.Mathlib.Omega.{arith}
+use Rattle.inherit.proofs.InheritanceLaws.{junior-member}
+use Rattle.flags.specs.Flags.{Written}
+use Rattle.flags.proofs.FlagLaws.{juniorsBelow, juniors-none, juniors-add, juniors-skip, written-over, crew-table-all}
+use borrow.Author.Needs.{needs}
 use Rattle.flags.proofs.crew_table.Statement.{statement}
 use Rattle.flags.proofs.crew_table.Tie as tie
 
 abbrev Inv-loop : tie.InvT-loop
-Inv-loop juniors k rows table₀ f₀ table f = (f ≤ 160) × Written table₀ 5120 (juniorsHave juniors k rows) f table
+Inv-loop juniors k rows table₀ direct j₀ table j = (j ≤ k) × Written table₀ 5120 (juniorsBelow juniors k rows j) 160 table
 
 abbrev μ-loop : tie.MeasureT-loop
-μ-loop juniors k rows table₀ f₀ table f = 160 - f
+μ-loop juniors k rows table₀ direct j₀ table j = k - j
+
+mul-direct : tie.Need-mul-direct Inv-loop μ-loop
+mul-direct c = search needs
+
+shared-slice-read-direct : tie.Need-shared-slice-read-direct Inv-loop μ-loop
+shared-slice-read-direct c = search needs
+
+clear-last-requires : tie.Need-clear-last-requires Inv-loop μ-loop
+clear-last-requires c κs = c .before .before .before .before .before .pre .1 .1 .1
 
 loop-holds : tie.Need-loop-holds Inv-loop μ-loop
-loop-holds c = (omega arith, written-none _ 5120 _)
+loop-holds c = let start = c .before .before .before .before .before .before .before .before .args in (omega arith, juniors-none (start .juniors .now) (start .k) (start .rows .now) (c .before .before .clear-last .ensures))
 
-juniors-have-requires : tie.Need-juniors-have-requires Inv-loop μ-loop
-juniors-have-requires c κs = (c .before .before .before .before .before .pre .0, (c .loop-test .taken, (c .before .before .before .before .before .pre .1 .0, c .before .before .before .before .before .pre .1 .1 .0)))
+has-requires : tie.Need-has-requires Inv-loop μ-loop
+has-requires c κs = search needs
 
-add-table : tie.Need-add-table Inv-loop μ-loop
-add-table c = search needs
+add-last-requires : tie.Need-add-last-requires Inv-loop μ-loop
+add-last-requires c κs = (omega (arith, c .before .before .before .loop-test .taken, c .before .before .before .before .before .before .before .before .before .before .before .before .before .pre .0), (c .before .before .before .before .before .before .before .before .before .before .before .before .before .pre .1 .1 .0, c .before .before .before .before .loop .inv .1 .size ∙ c .before .before .before .before .before .before .before .clear-last .ensures .size ∙ c .before .before .before .before .before .before .before .before .before .before .before .before .before .pre .1 .1 .1))
 
-slice-write-table : tie.Need-slice-write-table Inv-loop μ-loop
-slice-write-table c = omega (arith, c .before .before .loop .inv .1 .size, c .before .before .before .before .before .before .pre .1 .1 .1)
-
-add-f : tie.Need-add-f Inv-loop μ-loop
-add-f c = search needs
+add-j : tie.Need-add-j Inv-loop μ-loop
+add-j c = search needs
 
 loop-less : tie.Need-loop-less Inv-loop μ-loop
 loop-less c = search needs
 
 loop-again : tie.Need-loop-again Inv-loop μ-loop
-loop-again c = (omega arith, written-more (c .juniors-have .result) (5120 + c .before .before .loop .f) (c .before .before .loop .inv .1) refl (omega (arith, c .before .before .before .before .before .before .pre .1 .1 .1)) (c .juniors-have .ensures))
+loop-again c = let start = c .before .before .before .before .before .before .before .before .before .before .before .before .before .before .before .before .args in (omega arith, juniors-add (start .juniors .now) (start .k) (start .rows .now) (c .before .before .before .before .before .before .before .loop .j) (junior-member (start .juniors .now) (start .k) (c .before .before .before .before .before .before .before .loop .j) ∙ sym (c .before .before .before .before .before .has .ensures) ∙ c .before .before .before .before .if1 .taken) (c .before .before .before .before .before .before .before .loop .inv .1) (c .before .before .add-last .ensures))
+
+add-j-2 : tie.Need-add-j-2 Inv-loop μ-loop
+add-j-2 c = search needs
+
+loop-less-2 : tie.Need-loop-less-2 Inv-loop μ-loop
+loop-less-2 c = search needs
+
+loop-again-2 : tie.Need-loop-again-2 Inv-loop μ-loop
+loop-again-2 c = let start = c .before .before .before .before .before .before .before .before .before .before .before .before .args in (omega arith, juniors-skip (start .juniors .now) (start .k) (start .rows .now) (c .before .before .before .loop .j) (junior-member (start .juniors .now) (start .k) (c .before .before .before .loop .j) ∙ sym (c .before .has .ensures) ∙ c .if1 .left) (c .before .before .before .loop .inv .1))
 
 same-length : tie.Need-same-length Inv-loop μ-loop
-same-length c = c .before .loop .inv .1 .size
+same-length c = c .before .loop .inv .1 .size ∙ c .before .before .before .before .clear-last .ensures .size
 
 returns : tie.Need-returns Inv-loop μ-loop
-returns c = crew-table-all (c .before .before .before .before .before .pre .1 .1 .1) (written-end (c .before .loop .inv .1) (omega (arith, c .before .loop .inv .0, c .loop-test .left)))
+returns c = let start = c .before .before .before .before .before .before .before .before .before .before .args in let last : c .before .loop .j ≡ start .k = omega (arith, c .before .loop .inv .0, c .loop-test .left) in crew-table-all (start .juniors .now) (start .k) (start .rows .now) (c .before .before .before .before .before .before .before .before .before .before .pre .1 .1 .1) (written-over (c .before .before .before .before .clear-last .ensures) (rw last at (c .before .loop .inv .1)))
 
 pub crew-table-spec : {M : Type 1} → statement M
 crew-table-spec =
@@ -47,12 +63,17 @@ crew-table-spec =
     (tie.spec
     Inv-loop
     μ-loop
+    mul-direct
+    shared-slice-read-direct
+    clear-last-requires
     loop-holds
-    juniors-have-requires
-    add-table
-    slice-write-table
-    add-f
+    has-requires
+    add-last-requires
+    add-j
     loop-less
     loop-again
+    add-j-2
+    loop-less-2
+    loop-again-2
     same-length
     returns)

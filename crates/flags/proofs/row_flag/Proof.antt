@@ -19,12 +19,15 @@ returns-2 : tie.Need-returns-2
 unfolding rowFlag
 returns-2 c = rw (le-ltb _ _ (c .before .if1 .left), eq-eqb _ _ (c .if2 .taken))
 
-juniors-have-requires : tie.Need-juniors-have-requires
-juniors-have-requires c κs = (c .before .before .before .before .before .pre .0, (c .before .before .before .before .before .pre .1 .0, (c .before .before .before .before .before .pre .1 .1 .0, c .before .before .before .before .before .pre .1 .1 .1 .1)))
+add-result-2 : tie.Need-add-result-2
+add-result-2 c = search needs
+
+shared-slice-read-result-2 : tie.Need-shared-slice-read-result-2
+shared-slice-read-result-2 c = search needs
 
 returns-3 : tie.Need-returns-3
 unfolding rowFlag
-returns-3 c = rw (le-ltb _ _ (c .before .before .if1 .left), ne-eqb _ _ (c .before .if2 .left)) (c .juniors-have .ensures)
+returns-3 c = rw (le-ltb _ _ (c .before .before .if1 .left), ne-eqb _ _ (c .before .if2 .left))
 
 pub row-flag-spec : {M : Type 1} → statement M
 row-flag-spec =
@@ -34,5 +37,6 @@ row-flag-spec =
     shared-slice-read-result
     returns
     returns-2
-    juniors-have-requires
+    add-result-2
+    shared-slice-read-result-2
     returns-3)

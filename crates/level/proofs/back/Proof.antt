@@ -3,7 +3,6 @@ use mathlib.Core.Path.{sym, _∙_}
 use native.Mathlib.Omega.{arith}
 use Rattle.level.specs.Moves.{movesIn}
 use Rattle.level.proofs.BackSweepLaws.{KeptBack, back-first, back-here, back-fine, back-left, back-add, back-skip, back-closed, back-steps, back-less, back-skip-less}
-use borrow.Author.Needs.{needs}
 use Rattle.level.proofs.back.Statement.{statement}
 use Rattle.level.proofs.back.Tie as tie
 

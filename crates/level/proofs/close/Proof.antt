@@ -1,14 +1,8 @@
 -- The sweep of the additions. Its invariant is `Kept`: the last `quiet` moves before `i` do not fire. Assumes nothing.
-use mathlib.Core.Path.{_≡_, sym, _∙_}
-use mathlib.Core.Bool.{true, false}
-use Prim.Native.Nat.{_+_}
+use mathlib.Core.Path.{sym, _∙_}
 use native.Mathlib.Omega.{arith}
-use Rattle.level.specs.Moves.{movesIn, moveAt, askOf}
-use Rattle.level.specs.Shown.{Put}
-use Rattle.level.specs.Notes.{Noted}
-use Rattle.level.specs.Sweep.{firesIn}
+use Rattle.level.specs.Moves.{movesIn}
 use Rattle.level.proofs.SweepLaws.{Kept, kept-first, here, fine-here, room-left, kept-add, kept-skip, kept-closed, steps-left, add-less, skip-less}
-use borrow.Author.Needs.{needs}
 use Rattle.level.proofs.close.Statement.{statement}
 use Rattle.level.proofs.close.Tie as tie
 

@@ -1,23 +1,15 @@
 -- `planner::crew_level` meets its contract: the flags and the table are the crew's, and the level comes to a settled set or is stuck. Assumes nothing.
-use mathlib.Core.Path.{_≡_, refl, ap, _∙_}
-use Prim.Native.Nat.{ℕ, _+_, _*_, _≤_, _<_}
+use mathlib.Core.Path.{refl, ap, _∙_}
+use Prim.Native.Nat.{_≤_}
+use native.Mathlib.Omega.{arith}
 use lib.ListN.{length}
 use Rattle.frames.specs.Book.{contentsOf}
-use Rattle.planner.proofs.StepLaws.{starts-allowed, crew-scanned}
+use Rattle.flags.proofs.FlagLaws.{small-wants, filled-row}
+use Rattle.flags.proofs.BadLaws.{bad-all}
+use Rattle.planner.proofs.StepLaws.{room-up, room-below, room-down, starts-allowed, crew-scanned}
 use borrow.Author.Needs.{needs}
-use native.Mathlib.Omega.{arith}
 use Rattle.planner.proofs.crew_level.Statement.{statement}
 use Rattle.planner.proofs.crew_level.Tie as tie
-
--- Room for a level's requests in the two buffers.
-room-up : {ups k crews n : ℕ} → ups ≤ 160 * k → crews ≤ 32 → k < crews → n ≡ 26400 → 5 * (ups + 160) ≤ n
-room-up a b h e = omega arith
-
-room-below : {at k crews : ℕ} → 5280 ≤ at + 160 * k → crews ≤ 32 → k < crews → 160 ≤ at
-room-below a b h = omega arith
-
-room-down : {at n : ℕ} → at ≤ 5280 → n ≡ 26400 → 5 * at ≤ n
-room-down a e = omega arith
 
 is-below-listed-requires : tie.Need-is-below-listed-requires
 unfolding contentsOf
@@ -28,13 +20,14 @@ slice-aggregate-bad-flags c = search needs
 
 bad-flags-requires : tie.Need-bad-flags-requires
 unfolding contentsOf
-bad-flags-requires c κs = let pre = c .before .before .before .before .before .before .before .before .before .before .pre .0 in ((pre .0, (omega (arith, pre .1 .0), refl)), λ h. c .before .is-below-listed .ensures)
+bad-flags-requires c κs = (small-wants (c .before .before .before .before .before .before .before .before .before .before .before .before .pre .0 .0), refl)
 
 slice-aggregate-start-flags : tie.Need-slice-aggregate-start-flags
 slice-aggregate-start-flags c = search needs
 
 start-flags-requires : tie.Need-start-flags-requires
-start-flags-requires c κs = search needs
+unfolding contentsOf
+start-flags-requires c κs = let pre = c .before .before .before .before .before .before .before .before .before .before .before .before .before .before .before .pre .0 in (pre .0, (omega (arith, pre .1 .0), refl))
 
 slice-aggregate-allow-all : tie.Need-slice-aggregate-allow-all
 slice-aggregate-allow-all c = search needs
@@ -44,7 +37,7 @@ allow-all-requires c κs = search needs
 
 crew-table-requires : tie.Need-crew-table-requires
 unfolding contentsOf
-crew-table-requires c κs = let pre = c .before .before .before .before .before .before .before .before .before .before .before .before .before .before .before .before .before .before .before .before .pre in (omega (arith, pre .0 .1 .0, pre .0 .0 .sized .crews-most), (ap length (pre .0 .1 .1 .1 .1 .1) ∙ pre .0 .0 .edge-room, (pre .1 .1 .rows-right .size, pre .1 .0 .size)))
+crew-table-requires c κs = let pre = c .before .before .before .before .before .before .before .before .before .before .before .before .before .before .before .before .before .before .before .before .before .before .pre in (omega (arith, pre .0 .1 .0, pre .0 .0 .sized .crews-most), (ap length (pre .0 .1 .1 .1 .1 .1) ∙ pre .0 .0 .edge-room, (pre .1 .1 .rows-right .size, pre .1 .0 .size)))
 
 slice-aggregate-settle : tie.Need-slice-aggregate-settle
 slice-aggregate-settle c = search needs
@@ -67,12 +60,9 @@ slice-aggregate-settle-6 c = search needs
 settle-requires : tie.Need-settle-requires
 unfolding contentsOf
 settle-requires c κs =
-    let pre = c .before .before .before .before .before .before .before .before .before .before .before .before .before .before .before .before .before .before .before .before .before .before .before .before .before .before .before .before .before .before .before .before .pre in
+    let pre = c .before .before .before .before .before .before .before .before .before .before .before .before .before .before .before .before .before .before .before .before .before .before .before .before .before .before .before .before .before .before .before .before .before .before .pre in
     let drive = pre .1 .1 in
-    let few = drive .few-up in
-    let many = drive .few-down in
-    let crews = pre .0 .0 .sized .crews-most in
-    let is-crew = pre .0 .1 .0 in (
+    let low : c .before .before .before .before .before .before .before .before .before .before .before .before .before .before .before .before .before .before .before .before .before .before .before .before .before .before .before .before .before .before .before .before .before .before .args .k ≤ 32 = omega (arith, pre .0 .0 .sized .crews-most, pre .0 .1 .0) in (
       (pre .0 .1 .1 .0 .sound-adds, pre .0 .1 .1 .0 .sound-dels),
       (
         record {
@@ -83,8 +73,8 @@ settle-requires c κs =
           size-x = refl;
           size-y = refl;
           size-d = refl;
-          room-up = room-up few crews is-crew (drive .size-up);
-          below = room-below many crews is-crew;
+          room-up = room-up (drive .few-up) low (drive .size-up);
+          below = room-below (drive .few-down) low;
           room-down = room-down (drive .most-down) (drive .size-down);
         },
         starts-allowed _ (c .before .before .before .before .before .before .before .before .before .before .before .before .before .before .before .allow-all .ensures),
@@ -96,9 +86,7 @@ slice-aggregate-fill-row c = search needs
 
 fill-row-requires : tie.Need-fill-row-requires
 unfolding contentsOf
-fill-row-requires c κs =
-    let pre = c .before .before .before .before .before .before .before .before .before .before .before .before .before .before .before .before .before .before .before .before .before .before .before .before .before .before .before .before .before .before .before .before .before .before .before .before .before .before .before .before .before .before .before .pre in
-    (omega (arith, pre .0 .1 .0, pre .0 .0 .sized .crews-most), (ap length (pre .0 .1 .1 .1 .1 .1) ∙ pre .0 .0 .edge-room, (c .before .before .before .before .before .before .before .before .x2 .given, pre .1 .1 .rows-right .size)))
+fill-row-requires c κs = let pre = c .before .before .before .before .before .before .before .before .before .before .before .before .before .before .before .before .before .before .before .before .before .before .before .before .before .before .before .before .before .before .before .before .before .before .before .before .before .before .before .before .before .before .before .before .before .before .pre in (omega (arith, pre .0 .1 .0, pre .0 .0 .sized .crews-most), (c .before .before .before .before .before .before .before .before .before .x2 .given, (c .before .before .before .before .before .before .before .before .before .before .before .before .before .before .before .before .before .before .before .before .before .before .before .crew-table .ensures .size, pre .1 .1 .rows-right .size)))
 
 same-length : tie.Need-same-length
 same-length c = search needs
@@ -115,13 +103,14 @@ same-length-4 c = search needs
 returns : tie.Need-returns
 unfolding contentsOf
 returns c =
-    let start = c .before .before .before .before .before .before .before .before .before .before .before .before .before .before .before .before .before .before .before .before .before .before .before .before .before .before .before .before .before .before .before .before .before .before .before .before .before .before .before .before .before .before .before .before .before .before in
+    let start = c .before .before .before .before .before .before .before .before .before .before .before .before .before .before .before .before .before .before .before .before .before .before .before .before .before .before .before .before .before .before .before .before .before .before .before .before .before .before .before .before .before .before .before .before .before .before .before .before .before in
     let pre = start .pre in
     let same = pre .0 .1 .1 .1 .1 .1 in
-    let made = c .before .before .before .before .before .before .before .before .before .before .before .before .before .before .before .before .before .before .before .before .before .before .before .before .before .crew-table .ensures in
-    let drive = pre .1 .1 in (
-      crew-scanned (start .args .b) (pre .0 .0) (start .args .k) (pre .0 .1 .0) (pre .0 .1 .1 .0) drive (pre .1 .0) (rw same at made) (c .before .before .before .before .before .before .before .before .before .before .before .before .before .before .before .before .before .before .before .before .before .before .before .before .before .before .before .before .before .before .before .before .before .before .before .bad-flags .ensures) (c .before .before .before .before .before .before .before .before .before .before .before .before .before .before .before .before .before .before .before .before .before .before .before .before .before .before .before .before .before .before .before .before .start-flags .ensures) (c .before .before .before .before .before .before .before .before .before .before .before .before .before .before .before .before .before .before .before .before .before .before .before .before .before .before .before .before .before .allow-all .ensures)
-          (c .before .before .before .before .before .before .before .before .before .before .before .before .before .settle .ensures) (rw same at (c .before .before .fill-row .ensures)) (c .before .before .before .before .before .before .before .before .up .given ∙ drive .size-up) (c .before .before .before .before .before .before .down .given ∙ drive .size-down),
+    let made = c .before .before .before .before .before .before .before .before .before .before .before .before .before .before .before .before .before .before .before .before .before .before .before .before .before .before .crew-table .ensures in
+    let drive = pre .1 .1 in
+    let bads = bad-all (contentsOf (start .args .b)) (small-wants (pre .0 .0)) (start .args .k) (c .before .before .before .before .before .before .before .before .before .before .before .before .before .before .before .before .before .before .before .before .before .before .before .before .before .before .before .before .before .before .before .before .before .before .before .before .before .before .before .before .is-below-listed .result) (omega (arith, pre .0 .1 .0)) (λ h. c .before .before .before .before .before .before .before .before .before .before .before .before .before .before .before .before .before .before .before .before .before .before .before .before .before .before .before .before .before .before .before .before .before .before .before .before .before .before .before .before .is-below-listed .ensures) refl (c .before .before .before .before .before .before .before .before .before .before .before .before .before .before .before .before .before .before .before .before .before .before .before .before .before .before .before .before .before .before .before .before .before .before .before .before .bad-flags .ensures) in (
+      crew-scanned (start .args .b) (pre .0 .0) (start .args .k) (pre .0 .1 .0) (pre .0 .1 .1 .0) drive (pre .1 .0) (rw same at made) bads (c .before .before .before .before .before .before .before .before .before .before .before .before .before .before .before .before .before .before .before .before .before .before .before .before .before .before .before .before .before .before .before .before .before .start-flags .ensures) (c .before .before .before .before .before .before .before .before .before .before .before .before .before .before .before .before .before .before .before .before .before .before .before .before .before .before .before .before .before .before .allow-all .ensures) (c .before .before .before .before .before .before .before .before .before .before .before .before .before .before .settle .ensures)
+          (rw same at (filled-row (drive .rows-right .size) made (c .before .before .fill-row .ensures))) (c .before .before .before .before .before .before .before .before .before .up .given ∙ drive .size-up) (c .before .before .before .before .before .before .before .down .given ∙ drive .size-down),
       record { size = made .size; blank = λ j h. made .kept j h ∙ pre .1 .0 .blank j h },
     )
 

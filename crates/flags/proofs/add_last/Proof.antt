@@ -1,0 +1,76 @@
+-- `flags::add_last` meets its contract: the first f flags of the last row are written, the others are as they were; the measure is how many are left. Assumes nothing.
+use mathlib.Core.Path.{refl}
+use mathlib.Core.Bool.{false, _||_}
+use Prim.Native.Nat.{_+_, _*_, _≤_, _-_}
+use native.Mathlib.Omega.{arith}
+use lib.ListN.{getD}
+use Rattle.flags.specs.Flags.{Written, addedFlag}
+use Rattle.flags.proofs.FlagLaws.{written-none, written-more, written-end}
+use borrow.Author.Needs.{needs}
+use Rattle.flags.proofs.add_last.Statement.{statement}
+use Rattle.flags.proofs.add_last.Tie as tie
+
+abbrev Inv-loop : tie.InvT-loop
+Inv-loop rows j table₀ row f₀ table f = (f ≤ 160) × Written table₀ 5120 (addedFlag rows j table₀) f table
+
+abbrev μ-loop : tie.MeasureT-loop
+μ-loop rows j table₀ row f₀ table f = 160 - f
+
+mul-row : tie.Need-mul-row Inv-loop μ-loop
+mul-row c = search needs
+
+loop-holds : tie.Need-loop-holds Inv-loop μ-loop
+loop-holds c = (omega arith, written-none _ 5120 _)
+
+add-has : tie.Need-add-has Inv-loop μ-loop
+add-has c = search needs
+
+slice-read-has : tie.Need-slice-read-has Inv-loop μ-loop
+slice-read-has c = omega (arith, c .before .before .loop .inv .1 .size, c .before .before .before .pre .1 .1)
+
+add-more : tie.Need-add-more Inv-loop μ-loop
+add-more c = search needs
+
+shared-slice-read-more : tie.Need-shared-slice-read-more Inv-loop μ-loop
+shared-slice-read-more c = omega (arith, c .before .before .before .before .pre .0, c .before .before .before .before .pre .1 .0)
+
+add-table : tie.Need-add-table Inv-loop μ-loop
+add-table c = search needs
+
+slice-write-table : tie.Need-slice-write-table Inv-loop μ-loop
+slice-write-table c = omega (arith, c .before .before .before .loop .inv .1 .size, c .before .before .before .before .pre .1 .1)
+
+add-f : tie.Need-add-f Inv-loop μ-loop
+add-f c = search needs
+
+loop-less : tie.Need-loop-less Inv-loop μ-loop
+loop-less c = search needs
+
+loop-again : tie.Need-loop-again Inv-loop μ-loop
+loop-again c = (omega arith, written-more (getD (c .before .before .before .loop .table) (5120 + c .before .before .before .loop .f) false || getD (c .before .before .before .before .args .rows .now) (160 * c .before .before .before .before .args .j + c .before .before .before .loop .f) false) (5120 + c .before .before .before .loop .f) (c .before .before .before .loop .inv .1) refl (omega (arith, c .before .before .before .before .pre .1 .1)) (rw (c .before .before .before .loop .inv .1 .above (5120 + c .before .before .before .loop .f) (omega arith)) refl))
+
+same-length : tie.Need-same-length Inv-loop μ-loop
+same-length c = c .before .loop .inv .1 .size
+
+returns : tie.Need-returns Inv-loop μ-loop
+returns c = written-end (c .before .loop .inv .1) (omega (arith, c .before .loop .inv .0, c .loop-test .left))
+
+pub add-last-spec : {M : Type 1} → statement M
+add-last-spec =
+    tie.close
+    (tie.spec
+    Inv-loop
+    μ-loop
+    mul-row
+    loop-holds
+    add-has
+    slice-read-has
+    add-more
+    shared-slice-read-more
+    add-table
+    slice-write-table
+    add-f
+    loop-less
+    loop-again
+    same-length
+    returns)
