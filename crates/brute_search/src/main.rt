@@ -20,7 +20,7 @@ struct Tally {
     no_way: usize,
     plans: usize,
     deleting: usize,
-    empty: usize,
+    met: usize,
     longest: usize,
     differences: usize,
 }
@@ -93,8 +93,8 @@ fn plus(n: usize, on: bool) -> usize {
     std::num::wrapping_add_usize(n, on as usize)
 }
 
-// One book more in the tally.
-fn counted(t: Tally, f: Finding) -> Tally {
+// One book more in the tally; whether its starting facts meet the query.
+fn counted(t: Tally, f: Finding, met: bool) -> Tally {
     let longest = if f.count > t.longest {
         f.count
     } else {
@@ -104,7 +104,7 @@ fn counted(t: Tally, f: Finding) -> Tally {
         no_way: plus(t.no_way, !f.planned),
         plans: plus(t.plans, f.planned),
         deleting: plus(t.deleting, f.deletes),
-        empty: plus(t.empty, f.planned & (f.count == 0)),
+        met: plus(t.met, met),
         longest,
         differences: plus(t.differences, !f.good),
     }
@@ -144,6 +144,14 @@ fn try_depot(book: &[u8], d: Depot, table: &[u8], heads: &[u8]) -> Finding {
     compare(book, d, table, heads)
 }
 
+// Whether the starting facts meet the query.
+fn is_met_at_start(book: &[u8]) -> bool {
+    let query = &book[trials::query_start(book)..];
+    let mut ledger = [0u8; 1792];
+    ledger::open(book, &mut ledger);
+    trials::is_met(book, query, &ledger)
+}
+
 // Draws one depot and tries it.
 fn try_next(seed: &mut u64, t: Tally) -> Tally {
     let mut table = [0u8; 48];
@@ -153,15 +161,15 @@ fn try_next(seed: &mut u64, t: Tally) -> Tally {
     let len = trials::lent(&book, d.len);
     let f = try_depot(&book[..len], d, &table, &heads);
     show_difference(&book[..len], f);
-    counted(t, f)
+    counted(t, f, is_met_at_start(&book[..len]))
 }
 
 fn print_tally(t: Tally) {
     trials::print_count(b"books", BOOKS);
+    trials::print_count(b"met by the starting facts", t.met);
     trials::print_count(b"no way", t.no_way);
     trials::print_count(b"plans", t.plans);
     trials::print_count(b"plans with deletions", t.deleting);
-    trials::print_count(b"empty plans", t.empty);
     trials::print_count(b"longest plan", t.longest);
     trials::print_count(b"differences", t.differences);
 }
@@ -172,7 +180,7 @@ fn main() {
         no_way: 0,
         plans: 0,
         deleting: 0,
-        empty: 0,
+        met: 0,
         longest: 0,
         differences: 0,
     };

@@ -5,9 +5,7 @@ ghost use lib.ListN.{length};
 use depots::Depot;
 use gate::Sizes;
 
-// The most facts of a depot, and the ledgers that they give.
-const FACTS: usize = 12;
-
+// The ledgers that twelve facts, the most of a depot, give.
 const STATES: usize = 4096;
 
 // The bytes of a move: a request's five, and the number of its fact.
@@ -164,20 +162,30 @@ fn list_moves(query: &[u8], d: Depot, table: &[u8], heads: &[u8], moves: &mut [u
     n
 }
 
-// The state behind a move, by the request operation. A move whose fact stands so already leaves the ledger equal, and is not tried.
+// Whether a state was seen.
+fn is_seen(seen: &[bool], state: u32) -> bool {
+    let i = state as usize;
+    if i < seen.len() {
+        return seen[i];
+    }
+    false
+}
+
+// The state behind a move, by the request operation. A move to a state that was seen is not tried: it leads to nothing new.
 fn follow(
     book: &[u8],
     table: &[u8],
     count: usize,
     state: u32,
     ledger: &mut [u8],
+    seen: &[bool],
     q: &[u8],
     fact: u8,
 ) -> u32
     requires { ⌜ count ≤ 12 ⌝ }
 {
     let on = is_adding(trials::byte_in(q, 0));
-    if sets::has(state, fact) == on {
+    if is_seen(seen, sets::with(state, fact % 32, on)) {
         return state;
     }
     let outcome = ledger::request(book, ledger, q);
@@ -231,7 +239,16 @@ fn expand(
         let at = MOVE * i;
         let stop = at + 5;
         let fact = moves[stop];
-        let next = follow(book, table, count, state, ledger, &moves[at..stop], fact);
+        let next = follow(
+            book,
+            table,
+            count,
+            state,
+            ledger,
+            seen,
+            &moves[at..stop],
+            fact,
+        );
         end = enter(seen, queue, end, next);
         i += 1;
     }

@@ -148,10 +148,19 @@ pub fn fact_at(table: &[u8], i: usize) -> Fact
     Fact::Member(Person(s), Crew(a))
 }
 
+// 0 to 3 crews, more of them oftener.
+fn draw_crews(seed: &mut u64) -> u8 {
+    let n = draw(seed, 8);
+    if n > 4 {
+        return 3;
+    }
+    (n + 1) / 2
+}
+
 // Sizes drawn, and cut where they give too many facts.
 fn draw_sizes(seed: &mut u64) -> Sizes {
     let persons = 1 + draw(seed, 2);
-    let crews = draw(seed, 4);
+    let crews = draw_crews(seed);
     let attrs = 1 + draw(seed, 2);
     let values = 1 + draw(seed, 3);
     let z = Sizes {
@@ -297,8 +306,8 @@ fn put_some(
 {
     let at = page.len;
     let k = page.rules;
-    let kind = draw(seed, 8);
-    if kind == 0 {
+    let kind = draw(seed, 10);
+    if kind < 2 {
         let len = put_edge(seed, z, book, at);
         return Page { len, rules: k };
     }
@@ -325,7 +334,7 @@ fn put_middle(
 ) -> Page
     ensures { λ r. ⌜ r .rules ≤ 12 ⌝ }
 {
-    let n = 6 + draw(seed, 18);
+    let n = 12 + draw(seed, 14);
     let mut page = Page { len: at, rules: 0 };
     let mut i: u8 = 0;
     while i < n {
@@ -357,12 +366,29 @@ fn draw_roles(seed: &mut u64) -> u8 {
     draw(seed, 8)
 }
 
+// The set of a named attribute: in mode 01 drawn again where it is empty, which asks for nothing.
+fn draw_want(seed: &mut u64, z: Sizes, mode: u8) -> u8 {
+    let set = draw_set(seed, z.values);
+    if (mode == 1) & (set == 0) {
+        return draw_set(seed, z.values);
+    }
+    set
+}
+
 // A named attribute of the query; no byte where it is not named.
-fn put_want(seed: &mut u64, z: Sizes, named: bool, a: u8, book: &mut [u8], at: usize) -> usize {
+fn put_want(
+    seed: &mut u64,
+    z: Sizes,
+    mode: u8,
+    named: bool,
+    a: u8,
+    book: &mut [u8],
+    at: usize,
+) -> usize {
     if !named {
         return at;
     }
-    let set = draw_set(seed, z.values);
+    let set = draw_want(seed, z, mode);
     trials::put_bytes(book, at, &[a, 0, set])
 }
 
@@ -402,8 +428,8 @@ fn put_query(seed: &mut u64, z: Sizes, book: &mut [u8], at: usize) -> usize {
     let second = (draw(seed, 8) > 0) & (z.attrs > 1);
     let q = count_true(first, second);
     let head = trials::put_bytes(book, at, &[5, mode, p, high, low, q]);
-    let one = put_want(seed, z, first, 0, book, head);
-    let two = put_want(seed, z, second, 1, book, one);
+    let one = put_want(seed, z, mode, first, 0, book, head);
+    let two = put_want(seed, z, mode, second, 1, book, one);
     put_crews(seed, z, mode, book, two)
 }
 

@@ -12,7 +12,6 @@ pub enum Course {
     Reaches,
     Stops(usize),
     EndsShort,
-    Refused,
 }
 
 // Where the crews of persons begin in a ledger.
@@ -39,6 +38,16 @@ pub fn lent(slice: &[u8], len: usize) -> usize
     ensures { λ r. ⌜ Counts r (now (slice .entry)) ⌝ }
 {
     if len < slice.len() { len } else { slice.len() }
+}
+
+// The bytes of a slice from one place to another, as far as it goes.
+pub fn part(s: &[u8], from: usize, to: usize) -> &[u8] {
+    let end = lent(s, to);
+    let start = lent(s, from);
+    if start > end {
+        return &s[end..end];
+    }
+    &s[start..end]
 }
 
 // One character more of a book, while there is room.
@@ -176,7 +185,7 @@ pub fn goes(book: &[u8], query: &[u8], ledger: &mut [u8], request: &[u8]) -> boo
 }
 
 // How many requests go from the ledger on, up to the first that does not.
-fn count_going(book: &[u8], query: &[u8], ledger: &mut [u8], plan: &[u8]) -> usize {
+pub fn count_going(book: &[u8], query: &[u8], ledger: &mut [u8], plan: &[u8]) -> usize {
     let n = plan.len() / 5;
     let mut i: usize = 0;
     while i < n {
