@@ -96,14 +96,6 @@ fn print_bytes(room: &[u8]) {
     }
 }
 
-// How many bytes of a slice are lent: len of them, or all where it has fewer.
-fn lent(slice: &[u8], len: usize) -> usize
-    ensures { λ r. ⌜ r ≤ len ⌝ }
-    ensures { λ r. ⌜ Counts r (now (slice .entry)) ⌝ }
-{
-    if len < slice.len() { len } else { slice.len() }
-}
-
 // The place of the first c from a place on, or the length of the text.
 fn place_of(text: &[u8], from: usize, c: u8) -> usize
     requires { ⌜ from ≤ length (now text) ⌝ }
@@ -131,37 +123,15 @@ fn digit_count(text: &[u8]) -> usize {
     i
 }
 
-// The digit at a place of an operand; 0 past its end and at another character.
-fn digit_at(operand: &[u8], i: usize) -> u8
-    ensures { λ r. ⌜ r ≤ 15 ⌝ }
-{
-    if i < operand.len() {
-        let d = lines::digit_of(operand[i]);
-        if d < 16 {
-            return d;
-        }
-        return 0;
-    }
-    0
-}
-
-// Byte k that an operand's digits write.
-fn byte_at(operand: &[u8], k: u8) -> u8 {
-    let i = 2 * (k as usize);
-    let high = digit_at(operand, i);
-    let low = digit_at(operand, i + 1);
-    high * 16 + low
-}
-
 // The number that the first two bytes of an operand write.
 fn number_of(operand: &[u8]) -> usize {
-    let high = byte_at(operand, 0) as usize;
-    let low = byte_at(operand, 1) as usize;
+    let high = trials::byte_at(operand, 0) as usize;
+    let low = trials::byte_at(operand, 1) as usize;
     high * 256 + low
 }
 
 fn open(book: &[u8], room: &mut [u8], len: usize) {
-    let n = lent(room, len);
+    let n = trials::lent(room, len);
     let outcome = ledger::open(book, &mut room[..n]);
     print_outcome(outcome);
 }
@@ -169,24 +139,24 @@ fn open(book: &[u8], room: &mut [u8], len: usize) {
 // A request of as many bytes as the operand has, at most eight.
 fn request(book: &[u8], room: &mut [u8], len: usize, operand: &[u8]) {
     let q = [
-        byte_at(operand, 0),
-        byte_at(operand, 1),
-        byte_at(operand, 2),
-        byte_at(operand, 3),
-        byte_at(operand, 4),
-        byte_at(operand, 5),
-        byte_at(operand, 6),
-        byte_at(operand, 7),
+        trials::byte_at(operand, 0),
+        trials::byte_at(operand, 1),
+        trials::byte_at(operand, 2),
+        trials::byte_at(operand, 3),
+        trials::byte_at(operand, 4),
+        trials::byte_at(operand, 5),
+        trials::byte_at(operand, 6),
+        trials::byte_at(operand, 7),
     ];
-    let m = lent(&q, digit_count(operand) / 2);
-    let n = lent(room, len);
+    let m = trials::lent(&q, digit_count(operand) / 2);
+    let n = trials::lent(room, len);
     let outcome = ledger::request(book, &mut room[..n], &q[..m]);
     print_outcome(outcome);
 }
 
 fn show(book: &[u8], room: &[u8], len: usize, operand: &[u8]) {
-    let p = byte_at(operand, 0);
-    let n = lent(room, len);
+    let p = trials::byte_at(operand, 0);
+    let n = trials::lent(room, len);
     let shown = ledger::show(book, &room[..n], Person(p));
     print_shown(shown);
 }
@@ -194,7 +164,7 @@ fn show(book: &[u8], room: &[u8], len: usize, operand: &[u8]) {
 // Overwrites the byte at a place.
 fn damage(room: &mut [u8], operand: &[u8]) {
     let at = number_of(operand);
-    let b = byte_at(operand, 2);
+    let b = trials::byte_at(operand, 2);
     if at < room.len() {
         room[at] = b;
     }
@@ -210,7 +180,7 @@ fn fill(room: &mut [u8], b: u8) {
 
 // Copies the bytes of one slice to another, as far as both go.
 fn keep(room: &[u8], kept: &mut [u8]) {
-    let n = lent(kept, room.len());
+    let n = trials::lent(kept, room.len());
     let mut i: usize = 0;
     while i < n {
         kept[i] = room[i];
@@ -247,7 +217,7 @@ fn prepare(command: u8, operand: &[u8], room: &mut [u8], kept: &mut [u8]) -> boo
         return true;
     }
     if command == b'f' {
-        fill(room, byte_at(operand, 0));
+        fill(room, trials::byte_at(operand, 0));
         return true;
     }
     if command == b'=' {
@@ -332,7 +302,7 @@ fn obey_all(book: &[u8], commands: &[u8], room: &mut [u8], kept: &mut [u8]) {
 fn run(text: &[u8]) {
     let stop = place_of(text, 0, b'.');
     let end = place_of(text, stop, b'\n');
-    let from = lent(text, end + 1);
+    let from = trials::lent(text, end + 1);
     let mut room = [0u8; ROOM];
     let mut kept = [0u8; ROOM];
     obey_all(&text[..stop], &text[from..], &mut room, &mut kept);

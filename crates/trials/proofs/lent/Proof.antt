@@ -1,11 +1,11 @@
--- `ledger_runs::lent` counts bytes at the start of the slice, at most len. Assumes nothing.
+-- `trials::lent` counts bytes at the start of the slice, at most len. Assumes nothing.
 use mathlib.Core.Path.{sym}
 use native.Mathlib.Omega.{arith}
 use lib.ListN.{length}
 use lib.Seq.{length-take-le}
 use denote.Ref.{now}
-use Rattle.ledger_runs.proofs.lent.Statement.{statement}
-use Rattle.ledger_runs.proofs.lent.Tie as tie
+use Rattle.trials.proofs.lent.Statement.{statement}
+use Rattle.trials.proofs.lent.Tie as tie
 
 returns : tie.Need-returns
 returns c =
