@@ -110,6 +110,17 @@ fn counted(t: Tally, f: Finding, met: bool) -> Tally {
     }
 }
 
+// Whether a plan buffer one byte too short, and a list of seven bytes, are refused.
+fn is_refused(book: &[u8], f: usize) -> bool
+    requires { ⌜ f ≤ 12 ⌝ }
+{
+    let mut room = [FILLING; 120];
+    let end = trials::lent(&room, (10 * f + 119) % 120);
+    let short = plans::is_short_refused(book, &mut room[..end], FILLING);
+    let length = plans::is_length_refused(book);
+    short & length
+}
+
 // Searches a depot, plans it on a buffer of 10 times F bytes, and compares.
 fn compare(book: &[u8], d: Depot, table: &[u8], heads: &[u8]) -> Finding
     requires { ⌜ d .facts ≤ 12 ⌝ }
@@ -119,7 +130,14 @@ fn compare(book: &[u8], d: Depot, table: &[u8], heads: &[u8]) -> Finding
     let f = plans::tracked_count(query, table, d.facts);
     let end = trials::lent(&room, 10 * f);
     let reachable = search::is_reachable(book, query, d, table, heads);
-    judge(book, query, d, table, &mut room[..end], reachable)
+    let found = judge(book, query, d, table, &mut room[..end], reachable);
+    let refused = is_refused(book, f);
+    Finding {
+        good: found.good & refused,
+        planned: found.planned,
+        count: found.count,
+        deletes: found.deletes,
+    }
 }
 
 // A book that was judged otherwise than the search finds is printed.

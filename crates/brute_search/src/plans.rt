@@ -112,6 +112,27 @@ pub fn is_kept(buffer: &[u8], from: usize, filling: u8) -> bool {
     true
 }
 
+// Whether a plan buffer that is too short is refused by 10 and keeps its filling.
+pub fn is_short_refused(book: &[u8], room: &mut [u8], filling: u8) -> bool {
+    let answer = planner::plan(book, room);
+    let kept = is_kept(room, 0, filling);
+    match answer {
+        planner::Planned::NoWay => false,
+        planner::Planned::Plan(n) => false,
+        planner::Planned::Refused(r) => kept & (planner::refusal_number(r) == 10),
+    }
+}
+
+// Whether replay refuses seven bytes by 14.
+pub fn is_length_refused(book: &[u8]) -> bool {
+    let list = [1u8; 7];
+    let answer = replay::replay(book, &list);
+    match answer {
+        replay::Replayed::Judged(j) => false,
+        replay::Replayed::Refused(r) => replay::refusal_number(r) == 14,
+    }
+}
+
 // 1 where fact i is about a crew or the person, 0 where it is not.
 fn tracked_at(table: &[u8], i: usize, person: u8) -> usize
     requires { ⌜ i ≤ 12 ⌝ }

@@ -163,3 +163,7 @@ module _ (b : Contents) (ok : Admitted b) where
               (λ f. never-other b true f ds down-named) (once-other b true ds down-named);
           deleted-once = once-behind b false us (map bytesOf ds) up-named (once-own b false ds (best .way .once-down) down-named);
         }
+
+-- "Exactly": where there is a plan that works, no way is not given.
+pub never-both : {b : Contents} {chain : List (List ℕ)} → NoWay b → Works b chain → ⊥
+never-both {b} {chain} no works = no .none chain (works .last) (works .led) (works .meets)
