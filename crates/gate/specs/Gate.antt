@@ -6,7 +6,7 @@ use mathlib.Core.List.{List}
 use lib.ListN.{length}
 use lib.Dec.{eqb, ltb, leb}
 use Rattle.lines.specs.Digits.{malformed, frameOf, byteAt}
-use Rattle.sets.specs.Sets.{within}
+use Rattle.sets.specs.Sets.{within, numberAt}
 use Rattle.gate.specs.declared.Sizes.{Sizes}
 use Rattle.gate.specs.declared.Known.{Known}
 use Rattle.gate.specs.declared.Fault.{Fault}
@@ -61,10 +61,10 @@ isCrewField z a v = isCrew z a && eqb v 0
 
 -- "Sets are big-endian": the sets that two and four bytes of a frame write.
 unfoldable pub pairAt : List ℕ → ℕ → ℕ
-pairAt x i = byteAt x i * 256 + byteAt x (i + 1)
+pairAt x i = numberAt x i 2
 
 unfoldable pub quadAt : List ℕ → ℕ → ℕ
-quadAt x i = pairAt x i * 65536 + pairAt x (i + 2)
+quadAt x i = numberAt x i 4
 
 -- ---------------------------------------------------------------- 3 and 4: the kind and the length
 

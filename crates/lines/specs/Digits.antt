@@ -1,7 +1,7 @@
 -- The digits of Base 16, and the bytes that a line's characters write.
 use Prim.Native.Nat.{ℕ, suc, _+_, _*_, _%_, _≤_}
 use mathlib.Core.Path.{_≡_}
-use mathlib.Core.Bool.{Bool, true, false, not, cond, _&&_}
+use mathlib.Core.Bool.{Bool, true, false, not, cond, _&&_, _||_}
 use mathlib.Core.List.{List, [], _∷_}
 use lib.ListN.{length, take, getD}
 use lib.Dec.{eqb, ltb}
@@ -34,7 +34,7 @@ all p (x ∷ xs) = p x && all p xs
 
 -- Refusal 2 of an ended line: "empty line, odd digits, another character".
 unfoldable pub malformed : List ℕ → Bool
-malformed x = cond (eqb (length x) 0) true (cond (eqb (length x % 2) 1) true (not (all isDigit x)))
+malformed x = eqb (length x) 0 || eqb (length x % 2) 1 || not (all isDigit x)
 
 -- "one frame a line, digits [..], two a byte": the bytes that a line's digits write.
 unfoldable pub frameOf : List ℕ → List ℕ
