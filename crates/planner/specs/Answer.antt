@@ -25,7 +25,7 @@ abbrev pub refusalLine : Refusal → ℕ
 refusalLine (BadBook r) = frames.refusalLine r
 refusalLine ShortBuffer = 0
 
--- A plan of n requests "fills the front" of the buffer, "five bytes a request".
+-- "A plan fills its front, five bytes a request": the bytes of a plan of n requests.
 abbrev pub front : ℕ → List ℕ → List ℕ
 front n out = take (5 * n) out
 

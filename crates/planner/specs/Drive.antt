@@ -1,4 +1,4 @@
--- What is known between two levels: the settled facts, the crews' rows, and the requests written so far.
+-- What is known between two levels: the settled facts, the crews' rows, and the requests written so far. No part of what plan promises.
 use mathlib.Core.Path.{_≡_}
 use mathlib.Core.Bool.{Bool, true, false}
 use mathlib.Core.List.{List, _++_, map}
