@@ -64,14 +64,14 @@ total w (x ∷ xs) = size x w + total w xs
 unfoldable pub count : ℕ → List ℕ
 count n = 32 ∷ hex (pair n)
 
--- The line of an accepted book: 01 and the sizes; how many edges, rules and starting facts it has; q.
+-- The line of an accepted book where it is only judged: 01 and the sizes; how many edges, rules and starting facts it has; q.
 unfoldable pub bookLine : Book → List ℕ
 bookLine b =
     hex (1 ∷ b .sizes .persons ∷ b .sizes .crews ∷ b .sizes .attrs ∷ b .sizes .values ∷ [])
     ++ count (total 32 (b .juniors)) ++ count (b .rules .count) ++ count (total 8 (b .facts))
     ++ 32 ∷ hexLine (b .query .q ∷ [])
 
--- The line that answers a book, by what reading it gave.
+-- The line that answers a book that is only judged, by what reading it gave.
 unfoldable pub answerLine : Outcome → Book → List ℕ
 answerLine Accepted b = bookLine b
 answerLine (Refused r) b = hexLine (refusalBytes r)

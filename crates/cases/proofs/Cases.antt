@@ -7,7 +7,7 @@ use Rattle.frames.specs.Fits.{Each}
 use Rattle.inherit.proofs.InheritanceLaws.{and-both}
 use Rattle.cases.specs.Claims.{Meant}
 use Rattle.cases.specs.Table.{d1, d2, d3, d4, d5, d6, d7, d8, d9, d10-senior, d10-junior, d11, d12, table}
-use Rattle.sets.specs.Sets.{bit, member, put, within, subset, memberAt, putAt}
+use Rattle.sets.specs.Sets.{bit, member, put, within, subset, memberAt, putAt, numberAt}
 use Rattle.facts.specs.Facts.{fits, setAt, setWidth, memberOf, holds, putFact, noFacts}
 use Rattle.lines.specs.Digits.{digit, isDigit, malformed, frameOf, byteAt}
 use Rattle.lines.specs.Lines.{extend, lines}
@@ -36,7 +36,7 @@ each t h (x ∷ xs) e = let both = and-both (t x) (all t xs) e in (h x (both .0)
 computed : all test table ≡ true
 unfolding table d1 d2 d3 d4 d5 d6 d7 d8 d9 d10-senior d10-junior d11 d12 codes written five fivesOf
     test passesOn passes isReaches showsIn doneIn sameBytes among named namedBelow allNamed candidates join stepped spread reached stays closed unmet shut
-    bit member put within subset memberAt putAt fits setAt setWidth memberOf holds putFact noFacts
+    bit member put within subset memberAt putAt numberAt fits setAt setWidth memberOf holds putFact noFacts
     digits.all digit isDigit malformed frameOf byteAt extend lines
     allBelow valuesOf pairAt quadAt misplaced lengthOf mislengthed sizesVerdict edgeVerdict ruleGood foreign ruleVerdict factVerdict queryGood queryVerdict fieldsVerdict verdict lineVerdict
     termAt termsOf ruleOf juniorsAfter factOf factsAfter rulesAfter wantAt wantsOf queryOf queryAfter knownAfter nothing enter walk bookOf

@@ -13,7 +13,7 @@ use Rattle.theory.specs.Plan.{Ask, Req, req, Runs, end, World, Leads, AddClosed
 use Rattle.theory.proofs.PlanLaws.{leads-none, step-first, bounds-round, start-outside}
 use Rattle.level.specs.Settle.{Rounds}
 use Rattle.level.proofs.SettleLaws.{rounds-keep}
-use Rattle.level.specs.Levels.{Within, onLevel, toWhole, toLevel}
+use Rattle.level.proofs.Levels.{Within, onLevel, toWhole, toLevel}
 
 module _ (k : ℕ) (R : State) where
   -- At the level it is `S`.

@@ -8,5 +8,6 @@ pub mod SweepLaws
 pub mod BackSweepLaws
 pub mod BuildLaws
 pub mod SettleLaws
+pub mod Levels
 pub mod LevelLaws
 pub mod UptoLaws

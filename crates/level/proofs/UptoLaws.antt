@@ -12,7 +12,7 @@ use Rattle.theory.proofs.PlanLaws.{bounds-best}
 use Rattle.theory.specs.Tiers.{Tiers, All, below, only}
 use Rattle.theory.proofs.TierLaws.{below-same, only-here, only-there, additions-tier, deletions-tier, additions-none, deletions-none, below-low, below-high}
 use Rattle.level.specs.Settle.{Rounds}
-use Rattle.level.specs.Levels.{onLevel, toWhole, Within}
+use Rattle.level.proofs.Levels.{onLevel, toWhole, Within}
 use Rattle.level.proofs.LevelLaws.{on-level-in, on-level-out, embed, rounds-bound}
 use Rattle.level.specs.Upto.{Upto}
 

@@ -9,5 +9,4 @@ pub mod Sweep
 pub mod BackSweep
 pub mod Build
 pub mod Settle
-pub mod Levels
 pub mod Upto

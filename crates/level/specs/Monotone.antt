@@ -1,4 +1,5 @@
--- Monotony, which makes a level a world: more facts show no less, and meet no fewer moves.
+-- Monotony, which makes a level a world: more facts show no less, and meet no fewer moves. These laws stand among the definitions
+-- because `world` has them as a part.
 use mathlib.Core.Path.{_≡_, refl}
 use mathlib.Core.Bool.{Bool, true, false, cond, _&&_, _||_}
 use mathlib.Core.List.{List, [], _∷_}

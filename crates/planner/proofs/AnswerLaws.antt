@@ -21,14 +21,14 @@ use Rattle.level.proofs.NoteLaws.{asks-length}
 use Rattle.reach.specs.Tracked.{bytesOf}
 use Rattle.drafts.specs.Drafts.{carried, flat}
 use Rattle.drafts.proofs.DraftLaws.{run-carried, flat-append, fives-flat, length-flat}
-use Rattle.planner.specs.Drive.{starts}
+use Rattle.planner.specs.Drive.{starts, drafted}
 use Rattle.planner.specs.Scan.{Written}
 use Rattle.planner.specs.Count.{factCount}
 use Rattle.planner.specs.Promise.{NoWay, Works}
 use Rattle.planner.specs.declared.Planned.{Planned}
 use Rattle.planner.specs.declared.Planned.the-variants.{Refused}
 use Rattle.planner.specs.declared.Refusal.the-variants.{BadBook, ShortBuffer}
-use Rattle.planner.specs.Answer.{drafted, front, PlanGiven, Decided, Answered, PlanPromise}
+use Rattle.planner.specs.Answer.{front, PlanGiven, Decided, Answered, PlanPromise}
 use Rattle.planner.proofs.CountLaws.{plan-few}
 use Rattle.planner.proofs.PromiseLaws.{lastLedger, best-no-way, best-leads, best-works}
 

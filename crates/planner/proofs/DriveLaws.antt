@@ -23,7 +23,7 @@ use Rattle.level.specs.Moves.{Moves}
 use Rattle.level.specs.Shown.{row, shown, direct, Whole}
 use Rattle.level.specs.Terms.{effective}
 use Rattle.level.specs.World.{world}
-use Rattle.level.specs.Levels.{onLevel, toWhole, Within}
+use Rattle.level.proofs.Levels.{onLevel, toWhole, Within}
 use Rattle.level.specs.Notes.{askAt, asks}
 use Rattle.level.specs.Settle.{Settled, Stuck}
 use Rattle.level.specs.Upto.{Upto}
@@ -36,7 +36,7 @@ use Rattle.reach.specs.Goal.{bad}
 use Rattle.reach.proofs.TrackLaws.{tracked-crew, level-low}
 use Rattle.reach.proofs.DepotLaws.{depot, levels}
 use Rattle.flags.specs.Flags as flags
-use Rattle.planner.specs.Tables.{CrewTable, PersonTable}
+use Rattle.planner.proofs.Tables.{CrewTable, PersonTable}
 use Rattle.planner.specs.Drive.{starts, Rows, Driving}
 use Rattle.planner.proofs.TermBridge.{crew-effective, lower-holds}
 

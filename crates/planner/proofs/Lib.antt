@@ -1,3 +1,4 @@
+pub mod Tables
 pub mod TermBridge
 pub mod RuleParts
 pub mod WithinLaws

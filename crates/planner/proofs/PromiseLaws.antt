@@ -17,7 +17,7 @@ use Rattle.theory.specs.Facts.{State, _⊆_, put, Clear}
 use Rattle.theory.specs.Plan.{Ask, Req, req, end, Runs, plan, Absent, Distinct, Moves, Best}
 use Rattle.theory.proofs.PlanLaws.{runs-map, not-self}
 use Rattle.reach.specs.Tracked.{numberOf, lift, track, bytesOf, asked, May}
-use Rattle.reach.specs.Chained.{Kept, trackedOf, fiveOf}
+use Rattle.reach.proofs.Chained.{Kept, trackedOf, fiveOf}
 use Rattle.reach.specs.Goal.{goal, bad}
 use Rattle.reach.proofs.TrackLaws.{lift-mono, track-at}
 use Rattle.reach.proofs.DepotLaws.{depot}

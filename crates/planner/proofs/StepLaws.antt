@@ -20,7 +20,7 @@ use Rattle.level.specs.Moves.{Moves, movesIn}
 use Rattle.level.specs.Shown.{direct}
 use Rattle.level.specs.World.{world}
 use Rattle.level.specs.Chosen.{GoodRules, MovesOf}
-use Rattle.level.specs.Levels.{toWhole, Within}
+use Rattle.level.proofs.Levels.{toWhole, Within}
 use Rattle.level.specs.Notes.{asks}
 use Rattle.level.specs.Settle.{Result}
 use Rattle.level.proofs.ShownLaws.{direct-low, direct-in}

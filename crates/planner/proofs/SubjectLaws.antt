@@ -22,10 +22,10 @@ use Rattle.rules.proofs.RuleLaws.{subject-value, subject-crew, subject-member}
 use Rattle.theory.specs.Facts.{State}
 use Rattle.level.specs.Moves.{placeOf}
 use Rattle.level.specs.Terms.{termShown, GoodRule}
-use Rattle.level.specs.Levels.{onLevel}
+use Rattle.level.proofs.Levels.{onLevel}
 use Rattle.reach.specs.Tracked.{personLevel, tracked, numberOf, lift}
 use Rattle.reach.proofs.TrackLaws.{tracked-value, tracked-crew, tracked-member}
-use Rattle.planner.specs.Tables.{CrewTable, PersonTable}
+use Rattle.planner.proofs.Tables.{CrewTable, PersonTable}
 use Rattle.planner.proofs.RuleParts.{Parts, crew-low, rule-value, rule-crew}
 use Rattle.planner.proofs.TermBridge.{crew-term, person-term}
 use Rattle.planner.proofs.WithinLaws.{LevelIs, SideIs}

@@ -22,11 +22,11 @@ use Rattle.theory.specs.Facts.{State}
 use Rattle.level.specs.Shown as shown
 use Rattle.level.specs.Shown.{row, inherited}
 use Rattle.level.specs.Terms.{effective, termShown, TermInRange}
-use Rattle.level.specs.Levels.{onLevel}
+use Rattle.level.proofs.Levels.{onLevel}
 use Rattle.level.proofs.LevelLaws.{on-level-at, on-level-out}
 use Rattle.reach.specs.Tracked.{personLevel, tracked, numberOf, lift}
 use Rattle.reach.proofs.TrackLaws.{lift-same, tracked-crew}
-use Rattle.planner.specs.Tables.{CrewTable, PersonTable}
+use Rattle.planner.proofs.Tables.{CrewTable, PersonTable}
 
 any-false : (p : ℕ → Bool) (n : ℕ) → ((i : ℕ) → i < n → p i ≡ false) → shown.anyBelow p n ≡ false
 unfolding shown.anyBelow

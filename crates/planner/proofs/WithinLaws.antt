@@ -28,7 +28,7 @@ use Rattle.level.specs.Moves.{Moves, all, placeOf, moveAt, askOf}
 use Rattle.level.specs.World.{Some, world}
 use Rattle.level.specs.Terms.{termShown, ruleShown, GoodRule}
 use Rattle.level.specs.Chosen.{noRule, ruleAt, GoodRules, MovesOf}
-use Rattle.level.specs.Levels.{onLevel, toWhole, toLevel, Within}
+use Rattle.level.proofs.Levels.{onLevel, toWhole, toLevel, Within}
 use Rattle.level.proofs.TermLaws.{move-met}
 use Rattle.level.proofs.RuleLaws.{rules-good}
 use Rattle.level.proofs.ChosenLaws.{chosen-parts, chosen-from}

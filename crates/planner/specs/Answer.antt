@@ -1,7 +1,7 @@
 -- The answer of plan, with every byte of the lent buffer. Paper 01, "The planner", and demand 3.
 use mathlib.Core.Path.{_≡_}
-use mathlib.Core.List.{List, _++_, map}
-use Prim.Native.Nat.{ℕ, _-_, _*_, _≤_, _<_}
+use mathlib.Core.List.{List}
+use Prim.Native.Nat.{ℕ, _*_, _≤_, _<_}
 use lib.ListN.{length, take, drop}
 use Rattle.frames.specs.Book.{Contents, Answer, refused, accepted, bookOf}
 use Rattle.frames.specs.Book as frames
@@ -9,8 +9,6 @@ use Rattle.replay.specs.Chains.{fives}
 use Rattle.replay.specs.Replay.{replayIn}
 use Rattle.replay.specs.declared.Judgement.the-variants.{Reaches}
 use Rattle.replay.specs.declared.Replayed.the-variants.{Judged}
-use Rattle.level.specs.Notes.{asks}
-use Rattle.reach.specs.Tracked.{bytesOf}
 use Rattle.planner.specs.declared.Planned.{Planned}
 use Rattle.planner.specs.declared.Planned.the-variants.{NoWay, Plan, Refused}
 use Rattle.planner.specs.declared.Refusal.{Refusal}
@@ -27,11 +25,7 @@ abbrev pub refusalLine : Refusal → ℕ
 refusalLine (BadBook r) = frames.refusalLine r
 refusalLine ShortBuffer = 0
 
--- The additions and then the deletions that two buffers have.
-abbrev pub drafted : List ℕ → ℕ → List ℕ → ℕ → List (List ℕ)
-drafted up ups down at = map bytesOf (asks up 0 ups) ++ map bytesOf (asks down at (5280 - at))
-
--- A plan of n requests "fills the front" of the buffer, "five bytes a request".
+-- "A plan fills its front, five bytes a request": the bytes of a plan of n requests.
 abbrev pub front : ℕ → List ℕ → List ℕ
 front n out = take (5 * n) out
 

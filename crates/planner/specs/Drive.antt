@@ -1,7 +1,7 @@
--- What is known between two levels: the settled facts, the crews' rows, and the requests written so far.
+-- What is known between two levels: the settled facts, the crews' rows, and the requests written so far. No part of what plan promises.
 use mathlib.Core.Path.{_≡_}
 use mathlib.Core.Bool.{Bool, true, false}
-use mathlib.Core.List.{List, map}
+use mathlib.Core.List.{List, _++_, map}
 use Prim.Native.Nat.{ℕ, _+_, _-_, _*_, _/_, _%_, _≤_, _<_}
 use lib.Dec.{eqb}
 use lib.ListN.{length, getD}
@@ -46,3 +46,7 @@ pub record Driving (b : Contents) (k : ℕ) (rows : List Bool) (ups : ℕ) (up :
   pub few-down : 5280 ≤ at + 160 * k
   pub most-down : at ≤ 5280
   pub size-down : length down ≡ 26400
+
+-- The additions and then the deletions that two buffers have.
+abbrev pub drafted : List ℕ → ℕ → List ℕ → ℕ → List (List ℕ)
+drafted up ups down at = map bytesOf (asks up 0 ups) ++ map bytesOf (asks down at (5280 - at))

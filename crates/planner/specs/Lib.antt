@@ -1,6 +1,5 @@
-pub mod Tables
+pub mod Count
+pub mod Promise
+pub mod Answer
 pub mod Drive
 pub mod Scan
-pub mod Promise
-pub mod Count
-pub mod Answer

@@ -1,4 +1,4 @@
--- What the planner's steps over the levels promise.
+-- What the planner's steps over the levels promise. No part of what plan promises.
 use mathlib.Core.Path.{_≡_}
 use mathlib.Core.Bool.{Bool, true, false}
 use mathlib.Core.List.{List, map}

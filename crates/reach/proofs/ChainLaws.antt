@@ -26,7 +26,7 @@ use Rattle.replay.proofs.ReplayLaws.{one-end, goes-parts, goes-from, run-none, 
 use Rattle.theory.specs.Facts.{State, put}
 use Rattle.theory.specs.Plan.{Ask, Req, req, Runs, end}
 use Rattle.reach.specs.Tracked.{tracked, numberOf, lift, track, bytesOf, asked, May}
-use Rattle.reach.specs.Chained.{Kept, askOf, trackedOf, fiveOf}
+use Rattle.reach.proofs.Chained.{Kept, askOf, trackedOf, fiveOf}
 use Rattle.reach.proofs.TrackLaws.{tracked-value, tracked-member, level-low, track-put, track-other, crew-held, person-held}
 use Rattle.reach.proofs.DepotLaws.{depot}
 

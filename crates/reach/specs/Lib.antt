@@ -1,3 +1,2 @@
 pub mod Tracked
-pub mod Chained
 pub mod Goal

@@ -1,5 +1,5 @@
 -- `gate::pair_at` meets its contract: two bytes, big-endian. Assumes nothing.
-use Rattle.gate.specs.Gate.{pairAt}
+use Rattle.gate.proofs.GateLaws.{pair-bytes}
 use borrow.Author.Needs.{needs}
 use Rattle.gate.proofs.pair_at.Statement.{statement}
 use Rattle.gate.proofs.pair_at.Tie as tie
@@ -26,8 +26,7 @@ add-result : tie.Need-add-result
 add-result c = search needs
 
 returns : tie.Need-returns
-unfolding pairAt
-returns c = rw (c .before .byte-at .ensures, c .byte-at2 .ensures)
+returns c = rw (pair-bytes _ _, c .before .byte-at .ensures, c .byte-at2 .ensures)
 
 pub pair-at-spec : {M : Type 1} → statement M
 pair-at-spec =

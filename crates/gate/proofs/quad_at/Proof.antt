@@ -1,8 +1,5 @@
 -- `gate::quad_at` meets its contract: four bytes, big-endian. Assumes nothing.
-use mathlib.Core.Path.{_≡_}
-use Prim.Native.Nat.{_+_}
-use native.Mathlib.Omega.{arith}
-use Rattle.gate.specs.Gate.{pairAt, quadAt}
+use Rattle.gate.proofs.GateLaws.{quad-bytes}
 use borrow.Author.Needs.{needs}
 use Rattle.gate.proofs.quad_at.Statement.{statement}
 use Rattle.gate.proofs.quad_at.Tie as tie
@@ -59,10 +56,8 @@ add-result-3 : tie.Need-add-result-3
 add-result-3 c = search needs
 
 returns : tie.Need-returns
-unfolding quadAt pairAt
 returns c =
-    let on : c .before .before .before .before .before .args .i + 2 + 1 ≡ c .before .before .before .before .before .args .i + 3 = omega arith in
-    rw (on, c .before .before .before .byte-at .ensures, c .before .before .byte-at2 .ensures, c .before .byte-at3 .ensures, c .byte-at4 .ensures)
+    rw (quad-bytes _ _, c .before .before .before .byte-at .ensures, c .before .before .byte-at2 .ensures, c .before .byte-at3 .ensures, c .byte-at4 .ensures)
 
 pub quad-at-spec : {M : Type 1} → statement M
 quad-at-spec =
