@@ -1,0 +1,74 @@
+-- `bixorgun_show` meets its contract: by cases of what `ledger::show` gives. Assumes nothing.
+use mathlib.Core.Path.{refl, _∙_}
+use Rattle.bixorgun.proofs.CodeLaws.{view-hidden, view-shown, hidden-coded, no-room-coded, shown-coded}
+use borrow.Author.Needs.{needs}
+use Rattle.bixorgun.proofs.bixorgun_show.Statement.{statement}
+use Rattle.bixorgun.proofs.bixorgun_show.Tie as tie
+
+show-requires : tie.Need-show-requires
+show-requires c κs = search needs
+
+enum-known-outcome : tie.Need-enum-known-outcome
+enum-known-outcome c = search needs
+
+refusal-number-requires : tie.Need-refusal-number-requires
+refusal-number-requires c κs = search needs
+
+refusal-line-requires : tie.Need-refusal-line-requires
+refusal-line-requires c κs = search needs
+
+code-of-requires : tie.Need-code-of-requires
+code-of-requires c κs = search needs
+
+returns : tie.Need-returns
+returns c =
+    let start = c .before .before .before .before .before .before .before .before .before .before in
+    let s = c .before .before .before .before .before .before .show in
+    let r = c .before .before .before .before .outcome .given .0 .0 in
+    hidden-coded _ (start .args .view .now) _ r (view-hidden (s .result) _ (s .ensures) r (c .before .before .before .before .outcome .given .1))
+    (c .code-of .ensures ∙ rw (c .before .before .refusal-number .ensures, c .before .refusal-line .ensures) refl)
+
+enum-told : tie.Need-enum-told
+enum-told c = search needs
+
+code-of-requires-2 : tie.Need-code-of-requires-2
+code-of-requires-2 c κs = search needs
+
+returns-2 : tie.Need-returns-2
+returns-2 c =
+    let start = c .before .before .before .before .before .before .before .before in
+    let s = c .before .before .before .before .show in
+    no-room-coded _ (start .args .view .now) _ (s .result .sets) (s .result .crews) (view-shown (s .result) _ (s .ensures) (c .before .before .enum-told .given .1)) (c .before .if1 .taken) (c .code-of2 .ensures)
+
+write-view-requires : tie.Need-write-view-requires
+write-view-requires c κs = search needs
+
+code-of-requires-3 : tie.Need-code-of-requires-3
+code-of-requires-3 c κs = search needs
+
+same-length : tie.Need-same-length
+same-length c = search needs
+
+returns-3 : tie.Need-returns-3
+returns-3 c =
+    let start = c .before .before .before .before .before .before .before .before .before .before .before .before .before in
+    let s = c .before .before .before .before .before .before .before .before .before .show in
+    shown-coded _ (start .args .view .now) _ (s .result .sets) (s .result .crews) _ (view-shown (s .result) _ (s .ensures) (c .before .before .before .before .before .before .before .enum-told .given .1)) (c .before .before .before .before .before .before .if1 .left) (c .code-of3 .ensures) (c .before .before .before .write-view .ensures)
+
+pub bixorgun-show-spec : {M : Type 1} → statement M
+bixorgun-show-spec =
+    tie.close
+    (tie.spec
+    show-requires
+    enum-known-outcome
+    refusal-number-requires
+    refusal-line-requires
+    code-of-requires
+    returns
+    enum-told
+    code-of-requires-2
+    returns-2
+    write-view-requires
+    code-of-requires-3
+    same-length
+    returns-3)

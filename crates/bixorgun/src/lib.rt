@@ -1,0 +1,141 @@
+// The five operations for programs in C and Rust: numbers and byte slices alone. An answer is one number.
+ghost use mathlib.Core.Path.{_≡_};
+ghost use mathlib.Core.List.{_++_};
+ghost use Prim.Native.Nat.{_+_, _≤_};
+ghost use lib.ListN.{length, drop};
+ghost use Rattle.ledger.specs.Ledger.{openReply, requestReply};
+ghost use Rattle.ledger.specs.Show.{showView};
+ghost use Rattle.replay.specs.Replay.{replayed};
+ghost use Rattle.bixorgun.specs.Codes.{code, outcomeCode, judgementCode, replayCode, planCode, coded, replyCoded, putTwo, viewBytes, viewCoded, PlanCoded};
+use facts::Person;
+
+// A result, a refusal's number and a line or count as one number.
+fn code_of(result: u8, number: u8, value: usize) -> u64
+    ensures { λ r. ⌜ r ≡ code result number value ⌝ }
+{
+    let v = (value as u64) % 281474976710656;
+    (result as u64) + 256 * (number as u64) + 65536 * v
+}
+
+fn outcome_code(o: ledger::Outcome) -> u64
+    ensures { λ r. ⌜ r ≡ outcomeCode o ⌝ }
+{
+    match o {
+        ledger::Outcome::Done => code_of(0, 0, 0),
+        ledger::Outcome::Refused(r) => code_of(
+            1,
+            ledger::refusal_number(r),
+            ledger::refusal_line(r),
+        ),
+    }
+}
+
+fn judgement_code(j: replay::Judgement) -> u64
+    ensures { λ r. ⌜ r ≡ judgementCode j ⌝ }
+{
+    match j {
+        replay::Judgement::Reaches => code_of(4, 0, 0),
+        replay::Judgement::Stops(k) => code_of(5, 0, k),
+        replay::Judgement::EndsShort => code_of(6, 0, 0),
+    }
+}
+
+fn replay_code(a: replay::Replayed) -> u64
+    ensures { λ r. ⌜ r ≡ replayCode a ⌝ }
+{
+    match a {
+        replay::Replayed::Judged(j) => judgement_code(j),
+        replay::Replayed::Refused(r) => code_of(
+            1,
+            replay::refusal_number(r),
+            replay::refusal_line(r),
+        ),
+    }
+}
+
+fn plan_code(a: planner::Planned) -> u64
+    ensures { λ r. ⌜ r ≡ planCode a ⌝ }
+{
+    match a {
+        planner::Planned::NoWay => code_of(2, 0, 0),
+        planner::Planned::Plan(n) => code_of(3, 0, n),
+        planner::Planned::Refused(r) => code_of(
+            1,
+            planner::refusal_number(r),
+            planner::refusal_line(r),
+        ),
+    }
+}
+
+// Writes the ledger of starting facts.
+#[no_mangle]
+pub extern "C" fn bixorgun_open(book: &[u8], state: &mut [u8]) -> u64
+    ensures { λ r. ⌜ coded r (now (state .exit)) ≡ replyCoded (openReply (now (book .entry)) (now (state .entry))) ⌝ }
+{
+    outcome_code(ledger::open(book, state))
+}
+
+// Carries out a request on a ledger.
+#[no_mangle]
+pub extern "C" fn bixorgun_request(book: &[u8], state: &mut [u8], request: &[u8]) -> u64
+    ensures { λ r. ⌜ coded r (now (state .exit)) ≡ replyCoded (requestReply (now (book .entry)) (now (state .entry)) (now (request .entry))) ⌝ }
+{
+    outcome_code(ledger::request(book, state, request))
+}
+
+// A set as two bytes at a place.
+fn put_two(view: &mut [u8], at: usize, x: u32)
+    requires { ⌜ (at ≤ 18) × (at + 2 ≤ length (now view)) ⌝ }
+    ensures { λ _. ⌜ now (view .exit) ≡ putTwo (now (view .entry)) at x ⌝ }
+{
+    view[at] = (x / 256 % 256) as u8;
+    view[at + 1] = (x % 256) as u8;
+}
+
+// What show gives, in the buffer's front.
+fn write_view(sets: [u32; 8], crews: u32, view: &mut [u8])
+    requires { ⌜ 20 ≤ length (now view) ⌝ }
+    ensures { λ _. ⌜ now (view .exit) ≡ viewBytes sets crews ++ drop 20 (now (view .entry)) ⌝ }
+{
+    let mut i: usize = 0;
+    while i < 8 {
+        put_two(view, 2 * i, sets[i]);
+        i += 1;
+    }
+    put_two(view, 16, crews / 65536);
+    put_two(view, 18, crews);
+}
+
+// Shows a person's effective sets and crews.
+#[no_mangle]
+pub extern "C" fn bixorgun_show(book: &[u8], state: &[u8], person: u8, view: &mut [u8]) -> u64
+    ensures { λ r. ⌜ coded r (now (view .exit)) ≡ viewCoded (showView (now (book .entry)) (now (state .entry)) (record { 0 = person })) (now (view .entry)) ⌝ }
+{
+    let s = ledger::show(book, state, Person(person));
+    let outcome = s.outcome;
+    if let ledger::Outcome::Refused(r) = outcome {
+        return code_of(1, ledger::refusal_number(r), ledger::refusal_line(r));
+    }
+    if view.len() < 20 {
+        return code_of(7, 0, 0);
+    }
+    let sets = s.sets;
+    write_view(sets, s.crews, view);
+    code_of(0, 0, 0)
+}
+
+// Judges a list of requests from the starting facts.
+#[no_mangle]
+pub extern "C" fn bixorgun_replay(book: &[u8], plan: &[u8]) -> u64
+    ensures { λ r. ⌜ r ≡ replayCode (replayed (now (book .entry)) (now (plan .entry))) ⌝ }
+{
+    replay_code(replay::replay(book, plan))
+}
+
+// Plans the query of a book: no way, or a plan in the front of `out`.
+#[no_mangle]
+pub extern "C" fn bixorgun_plan(book: &[u8], out: &mut [u8]) -> u64
+    ensures { λ r. ⌜ PlanCoded (now (book .entry)) (now (out .entry)) r (now (out .exit)) ⌝ }
+{
+    plan_code(planner::plan(book, out))
+}

@@ -1,0 +1,91 @@
+/* Plans a book, from a file or standard input, carries the plan out on a ledger and shows the query's person before and after.
+ *
+ *     plan_book [FILE]
+ */
+#include <inttypes.h>
+#include <stdio.h>
+
+#include "bixorgun.h"
+
+/* One byte more than the longest book, so that a longer one is refused and not cut. */
+static uint8_t book[BIXORGUN_BOOK_MAX + 1];
+static uint8_t plan[BIXORGUN_PLAN_MAX];
+static uint8_t ledger[BIXORGUN_LEDGER_SIZE];
+
+static void print_bytes(const uint8_t *bytes, size_t n)
+{
+    for (size_t i = 0; i < n; i++)
+        printf("%02X", bytes[i]);
+    putchar('\n');
+}
+
+static int refused(const char *operation, uint64_t answer)
+{
+    fprintf(stderr, "%s: result %u, refusal %u, line %" PRIu64 "\n", operation, bixorgun_result(answer), bixorgun_refusal(answer),
+            bixorgun_value(answer));
+    return 1;
+}
+
+static int show(size_t book_len, uint8_t person)
+{
+    uint8_t view[BIXORGUN_VIEW_SIZE];
+    uint64_t answer = bixorgun_show(book, book_len, ledger, sizeof ledger, person, view, sizeof view);
+    if (bixorgun_result(answer) != BIXORGUN_DONE)
+        return refused("show", answer);
+    printf("person %u: sets", person);
+    for (size_t a = 0; a < 8; a++)
+        printf(" %02X%02X", view[2 * a], view[2 * a + 1]);
+    printf(", crews ");
+    print_bytes(view + 16, 4);
+    return 0;
+}
+
+/* The person is the third byte of the query, the book's last line; the book is accepted. */
+static uint8_t query_person(size_t book_len)
+{
+    size_t at = book_len - 1;
+    unsigned person;
+    while (at > 0 && book[at - 1] != '\n')
+        at--;
+    return sscanf((const char *)book + at, "%*4c%2x", &person) == 1 ? (uint8_t)person : 0;
+}
+
+int main(int argc, char **argv)
+{
+    FILE *in = argc > 1 ? fopen(argv[1], "rb") : stdin;
+    if (!in) {
+        perror(argv[1]);
+        return 2;
+    }
+    size_t book_len = fread(book, 1, sizeof book, in);
+
+    uint64_t answer = bixorgun_plan(book, book_len, plan, sizeof plan);
+    if (bixorgun_result(answer) == BIXORGUN_NO_WAY) {
+        puts("no way");
+        return 0;
+    }
+    if (bixorgun_result(answer) != BIXORGUN_PLAN)
+        return refused("plan", answer);
+    size_t count = (size_t)bixorgun_value(answer);
+    printf("plan of %zu\n", count);
+    for (size_t i = 0; i < count; i++)
+        print_bytes(plan + 5 * i, 5);
+
+    answer = bixorgun_replay(book, book_len, plan, 5 * count);
+    if (bixorgun_result(answer) != BIXORGUN_REACHES)
+        return refused("replay", answer);
+    puts("replay: reaches");
+
+    answer = bixorgun_open(book, book_len, ledger, sizeof ledger);
+    if (bixorgun_result(answer) != BIXORGUN_DONE)
+        return refused("open", answer);
+    uint8_t person = query_person(book_len);
+    if (show(book_len, person))
+        return 1;
+    for (size_t i = 0; i < count; i++) {
+        answer = bixorgun_request(book, book_len, ledger, sizeof ledger, plan + 5 * i, BIXORGUN_REQUEST_SIZE);
+        if (bixorgun_result(answer) != BIXORGUN_DONE)
+            return refused("request", answer);
+    }
+    return show(book_len, person);
+}

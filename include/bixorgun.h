@@ -1,0 +1,122 @@
+/* Bixorgun for C and C++: the five operations on a book, a ledger and a plan.
+ *
+ * Link with libbixorgun.a (x86-64). The functions keep no state, allocate nothing and write to the one lent buffer alone, so any
+ * number of threads may call them at once; a buffer that one call writes is in no other call's hands meanwhile. As measured, plan
+ * takes 230 KB of stack and the other operations 90 KB.
+ *
+ * What the proofs take for granted, and a caller has to see to:
+ *   - a pointer is valid for the length that follows it and is never NULL. For length 0 any non-null pointer will do;
+ *   - the buffer that a call writes shares no byte with what that call reads.
+ * Nothing else is asked: any characters as a book, any bytes as a ledger, a request or a plan, any lengths.
+ *
+ * Nothing checks these declarations against the library; they are written from its source.
+ */
+#ifndef BIXORGUN_H
+#define BIXORGUN_H
+
+#include <stddef.h>
+#include <stdint.h>
+
+#ifdef __cplusplus
+extern "C" {
+#endif
+
+/* ---------------------------------------------------------------- sizes, in bytes */
+
+#define BIXORGUN_BOOK_MAX 65536 /* the characters of the longest book that is not refused */
+#define BIXORGUN_LEDGER_SIZE 1792
+#define BIXORGUN_REQUEST_SIZE 5
+#define BIXORGUN_VIEW_SIZE 20
+#define BIXORGUN_PLAN_MAX 42560 /* a plan buffer that is long enough for every book */
+
+/* A plan buffer that is long enough for a book of these sizes (its first line is 01 P G A V): 10 x F, F = (1 + G) x A x V + G. */
+static inline size_t bixorgun_plan_size(size_t crews, size_t attributes, size_t values)
+{
+    return 10 * ((1 + crews) * attributes * values + crews);
+}
+
+/* ---------------------------------------------------------------- answers */
+
+/* Every operation answers one number:
+ *   bits 0-7    the result, one of those below;
+ *   bits 8-15   the number of a refusal, 1 to 14 (0 with every other result);
+ *   bits 16-63  the value: with REFUSED the line of refusals 1 to 9 (0 for refusal 1 and for 10 to 14), with PLAN the count of
+ *               requests, with STOPS the request at which replay stops, counted from 1; 0 with every other result.
+ *               A value of 2^48 or more, which only replay of a plan of over 10^15 bytes could have, is given modulo 2^48.
+ */
+#define BIXORGUN_DONE 0       /* open, request, show */
+#define BIXORGUN_REFUSED 1    /* all */
+#define BIXORGUN_NO_WAY 2     /* plan */
+#define BIXORGUN_PLAN 3       /* plan */
+#define BIXORGUN_REACHES 4    /* replay */
+#define BIXORGUN_STOPS 5      /* replay */
+#define BIXORGUN_ENDS_SHORT 6 /* replay */
+#define BIXORGUN_NO_ROOM 7    /* show */
+
+static inline unsigned bixorgun_result(uint64_t answer)
+{
+    return (unsigned)(answer & 0xFF);
+}
+
+static inline unsigned bixorgun_refusal(uint64_t answer)
+{
+    return (unsigned)(answer >> 8 & 0xFF);
+}
+
+static inline uint64_t bixorgun_value(uint64_t answer)
+{
+    return answer >> 16;
+}
+
+/* The refusals. 1 to 9 are those of a book and come first, in every operation. */
+#define BIXORGUN_BOOK_TOO_LONG 1     /* over 65,536 characters */
+#define BIXORGUN_BAD_LINE 2          /* an empty line, odd digits, another character, the last line unended */
+#define BIXORGUN_BAD_FRAME 3         /* first frame not 01, a later 01, kind not 01-05, a frame after 05, no 05 */
+#define BIXORGUN_BAD_LENGTH 4        /* not the length that the kind gives */
+#define BIXORGUN_BAD_FIELD 5         /* a field outside its range */
+#define BIXORGUN_BAD_EDGE 6          /* the junior is not the smaller number */
+#define BIXORGUN_BAD_TERM 7          /* term 03 or 04 in ops 01-04 */
+#define BIXORGUN_TOO_MANY_RULES 8    /* the 513th rule */
+#define BIXORGUN_NOT_RISING 9        /* the query's attributes */
+#define BIXORGUN_SHORT_PLAN_BUFFER 10 /* plan: under 10 x F bytes */
+#define BIXORGUN_BAD_LEDGER 11       /* open: not 1,792 bytes; request, show: or a bit outside the sizes */
+#define BIXORGUN_BAD_REQUEST 12      /* request: not five bytes or a field out of range; show: no such person */
+#define BIXORGUN_NOT_PERMITTED 13    /* request */
+#define BIXORGUN_BAD_PLAN_LENGTH 14  /* replay: no multiple of five */
+
+/* ---------------------------------------------------------------- operations */
+
+/* Writes the ledger of the book's starting facts over `ledger`, whose bytes are not read.
+ * DONE, or REFUSED with 1-9 or 11; a refusal leaves every byte of `ledger` as it was. */
+uint64_t bixorgun_open(const uint8_t *book, size_t book_len, uint8_t *ledger, size_t ledger_len);
+
+/* Carries out a request, five bytes: op role subject a v.
+ * DONE: it was permitted, and its one fact is set or cleared in `ledger` (it may have been so already).
+ * REFUSED with 1-9, 11, 12 or 13; a refusal leaves every byte of `ledger` as it was. */
+uint64_t bixorgun_request(const uint8_t *book, size_t book_len, uint8_t *ledger, size_t ledger_len,
+                          const uint8_t *request, size_t request_len);
+
+/* Shows what a person effectively holds and is effectively in.
+ * DONE: the first 20 bytes of `view` are the eight attributes' sets, two bytes each (0 for an attribute that the book lacks), and the
+ * set of crews, four bytes; big-endian, weight 2^v for number v. Bytes behind them keep their content.
+ * REFUSED with 1-9, 11 or 12, and, where nothing is refused, NO_ROOM for a `view` under 20 bytes: every byte of `view` as it was. */
+uint64_t bixorgun_show(const uint8_t *book, size_t book_len, const uint8_t *ledger, size_t ledger_len, uint8_t person,
+                       uint8_t *view, size_t view_len);
+
+/* Judges a list of requests, five bytes each, from the book's starting facts.
+ * REACHES: all are made by the query's roles and permitted, and the last ledger meets the query. STOPS with k: request k is the first
+ * that is ill-formed, outside the query's roles or not permitted. ENDS_SHORT: none stops, and the query is not met.
+ * REFUSED with 1-9 or 14. */
+uint64_t bixorgun_replay(const uint8_t *book, size_t book_len, const uint8_t *plan, size_t plan_len);
+
+/* Plans the book's query.
+ * NO_WAY: no list of requests whatever by the query's roles leads to it; every byte of `out` as it was. PLAN with n: the first 5 x n
+ * bytes of `out` are requests that replay answers REACHES to; bytes behind them keep their content.
+ * REFUSED with 1-9 or 10; a refusal leaves every byte of `out` as it was. */
+uint64_t bixorgun_plan(const uint8_t *book, size_t book_len, uint8_t *out, size_t out_len);
+
+#ifdef __cplusplus
+}
+#endif
+
+#endif
