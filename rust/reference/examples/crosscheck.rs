@@ -16,8 +16,13 @@ fn main() -> ExitCode {
     let mut counts = Counts::default();
     let mut differing = 0;
     for _ in 0..depots {
-        let aimed = rng.percent(60);
-        let text = if aimed { gen::small_aimed_book(&mut rng) } else { gen::small_book(&mut rng) }.text();
+        let draft = match rng.below(8) {
+            0..=2 => gen::small_book(&mut rng),
+            3..=5 => gen::small_aimed_book(&mut rng),
+            6 => gen::tangled_book(&mut rng, (2, 2, 2)),
+            _ => gen::ladder_book(&mut rng, 0, 5),
+        };
+        let text = draft.text();
         let book = book::read(&text).expect("a good book");
         if let Err(difference) = counts.compare(&book) {
             differing += 1;

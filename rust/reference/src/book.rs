@@ -255,8 +255,8 @@ pub struct Book {
     pub edges: BTreeSet<(Crew, Crew)>,
     /// The rules as they stand in the book, repeats too.
     pub rules: Vec<Rule>,
-    /// "**04 k s a v**: a starting fact."
-    pub facts: BTreeSet<Fact>,
+    /// "**04 k s a v**: a starting fact."; in rising order, each once.
+    pub facts: Vec<Fact>,
     /// Its last line.
     pub query: Query,
 }
@@ -339,24 +339,31 @@ pub fn read(characters: &[u8]) -> Result<Book, Refusal> {
         return Err(Refusal { fault: Fault::TooLong, line: 0 });
     }
     let mut reader = Reader::default();
+    let mut frame = Vec::new();
     let mut lines = 0;
     for line in characters.split_inclusive(|&c| c == b'\n') {
         lines += 1;
-        bytes(line).and_then(|frame| reader.frame(&frame)).map_err(|fault| Refusal { fault, line: lines })?;
+        bytes(line, &mut frame).and_then(|()| reader.frame(&frame)).map_err(|fault| Refusal { fault, line: lines })?;
     }
     reader.book().ok_or(Refusal { fault: Fault::Kind, line: lines + 1 })
 }
 
-/// The bytes that a line's digits write.
-fn bytes(line: &[u8]) -> Result<Vec<u8>, Fault> {
-    match line.split_last() {
-        Some((b'\n', digits)) if !digits.is_empty() && digits.len().is_multiple_of(2) => digits
-            .chunks_exact(2)
-            .map(|two| Some(digit(two[0])? << 4 | digit(two[1])?))
-            .collect::<Option<Vec<u8>>>()
-            .ok_or(Fault::Characters),
-        _ => Err(Fault::Characters),
+/// Puts the bytes that a line's digits write into a frame.
+fn bytes(line: &[u8], frame: &mut Vec<u8>) -> Result<(), Fault> {
+    let Some((b'\n', digits)) = line.split_last() else {
+        return Err(Fault::Characters);
+    };
+    if digits.is_empty() || !digits.len().is_multiple_of(2) {
+        return Err(Fault::Characters);
     }
+    frame.clear();
+    for two in digits.chunks_exact(2) {
+        let (Some(high), Some(low)) = (digit(two[0]), digit(two[1])) else {
+            return Err(Fault::Characters);
+        };
+        frame.push(high << 4 | low);
+    }
+    Ok(())
 }
 
 fn digit(character: u8) -> Option<u8> {
@@ -373,12 +380,14 @@ struct Reader {
     sizes: Option<Sizes>,
     edges: BTreeSet<(Crew, Crew)>,
     rules: Vec<Rule>,
-    facts: BTreeSet<Fact>,
+    facts: Vec<Fact>,
     query: Option<Query>,
 }
 
 impl Reader {
-    fn book(self) -> Option<Book> {
+    fn book(mut self) -> Option<Book> {
+        self.facts.sort_unstable();
+        self.facts.dedup();
         Some(Book { sizes: self.sizes?, edges: self.edges, rules: self.rules, facts: self.facts, query: self.query? })
     }
 
@@ -401,7 +410,7 @@ impl Reader {
                 self.rules.push(rule);
             }
             (Some(sizes), 4) => {
-                self.facts.insert(fact(&sizes, frame)?);
+                self.facts.push(fact(&sizes, frame)?);
             }
             (Some(sizes), 5) => {
                 self.query = Some(query(&sizes, frame)?);
@@ -537,7 +546,7 @@ mod tests {
             terms: vec![Term::Holds(Attr(0), Value(1))],
         };
         assert_eq!(book.rules, [add, assign]);
-        assert!(book.facts.iter().eq(&[Fact::CrewHolds(Crew(0), Attr(0), Value(0))]));
+        assert_eq!(book.facts, [Fact::CrewHolds(Crew(0), Attr(0), Value(0))]);
         let query = Query { mode: Mode::AtLeast, person: Person(0), roles: 3, named: vec![(Attr(0), 1)] };
         assert_eq!(book.query, query);
     }

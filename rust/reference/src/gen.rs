@@ -154,6 +154,81 @@ pub fn middle_book(rng: &mut Rng) -> Draft {
     book(rng, &shape)
 }
 
+/// A depot in which much can be added and deletions rest on much: what is stuck comes to light over many rounds.
+///
+/// `most` bounds crews, attributes and values.
+pub fn tangled_book(rng: &mut Rng, most: (u8, u8, u8)) -> Draft {
+    let sizes =
+        Sizes { persons: 1, crews: rng.byte(0, most.0), attrs: rng.byte(1, most.1), values: rng.byte(1, most.2) };
+    let facts = sizes.facts();
+    let shape = Shape { sizes, edges: rng.below(6), rules: 0, terms: 0, facts: 0, roles: 2 };
+    let mut draft = book(rng, &shape);
+    let rules = (2 * facts + rng.below(3 * facts + 1)).min(MOST_RULES);
+    for _ in 0..rules {
+        let terms = rng.byte(1, 2);
+        let mut frame = rule(rng, &Shape { terms, ..shape });
+        // A deletion seldom goes without a term.
+        if frame[1].is_multiple_of(2) && frame[5] == 0 && rng.percent(70) {
+            frame[5] = 1;
+            frame.extend([rng.byte(1, 2), rng.byte(0, sizes.attrs - 1), rng.byte(0, sizes.values - 1)]);
+        }
+        draft.put(rng, frame);
+    }
+    if rng.percent(30) {
+        let frame = fact(rng, &sizes);
+        draft.put(rng, frame);
+    }
+    let mut query = vec![5, 2, 0, 0xFF, 0xFF, sizes.attrs];
+    for attr in 0..sizes.attrs {
+        let set = if rng.percent(70) { 0 } else { 1 << rng.below(sizes.values.into()) };
+        query.push(attr);
+        query.extend(u16::to_be_bytes(set));
+    }
+    let crews = if rng.percent(50) { rng.bits() as u32 & sizes.all_crews() } else { 0 };
+    query.extend(crews.to_be_bytes());
+    draft.ask(query);
+    draft
+}
+
+/// A ladder of values of attributes 0 and 1, of a person or of crews: one that must go again lets in one that may stay,
+/// which lets in the next; to delete the first takes the rung above. What is stuck comes to light rung by rung, from the
+/// top down; here and there an odd rule stops that. A value of attribute 2 rests on some rung and is wanted.
+pub fn ladder_book(rng: &mut Rng, crews: u8, rungs: u8) -> Draft {
+    let sizes = Sizes { persons: 1, crews: rng.byte(0, crews), attrs: 3, values: rng.byte(1, rungs) };
+    let on_crews = sizes.crews > 0 && rng.percent(70);
+    let (add, delete) = if on_crews { (3, 4) } else { (1, 2) };
+    let kind = rng.byte(1, 2);
+    let top = sizes.values - 1;
+    let mut frames = Vec::new();
+    for n in 0..=top {
+        frames.push(if n == 0 { vec![3, add, 0, 0, 0, 0] } else { vec![3, add, 0, 0, n, 1, kind, 1, n - 1] });
+        frames.push(vec![3, add, 0, 1, n, 1, kind, 0, n]);
+        if n < top {
+            frames.push(vec![3, delete, 0, 0, n, 1, kind, 1, n + 1]);
+        }
+        if n == top && rng.percent(40) || rng.percent(8) {
+            frames.push(vec![3, delete, 0, 0, n, 0]);
+        }
+    }
+    frames.push(vec![3, add, 0, 2, 0, 1, kind, 1, rng.byte(0, top)]);
+    let odd = Shape { sizes, edges: 0, rules: 0, terms: 2, facts: 0, roles: 1 };
+    for _ in 0..rng.below(4) {
+        frames.push(rule(rng, &odd));
+    }
+    if rng.percent(20) {
+        frames.push(fact(rng, &sizes));
+    }
+    if sizes.crews > 0 {
+        frames.push(vec![4, 3, 0, sizes.crews - 1, 0]);
+        (1..sizes.crews).for_each(|senior| frames.push(vec![2, senior, rng.byte(0, senior - 1)]));
+    }
+    frames.insert(0, vec![1, 1, sizes.crews, 3, sizes.values]);
+    let mut query = vec![5, 2, 0, 0, 1, 2, 0, 0, 0, 2, 0, rng.byte(0, 1)];
+    query.extend(sizes.crews.checked_sub(1).map_or(0, |last| 1_u32 << last).to_be_bytes());
+    frames.push(query);
+    Draft { sizes, frames }
+}
+
 /// A depot of any size up to the largest.
 pub fn large_book(rng: &mut Rng) -> Draft {
     let largest = rng.percent(30);

@@ -129,9 +129,18 @@ fn inside(sizes: &Sizes, row: usize, rows: u8, attr: usize, set: u16) -> bool {
     set & !(if there { sizes.all_values() } else { 0 }) == 0
 }
 
-/// The crews of a set, in rising order.
+/// The numbers in a set, rising.
+pub fn numbers(mut set: u64) -> impl Iterator<Item = u8> {
+    std::iter::from_fn(move || {
+        let lowest = (set != 0).then(|| set.trailing_zeros() as u8);
+        set &= set.wrapping_sub(1);
+        lowest
+    })
+}
+
+/// The crews of a set, rising.
 pub fn crews(set: u32) -> impl Iterator<Item = Crew> {
-    (0..32).filter(move |c| set >> c & 1 == 1).map(Crew)
+    numbers(set.into()).map(Crew)
 }
 
 /// A book with its inheritance worked out: what the definitions look at beside a ledger.
@@ -454,6 +463,13 @@ mod tests {
             assert_eq!(open(text.as_bytes(), &mut ledger), Ok(()));
             assert_eq!(ledger, [0; LEDGER_BYTES]);
         }
+    }
+
+    #[test]
+    fn numbers_of_a_set() {
+        assert!(numbers(0).eq([]));
+        assert!(numbers(1 << 63 | 0b101).eq([0, 2, 63]));
+        assert!(crews(u32::MAX).eq((0..32).map(Crew)));
     }
 
     /// The definition as the paper words it: crew test and scan over its direct juniors.

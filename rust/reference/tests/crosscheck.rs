@@ -4,7 +4,7 @@ use reference::book::{self, Attr, Book, Crew, Fact, Mode, Value, Way, What};
 use reference::gen::{self, Rng};
 use reference::ledger::{crews, Depot, Ledger, Request};
 use reference::plan::compare::Counts;
-use reference::plan::{closure, demand};
+use reference::plan::{closure, demand, search};
 
 fn small(depots: usize, seed: u64, mut draw: impl FnMut(&mut Rng) -> gen::Draft) -> Counts {
     let mut rng = Rng::new(seed);
@@ -12,6 +12,9 @@ fn small(depots: usize, seed: u64, mut draw: impl FnMut(&mut Rng) -> gen::Draft)
     for _ in 0..depots {
         let text = draw(&mut rng).text();
         let book = book::read(&text).expect("a good book");
+        if search::size(&book) > 14 {
+            continue;
+        }
         if let Err(difference) = counts.compare(&book) {
             panic!("{difference}\n{}", String::from_utf8_lossy(&text));
         }
@@ -22,14 +25,28 @@ fn small(depots: usize, seed: u64, mut draw: impl FnMut(&mut Rng) -> gen::Draft)
 
 #[test]
 fn small_depots() {
-    let counts = small(50_000, 0x0B1C_0001, gen::small_book);
+    let counts = small(40_000, 0x0B1C_0001, gen::small_book);
     assert!(counts.no_way > 10_000 && counts.moved > 5_000 && counts.deleting > 2_000 && counts.detours > 100);
 }
 
 #[test]
 fn small_depots_with_an_aimed_query() {
-    let counts = small(70_000, 0x0B1C_0002, gen::small_aimed_book);
-    assert!(counts.no_way > 10_000 && counts.moved > 15_000 && counts.deleting > 5_000 && counts.detours > 300);
+    let counts = small(50_000, 0x0B1C_0002, gen::small_aimed_book);
+    assert!(counts.no_way > 5_000 && counts.moved > 10_000 && counts.deleting > 5_000 && counts.detours > 200);
+}
+
+#[test]
+fn small_tangled_depots() {
+    let counts = small(20_000, 0x0B1C_0006, |rng| gen::tangled_book(rng, (2, 2, 2)));
+    assert!(counts.no_way > 2_000 && counts.detours > 500);
+}
+
+#[test]
+fn small_ladders() {
+    let counts = small(10_000, 0x0B1C_0007, |rng| gen::ladder_book(rng, 0, 4));
+    assert!(counts.no_way > 1_000 && counts.detours > 1_500);
+    let counts = small(10_000, 0x0B1C_0008, |rng| gen::ladder_book(rng, 2, 2));
+    assert!(counts.no_way > 1_000 && counts.detours > 500);
 }
 
 /// The greatest set once more, without columns or sleeping rules: every fact is tried by the ledger's own definitions
@@ -152,6 +169,28 @@ fn middle_depots() {
         depots += 1;
     }
     println!("{depots} depots, {plans} plans");
+}
+
+#[test]
+fn tangles_and_ladders() {
+    let mut rng = Rng::new(0x0B1C_0009);
+    let mut plans = 0;
+    for round in 0..6_000 {
+        let draft = match round % 3 {
+            0 => gen::tangled_book(&mut rng, (4, 3, 5)),
+            1 => gen::ladder_book(&mut rng, 6, 16),
+            _ => gen::ladder_book(&mut rng, 0, 16),
+        };
+        let text = draft.text();
+        let book = book::read(&text).expect("a good book");
+        plans += usize::from(same(&book, &text));
+    }
+    for _ in 0..20 {
+        let text = gen::ladder_book(&mut rng, 32, 16).text();
+        let book = book::read(&text).expect("a good book");
+        plans += usize::from(same(&book, &text));
+    }
+    println!("6020 depots, {plans} plans");
 }
 
 /// A query that is aimed at a ledger which a walk has reached has a plan, whatever the size.

@@ -1,6 +1,6 @@
 //! The two methods side by side on one small depot.
 
-use crate::book::{Book, Mode};
+use crate::book::{Book, Fact, Mode, Way};
 
 use super::{closure, demand, search};
 
@@ -52,12 +52,11 @@ impl Counts {
                 if plan.len() < shortest.len() {
                     return Err(format!("closure has {} requests, search {}", plan.len(), shortest.len()));
                 }
-                let deleted = |fact| shortest.iter().any(|r| r.fact == fact && r.way == crate::book::Way::Delete);
+                let deleted = |fact: Fact| shortest.iter().any(|r| r.way == Way::Delete && r.fact == fact);
                 self.plans += 1;
                 self.moved += usize::from(!shortest.is_empty());
-                self.deleting += usize::from(shortest.iter().any(|r| deleted(r.fact)));
-                let detour = |r: &crate::ledger::Request| r.way == crate::book::Way::Add && deleted(r.fact);
-                self.detours += usize::from(shortest.iter().any(detour));
+                self.deleting += usize::from(shortest.iter().any(|r| r.way == Way::Delete));
+                self.detours += usize::from(shortest.iter().any(|r| r.way == Way::Add && deleted(r.fact)));
                 self.as_short += usize::from(plan.len() == shortest.len());
                 self.longest = self.longest.max(shortest.len());
                 Ok(())

@@ -5,7 +5,7 @@
 
 use std::collections::VecDeque;
 
-use crate::book::{Attr, Book, Crew, Fact, Person, Role, Value, Way, ROLES};
+use crate::book::{Attr, Book, Crew, Fact, Person, Role, Rule, Value, Way, ROLES};
 use crate::ledger::{Depot, Ledger, Request};
 
 /// The most facts of a depot, persons all counted, that are searched.
@@ -27,8 +27,11 @@ pub fn shortest(book: &Book) -> Result<Option<Vec<Request>>, TooLarge> {
     }
     let depot = Depot::new(book);
     let requests = requests(book, &facts);
-    let start =
-        facts.iter().enumerate().filter(|(_, fact)| book.facts.contains(fact)).fold(0, |set, (n, _)| set | 1 << n);
+    let start = facts
+        .iter()
+        .enumerate()
+        .filter(|(_, fact)| book.facts.binary_search(fact).is_ok())
+        .fold(0, |set, (n, _)| set | 1 << n);
 
     // How each ledger was first reached: by which request, from which ledger.
     let mut came: Vec<Option<(u32, Option<Request>)>> = vec![None; 1 << facts.len()];
@@ -81,7 +84,7 @@ fn requests(book: &Book, facts: &[Fact]) -> Vec<(u32, Request)> {
     for (n, &fact) in facts.iter().enumerate() {
         for role in (0..ROLES).map(Role).filter(|&role| book.query.has_role(role)) {
             for way in [Way::Add, Way::Delete] {
-                let fits = |rule: &crate::book::Rule| (rule.role, rule.way, rule.what) == (role, way, fact.what());
+                let fits = |rule: &Rule| (rule.role, rule.way, rule.what) == (role, way, fact.what());
                 if book.rules.iter().any(fits) {
                     requests.push((1 << n, Request { role, way, fact }));
                 }
