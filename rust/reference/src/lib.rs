@@ -3,7 +3,7 @@
 //! * [`book`]: characters become a book, or refusal 1-9 with its line.
 //! * [`ledger`]: open, request and show, with refusals 11-13.
 //! * [`replay`]: judges a list of requests, with refusal 14.
-//! * [`plan`]: no way or a plan, with refusal 10; two methods that share no code.
+//! * [`plan`]: no way or a plan, with refusal 10; by two methods.
 //! * [`gen`]: seeded books, ledgers and requests, good and damaged.
 //!
 //! Sentences in quotation marks are the paper's.

@@ -1,7 +1,8 @@
 //! The planner: no way, or a plan.
 //!
-//! Two methods that share nothing but the book: [`search`] tries every ledger of a small depot, [`closure`] serves every
-//! size. [`plan`] uses the second.
+//! Two methods: [`search`] tries every ledger of a small depot by the ledger's definitions, [`closure`] serves every size
+//! with sets of its own. They share the book, with the crews below each crew, and nothing of the ledger but how the
+//! numbers of a set are counted off. [`plan`] uses the second.
 
 use std::fmt;
 use std::fmt::Write as _;
