@@ -1,0 +1,618 @@
+//! The book and its reader.
+//!
+//! "House format: lines of hexadecimal, one frame a line, digits 0-9 and A-F, two a byte, each line ended by byte 0A."
+
+use std::collections::BTreeSet;
+use std::fmt;
+
+/// "At most 65,536 characters."
+pub const MOST_CHARACTERS: usize = 65_536;
+/// "a rule; at most 512, repeats counted."
+pub const MOST_RULES: usize = 512;
+/// "persons 1-64"
+pub const MOST_PERSONS: usize = 64;
+/// "crews 0-32"
+pub const MOST_CREWS: usize = 32;
+/// "attributes 1-8"
+pub const MOST_ATTRS: usize = 8;
+/// "values of each attribute 1-16"
+pub const MOST_VALUES: usize = 16;
+/// "Roles 00-0F, n 0-8."
+pub const ROLES: u8 = 16;
+/// "Roles 00-0F, n 0-8."
+pub const MOST_TERMS: usize = 8;
+
+macro_rules! number {
+    ($(#[$doc:meta])* $name:ident) => {
+        $(#[$doc])*
+        #[derive(Clone, Copy, Debug, PartialEq, Eq, PartialOrd, Ord, Hash)]
+        pub struct $name(pub u8);
+
+        impl $name {
+            /// The number as an index.
+            #[must_use]
+            pub fn index(self) -> usize {
+                usize::from(self.0)
+            }
+        }
+    };
+}
+
+number!(
+    /// "A person's number is never taken for a crew's"
+    Person
+);
+number!(
+    /// "An edge makes one crew the direct senior of another."
+    Crew
+);
+number!(
+    /// "nor an attribute's for a role's."
+    Attr
+);
+number!(
+    /// A value of an attribute.
+    Value
+);
+number!(
+    /// "Administrators' roles are given from outside."
+    Role
+);
+
+/// "**01 P G A V**: persons 1-64, crews 0-32, attributes 1-8, values of each attribute 1-16. All are numbered from 0."
+#[derive(Clone, Copy, Debug, PartialEq, Eq)]
+pub struct Sizes {
+    /// P
+    pub persons: u8,
+    /// G
+    pub crews: u8,
+    /// A
+    pub attrs: u8,
+    /// V
+    pub values: u8,
+}
+
+impl Sizes {
+    /// A person's number, when there is such a person.
+    #[must_use]
+    pub fn person(&self, number: u8) -> Option<Person> {
+        (number < self.persons).then_some(Person(number))
+    }
+
+    /// A crew's number, when there is such a crew.
+    #[must_use]
+    pub fn crew(&self, number: u8) -> Option<Crew> {
+        (number < self.crews).then_some(Crew(number))
+    }
+
+    /// An attribute and one of its values, when both are there.
+    #[must_use]
+    pub fn pair(&self, attr: u8, value: u8) -> Option<(Attr, Value)> {
+        (attr < self.attrs && value < self.values).then_some((Attr(attr), Value(value)))
+    }
+
+    /// Every value of an attribute: a set of sixteen bits.
+    #[must_use]
+    pub fn all_values(&self) -> u16 {
+        u16::MAX >> (16 - self.values)
+    }
+
+    /// Every crew: a set of 32 bits.
+    #[must_use]
+    pub fn all_crews(&self) -> u32 {
+        u32::MAX.checked_shr(32 - u32::from(self.crews)).unwrap_or(0)
+    }
+
+    /// "With F = (1 + G) × A × V + G"
+    #[must_use]
+    pub fn facts(&self) -> usize {
+        let crews = usize::from(self.crews);
+        (1 + crews) * usize::from(self.attrs) * usize::from(self.values) + crews
+    }
+}
+
+/// "A **fact** is one of: person p directly holds value v of attribute a; crew c directly holds v of a; person p is
+/// directly in crew c."
+#[derive(Clone, Copy, Debug, PartialEq, Eq, PartialOrd, Ord, Hash)]
+pub enum Fact {
+    /// Person p directly holds value v of attribute a.
+    PersonHolds(Person, Attr, Value),
+    /// Crew c directly holds v of a.
+    CrewHolds(Crew, Attr, Value),
+    /// Person p is directly in crew c.
+    PersonIn(Person, Crew),
+}
+
+impl Fact {
+    /// The fact without its subject, as a rule names it.
+    #[must_use]
+    pub fn what(self) -> What {
+        match self {
+            Fact::PersonHolds(_, attr, value) => What::OfPerson(attr, value),
+            Fact::CrewHolds(_, attr, value) => What::OfCrew(attr, value),
+            Fact::PersonIn(_, crew) => What::Membership(crew),
+        }
+    }
+}
+
+/// What a rule lets somebody add or delete: a fact whose subject is left open.
+#[derive(Clone, Copy, Debug, PartialEq, Eq, PartialOrd, Ord, Hash)]
+pub enum What {
+    /// A value of a person.
+    OfPerson(Attr, Value),
+    /// A value of a crew.
+    OfCrew(Attr, Value),
+    /// A person's place in a crew.
+    Membership(Crew),
+}
+
+/// The two directions of an op.
+#[derive(Clone, Copy, Debug, PartialEq, Eq, PartialOrd, Ord, Hash)]
+pub enum Way {
+    /// Ops 01, 03 and 05.
+    Add,
+    /// Ops 02, 04 and 06.
+    Delete,
+}
+
+/// "op: 01 add to a person, 02 delete from a person, 03 add to a crew, 04 delete from a crew, 05 assign a person, 06
+/// remove a person. In 05 and 06 a is the crew and v is 00."
+///
+/// Reads op, a and v; nothing when one of them is outside its range.
+#[must_use]
+pub fn deed(sizes: &Sizes, op: u8, a: u8, v: u8) -> Option<(Way, What)> {
+    let way = if op % 2 == 1 { Way::Add } else { Way::Delete };
+    let what = match op {
+        1 | 2 => sizes.pair(a, v).map(|(a, v)| What::OfPerson(a, v)),
+        3 | 4 => sizes.pair(a, v).map(|(a, v)| What::OfCrew(a, v)),
+        5 | 6 if v == 0 => sizes.crew(a).map(What::Membership),
+        _ => None,
+    };
+    what.map(|what| (way, what))
+}
+
+/// The op of a way and a what: the inverse of [`deed`].
+#[must_use]
+pub fn op(way: Way, what: What) -> u8 {
+    let add = match what {
+        What::OfPerson(..) => 1,
+        What::OfCrew(..) => 3,
+        What::Membership(_) => 5,
+    };
+    match way {
+        Way::Add => add,
+        Way::Delete => add + 1,
+    }
+}
+
+/// "A term is **kind a v**, about the person or crew acted on: 01 directly holds, 02 effectively holds; 03 directly in
+/// crew a, 04 effectively in crew a (v is 00; only in ops 05, 06)."
+#[derive(Clone, Copy, Debug, PartialEq, Eq, PartialOrd, Ord, Hash)]
+pub enum Term {
+    /// 01
+    Holds(Attr, Value),
+    /// 02
+    EffectivelyHolds(Attr, Value),
+    /// 03
+    In(Crew),
+    /// 04
+    EffectivelyIn(Crew),
+}
+
+/// "**03 op role a v n, then n terms**: a rule"
+#[derive(Clone, Debug, PartialEq, Eq)]
+pub struct Rule {
+    /// Who may use it.
+    pub role: Role,
+    /// Whether it adds or deletes.
+    pub way: Way,
+    /// What it adds or deletes.
+    pub what: What,
+    /// "all terms hold of the subject before the request"
+    pub terms: Vec<Term>,
+}
+
+/// What the query asks of crews.
+#[derive(Clone, Copy, Debug, PartialEq, Eq)]
+pub enum Mode {
+    /// "**Mode 01** is met when the person effectively holds at least the values in each named set."
+    AtLeast,
+    /// "**Mode 02** is met when the person is directly in exactly the listed crews and effectively holds exactly the
+    /// named set of each named attribute."
+    Exactly {
+        /// The listed crews.
+        crews: u32,
+    },
+}
+
+/// "**05 mode person roles(2) q, then q of attribute set(2)**; mode 02 adds crews(4) at its end."
+#[derive(Clone, Debug, PartialEq, Eq)]
+pub struct Query {
+    /// What meets it.
+    pub mode: Mode,
+    /// Whom it is about.
+    pub person: Person,
+    /// Whose requests count.
+    pub roles: u16,
+    /// "Attributes rise strictly" ... "Attributes not named are free."
+    pub named: Vec<(Attr, u16)>,
+}
+
+impl Query {
+    /// Whether a role is one of the query's: "weight 2^v for number v".
+    #[must_use]
+    pub fn has_role(&self, role: Role) -> bool {
+        self.roles >> role.0 & 1 == 1
+    }
+}
+
+/// An accepted book.
+#[derive(Clone, Debug, PartialEq, Eq)]
+pub struct Book {
+    /// Its first line.
+    pub sizes: Sizes,
+    /// "**02 s j**: crew s is direct senior of crew j"; senior first.
+    pub edges: BTreeSet<(Crew, Crew)>,
+    /// The rules as they stand in the book, repeats too.
+    pub rules: Vec<Rule>,
+    /// "**04 k s a v**: a starting fact."; in rising order, each once.
+    pub facts: Vec<Fact>,
+    /// Its last line.
+    pub query: Query,
+}
+
+impl Book {
+    /// For each crew the set of the crews reached from it downwards by edges, itself among them.
+    ///
+    /// "j must be the smaller number", so one walk upwards finds them all.
+    #[must_use]
+    pub fn below(&self) -> [u32; MOST_CREWS] {
+        let mut below = [0; MOST_CREWS];
+        for (crew, set) in below.iter_mut().enumerate() {
+            *set = 1 << crew;
+        }
+        // Edges stand in order of their seniors.
+        for &(senior, junior) in &self.edges {
+            below[senior.index()] |= below[junior.index()];
+        }
+        below
+    }
+}
+
+/// Refusals 1 to 9 of the table.
+#[derive(Clone, Copy, Debug, PartialEq, Eq, PartialOrd, Ord, Hash)]
+pub enum Fault {
+    /// "over 65,536 characters"
+    TooLong = 1,
+    /// "empty line, odd digits, another character, last line unended"
+    Characters = 2,
+    /// "first frame not 01, a later 01, kind not 01-05, a frame after 05, book ends without 05 (line after the last)"
+    Kind = 3,
+    /// "any length but the one that the kind, with its n or q, gives"
+    Length = 4,
+    /// "a field outside its range, n over 8, q over 8, a set bit outside the sizes"
+    Range = 5,
+    /// "j not smaller than s"
+    Edge = 6,
+    /// "term 03 or 04 in ops 01-04"
+    Term = 7,
+    /// "the 513th rule"
+    TooManyRules = 8,
+    /// "query attributes not rising"
+    NotRising = 9,
+}
+
+/// "Each returns its number, and 1-9 a line (1 for refusal 1: line 0)"
+#[derive(Clone, Copy, Debug, PartialEq, Eq)]
+pub struct Refusal {
+    /// Which of 1 to 9.
+    pub fault: Fault,
+    /// The line, counted from 1; 0 for [`Fault::TooLong`].
+    pub line: usize,
+}
+
+impl Refusal {
+    /// The refusal's number in the table.
+    #[must_use]
+    pub fn number(&self) -> u8 {
+        self.fault as u8
+    }
+}
+
+impl fmt::Display for Refusal {
+    fn fmt(&self, f: &mut fmt::Formatter<'_>) -> fmt::Result {
+        write!(f, "refusal {} on line {}", self.number(), self.line)
+    }
+}
+
+impl std::error::Error for Refusal {}
+
+/// Reads a book.
+///
+/// "Order: 1; then the earliest bad line, and in a line the lowest of 2-9".
+///
+/// # Errors
+///
+/// The one refusal of 1 to 9 that falls on the characters.
+pub fn read(characters: &[u8]) -> Result<Book, Refusal> {
+    if characters.len() > MOST_CHARACTERS {
+        return Err(Refusal { fault: Fault::TooLong, line: 0 });
+    }
+    let mut reader = Reader::default();
+    let mut frame = Vec::new();
+    let mut lines = 0;
+    for line in characters.split_inclusive(|&c| c == b'\n') {
+        lines += 1;
+        bytes(line, &mut frame).and_then(|()| reader.frame(&frame)).map_err(|fault| Refusal { fault, line: lines })?;
+    }
+    reader.book().ok_or(Refusal { fault: Fault::Kind, line: lines + 1 })
+}
+
+/// Puts the bytes that a line's digits write into a frame.
+fn bytes(line: &[u8], frame: &mut Vec<u8>) -> Result<(), Fault> {
+    let Some((b'\n', digits)) = line.split_last() else {
+        return Err(Fault::Characters);
+    };
+    if digits.is_empty() || !digits.len().is_multiple_of(2) {
+        return Err(Fault::Characters);
+    }
+    frame.clear();
+    for two in digits.chunks_exact(2) {
+        let (Some(high), Some(low)) = (digit(two[0]), digit(two[1])) else {
+            return Err(Fault::Characters);
+        };
+        frame.push(high << 4 | low);
+    }
+    Ok(())
+}
+
+fn digit(character: u8) -> Option<u8> {
+    match character {
+        b'0'..=b'9' => Some(character - b'0'),
+        b'A'..=b'F' => Some(character - b'A' + 10),
+        _ => None,
+    }
+}
+
+/// What the lines read so far have given.
+#[derive(Default)]
+struct Reader {
+    sizes: Option<Sizes>,
+    edges: BTreeSet<(Crew, Crew)>,
+    rules: Vec<Rule>,
+    facts: Vec<Fact>,
+    query: Option<Query>,
+}
+
+impl Reader {
+    fn book(mut self) -> Option<Book> {
+        self.facts.sort_unstable();
+        self.facts.dedup();
+        Some(Book { sizes: self.sizes?, edges: self.edges, rules: self.rules, facts: self.facts, query: self.query? })
+    }
+
+    fn frame(&mut self, frame: &[u8]) -> Result<(), Fault> {
+        if self.query.is_some() {
+            return Err(Fault::Kind);
+        }
+        match (self.sizes, frame[0]) {
+            (None, 1) => {
+                self.sizes = Some(sizes(frame)?);
+            }
+            (Some(sizes), 2) => {
+                self.edges.insert(edge(&sizes, frame)?);
+            }
+            (Some(sizes), 3) => {
+                let rule = rule(&sizes, frame)?;
+                if self.rules.len() == MOST_RULES {
+                    return Err(Fault::TooManyRules);
+                }
+                self.rules.push(rule);
+            }
+            (Some(sizes), 4) => {
+                self.facts.push(fact(&sizes, frame)?);
+            }
+            (Some(sizes), 5) => {
+                self.query = Some(query(&sizes, frame)?);
+            }
+            _ => return Err(Fault::Kind),
+        }
+        Ok(())
+    }
+}
+
+fn sizes(frame: &[u8]) -> Result<Sizes, Fault> {
+    let &[_, persons, crews, attrs, values] = frame else {
+        return Err(Fault::Length);
+    };
+    let good = (1..=MOST_PERSONS).contains(&persons.into())
+        && usize::from(crews) <= MOST_CREWS
+        && (1..=MOST_ATTRS).contains(&attrs.into())
+        && (1..=MOST_VALUES).contains(&values.into());
+    good.then_some(Sizes { persons, crews, attrs, values }).ok_or(Fault::Range)
+}
+
+fn edge(sizes: &Sizes, frame: &[u8]) -> Result<(Crew, Crew), Fault> {
+    let &[_, senior, junior] = frame else {
+        return Err(Fault::Length);
+    };
+    let senior = sizes.crew(senior).ok_or(Fault::Range)?;
+    let junior = sizes.crew(junior).ok_or(Fault::Range)?;
+    (junior < senior).then_some((senior, junior)).ok_or(Fault::Edge)
+}
+
+fn rule(sizes: &Sizes, frame: &[u8]) -> Result<Rule, Fault> {
+    let &[_, op, role, a, v, n, ref terms @ ..] = frame else {
+        return Err(Fault::Length);
+    };
+    let n = usize::from(n);
+    if terms.len() != 3 * n {
+        return Err(Fault::Length);
+    }
+    if n > MOST_TERMS || role >= ROLES {
+        return Err(Fault::Range);
+    }
+    let (way, what) = deed(sizes, op, a, v).ok_or(Fault::Range)?;
+    let terms = terms
+        .chunks_exact(3)
+        .map(|t| term(sizes, t[0], t[1], t[2]))
+        .collect::<Option<Vec<Term>>>()
+        .ok_or(Fault::Range)?;
+    let about_crews = |term: &Term| matches!(term, Term::In(_) | Term::EffectivelyIn(_));
+    if !matches!(what, What::Membership(_)) && terms.iter().any(about_crews) {
+        return Err(Fault::Term);
+    }
+    Ok(Rule { role: Role(role), way, what, terms })
+}
+
+fn term(sizes: &Sizes, kind: u8, a: u8, v: u8) -> Option<Term> {
+    match kind {
+        1 => sizes.pair(a, v).map(|(a, v)| Term::Holds(a, v)),
+        2 => sizes.pair(a, v).map(|(a, v)| Term::EffectivelyHolds(a, v)),
+        3 if v == 0 => sizes.crew(a).map(Term::In),
+        4 if v == 0 => sizes.crew(a).map(Term::EffectivelyIn),
+        _ => None,
+    }
+}
+
+/// "k 01: person s holds v of a. k 02: crew s does. k 03: person s is in crew a, v 00."
+fn fact(sizes: &Sizes, frame: &[u8]) -> Result<Fact, Fault> {
+    let &[_, kind, s, a, v] = frame else {
+        return Err(Fault::Length);
+    };
+    let fact = match kind {
+        1 => sizes.person(s).zip(sizes.pair(a, v)).map(|(p, (a, v))| Fact::PersonHolds(p, a, v)),
+        2 => sizes.crew(s).zip(sizes.pair(a, v)).map(|(c, (a, v))| Fact::CrewHolds(c, a, v)),
+        3 if v == 0 => sizes.person(s).zip(sizes.crew(a)).map(|(p, c)| Fact::PersonIn(p, c)),
+        _ => None,
+    };
+    fact.ok_or(Fault::Range)
+}
+
+/// "For 4, a 05 frame of unknown mode has the length of mode 01."
+fn query(sizes: &Sizes, frame: &[u8]) -> Result<Query, Fault> {
+    let &[_, mode, person, r1, r0, q, ref rest @ ..] = frame else {
+        return Err(Fault::Length);
+    };
+    let q = usize::from(q);
+    if rest.len() != 3 * q + if mode == 2 { 4 } else { 0 } {
+        return Err(Fault::Length);
+    }
+    let (sets, crews) = rest.split_at(3 * q);
+    let named: Vec<(Attr, u16)> =
+        sets.chunks_exact(3).map(|t| (Attr(t[0]), u16::from_be_bytes([t[1], t[2]]))).collect();
+    let outside = |&(attr, set): &(Attr, u16)| attr.0 >= sizes.attrs || set & !sizes.all_values() != 0;
+    if q > MOST_ATTRS || named.iter().any(outside) {
+        return Err(Fault::Range);
+    }
+    let person = sizes.person(person).ok_or(Fault::Range)?;
+    let mode = match (mode, crews) {
+        (1, _) => Mode::AtLeast,
+        (2, &[c3, c2, c1, c0]) => Mode::Exactly { crews: u32::from_be_bytes([c3, c2, c1, c0]) },
+        _ => return Err(Fault::Range),
+    };
+    if matches!(mode, Mode::Exactly { crews } if crews & !sizes.all_crews() != 0) {
+        return Err(Fault::Range);
+    }
+    if named.windows(2).any(|two| two[0].0 >= two[1].0) {
+        return Err(Fault::NotRising);
+    }
+    Ok(Query { mode, person, roles: u16::from_be_bytes([r1, r0]), named })
+}
+
+#[cfg(test)]
+mod tests {
+    use super::*;
+
+    /// The paper's example book.
+    const EXAMPLE: &str = "0101010102\n030100000100\n030501000001010001\n0402000000\n050100000301000001\n";
+
+    fn refused(characters: &str) -> (u8, usize) {
+        let refusal = read(characters.as_bytes()).expect_err("a refused book");
+        (refusal.number(), refusal.line)
+    }
+
+    #[test]
+    fn the_example_book() {
+        let book = read(EXAMPLE.as_bytes()).expect("accepted");
+        assert_eq!(book.sizes, Sizes { persons: 1, crews: 1, attrs: 1, values: 2 });
+        assert_eq!(book.sizes.facts(), 5);
+        assert!(book.edges.is_empty());
+        let add = Rule { role: Role(0), way: Way::Add, what: What::OfPerson(Attr(0), Value(1)), terms: vec![] };
+        let assign = Rule {
+            role: Role(1),
+            way: Way::Add,
+            what: What::Membership(Crew(0)),
+            terms: vec![Term::Holds(Attr(0), Value(1))],
+        };
+        assert_eq!(book.rules, [add, assign]);
+        assert_eq!(book.facts, [Fact::CrewHolds(Crew(0), Attr(0), Value(0))]);
+        let query = Query { mode: Mode::AtLeast, person: Person(0), roles: 3, named: vec![(Attr(0), 1)] };
+        assert_eq!(book.query, query);
+    }
+
+    #[test]
+    fn the_tables_examples() {
+        let long = vec![b'0'; MOST_CHARACTERS + 1];
+        assert_eq!(read(&long), Err(Refusal { fault: Fault::TooLong, line: 0 }));
+        assert_eq!(refused("0101010102\n03 1\n"), (2, 2));
+        assert_eq!(refused("03 1\n"), (2, 1));
+        assert_eq!(refused(""), (3, 1));
+        assert_eq!(refused("0101010102\n0200\n"), (4, 2));
+        assert_eq!(refused("0100010102\n"), (5, 1));
+        assert_eq!(refused("0101010102\n020000\n"), (6, 2));
+        assert_eq!(refused("0101010102\n030100000001030000\n"), (7, 2));
+        let rules = "030100000000\n".repeat(513);
+        assert_eq!(refused(&format!("0101010102\n{rules}")), (8, 514));
+        assert_eq!(refused("0101010102\n0501000000020000000000000\n"), (2, 2));
+        assert_eq!(refused("0101010102\n050100000002000000000000\n"), (9, 2));
+    }
+
+    #[test]
+    fn lines() {
+        assert_eq!(refused("\n"), (2, 1));
+        assert_eq!(refused("0101010102"), (2, 1));
+        assert_eq!(refused("0101010102\n"), (3, 2));
+        assert_eq!(refused("0101010102\n050100000000\n020000\n"), (3, 3));
+        assert_eq!(refused("0101010102\n050100000000\n02000\n"), (2, 3));
+        assert_eq!(refused("0101010102\n050100000000\n\n"), (2, 3));
+        assert_eq!(refused("0101010102\r\n"), (2, 1));
+        assert_eq!(refused("010101010a\n"), (2, 1));
+    }
+
+    #[test]
+    fn the_lowest_in_a_line() {
+        // A later 01 of a wrong length; nine terms written and not written; a query of an unknown mode.
+        assert_eq!(refused("0101010102\n0101\n"), (3, 2));
+        let nine = "010000".repeat(9);
+        assert_eq!(refused(&format!("0101010102\n030100000009{nine}\n")), (5, 2));
+        assert_eq!(refused(&format!("0101010102\n030100000009{}\n", &nine[6..])), (4, 2));
+        assert_eq!(refused("0101010102\n050300000000\n"), (5, 2));
+        assert_eq!(refused("0101010102\n05030000000000000000\n"), (4, 2));
+        assert_eq!(refused("0101000102\n050200000000\n"), (4, 2));
+        assert!(read(b"0101000102\n05020000000000000000\n").is_ok());
+        // Range before 6, 7 and 9.
+        assert_eq!(refused("0101000102\n020000\n"), (5, 2));
+        assert_eq!(refused("0101010102\n030100000001030001\n"), (5, 2));
+        assert_eq!(refused("0101010102\n050101000002000000000000\n"), (5, 2));
+        // Rules about crews name no crew.
+        assert!(read(b"0101000102\n030300000000\n050100000000\n").is_ok());
+    }
+
+    #[test]
+    fn sizes_give_sets() {
+        let sizes = |crews, values| Sizes { persons: 1, crews, attrs: 1, values };
+        assert_eq!(sizes(0, 1).all_crews(), 0);
+        assert_eq!(sizes(31, 1).all_crews(), u32::MAX >> 1);
+        assert_eq!(sizes(32, 1).all_crews(), u32::MAX);
+        assert_eq!(sizes(0, 1).all_values(), 1);
+        assert_eq!(sizes(0, 16).all_values(), u16::MAX);
+        assert_eq!(Sizes { persons: 64, crews: 32, attrs: 8, values: 16 }.facts(), 4_256);
+    }
+
+    #[test]
+    fn below_follows_edges_downwards() {
+        let book = read(b"0101040101\n020302\n020201\n020200\n050100000000\n").expect("accepted");
+        assert_eq!(book.below()[..4], [0b0001, 0b0010, 0b0111, 0b1111]);
+    }
+}

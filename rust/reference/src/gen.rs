@@ -1,0 +1,696 @@
+//! Seeded books, ledgers, requests and lists, good and damaged.
+//!
+//! A damage is aimed at one number of the table; the expected line is given with it.
+
+use crate::book::{op, read, Attr, Book, Crew, Fact, Person, Role, Sizes, Value, Way, What};
+use crate::book::{MOST_CHARACTERS, MOST_RULES, ROLES};
+use crate::ledger::{Depot, Ledger, Request, LEDGER_BYTES, REQUEST_BYTES};
+
+/// A small xorshift generator; the same seed gives the same numbers on every machine.
+#[derive(Clone, Debug)]
+pub struct Rng(u64);
+
+impl Rng {
+    /// A generator from a seed.
+    #[must_use]
+    pub fn new(seed: u64) -> Self {
+        // Spread the seed's bits, and keep off zero, which xorshift never leaves.
+        Rng((seed ^ 0x9E37_79B9_7F4A_7C15).wrapping_mul(0xBF58_476D_1CE4_E5B9) | 1)
+    }
+
+    /// The next 64 bits.
+    pub fn bits(&mut self) -> u64 {
+        self.0 ^= self.0 >> 12;
+        self.0 ^= self.0 << 25;
+        self.0 ^= self.0 >> 27;
+        self.0.wrapping_mul(0x2545_F491_4F6C_DD1D)
+    }
+
+    /// A number below `end`, which is not 0.
+    pub fn below(&mut self, end: usize) -> usize {
+        ((self.bits() >> 32) as usize) % end
+    }
+
+    /// A byte in `first..=last`.
+    pub fn byte(&mut self, first: u8, last: u8) -> u8 {
+        first + self.below(usize::from(last - first) + 1) as u8
+    }
+
+    /// True so many times in a hundred.
+    pub fn percent(&mut self, times: usize) -> bool {
+        self.below(100) < times
+    }
+
+    /// One of several.
+    pub fn pick<T: Copy>(&mut self, from: &[T]) -> T {
+        from[self.below(from.len())]
+    }
+}
+
+/// A book as its frames, the first and the last among them.
+#[derive(Clone, Debug)]
+pub struct Draft {
+    /// The sizes in its first frame.
+    pub sizes: Sizes,
+    /// All frames.
+    pub frames: Vec<Vec<u8>>,
+}
+
+/// The line of a frame.
+fn line(frame: &[u8]) -> Vec<u8> {
+    const DIGITS: &[u8; 16] = b"0123456789ABCDEF";
+    let digits = frame.iter().flat_map(|byte| [DIGITS[usize::from(byte >> 4)], DIGITS[usize::from(byte & 15)]]);
+    digits.chain([b'\n']).collect()
+}
+
+impl Draft {
+    /// The book's characters.
+    #[must_use]
+    pub fn text(&self) -> Vec<u8> {
+        self.frames.iter().flat_map(|frame| line(frame)).collect()
+    }
+
+    /// The same book with another query.
+    pub fn ask(&mut self, query: Vec<u8>) {
+        if let Some(last) = self.frames.last_mut() {
+            *last = query;
+        }
+    }
+
+    /// Puts a frame anywhere between the first and the last; gives its line.
+    fn put(&mut self, rng: &mut Rng, frame: Vec<u8>) -> usize {
+        let at = 1 + rng.below(self.frames.len() - 1);
+        self.frames.insert(at, frame);
+        at + 1
+    }
+}
+
+/// How much of everything a book has.
+#[derive(Clone, Copy, Debug)]
+pub struct Shape {
+    /// The sizes.
+    pub sizes: Sizes,
+    /// Edges, when there are two crews or more.
+    pub edges: usize,
+    /// Rules.
+    pub rules: usize,
+    /// Terms of a rule, at most.
+    pub terms: u8,
+    /// Starting facts.
+    pub facts: usize,
+    /// Roles in use.
+    pub roles: u8,
+}
+
+/// A small depot, of at most twelve facts with all persons counted.
+pub fn small_book(rng: &mut Rng) -> Draft {
+    loop {
+        let sizes =
+            Sizes { persons: rng.byte(1, 2), crews: rng.byte(0, 3), attrs: rng.byte(1, 2), values: rng.byte(1, 3) };
+        let (p, g) = (usize::from(sizes.persons), usize::from(sizes.crews));
+        let facts = (p + g) * usize::from(sizes.attrs) * usize::from(sizes.values) + p * g;
+        if facts <= 12 {
+            let shape = Shape {
+                sizes,
+                edges: rng.below(4),
+                rules: 1 + rng.below(3 * facts + 4),
+                terms: rng.byte(0, 3),
+                facts: rng.below(facts + 1),
+                roles: 3,
+            };
+            return book(rng, &shape);
+        }
+    }
+}
+
+/// A small depot whose query is aimed at a ledger that can be reached, and half the time then missed by one value.
+pub fn small_aimed_book(rng: &mut Rng) -> Draft {
+    let mut draft = small_book(rng);
+    let Ok(book) = read(&draft.text()) else {
+        return draft;
+    };
+    let steps = rng.below(60);
+    let ledger = walk(rng, &book, steps);
+    aim(rng, &mut draft, &book, &ledger);
+    if let Some(query) = draft.frames.last_mut() {
+        if query[5] > 0 && rng.percent(50) {
+            query[8] ^= 1 << rng.below(draft.sizes.values.into());
+        }
+    }
+    draft
+}
+
+/// A depot of a few persons, crews and attributes.
+pub fn middle_book(rng: &mut Rng) -> Draft {
+    let sizes = Sizes { persons: rng.byte(1, 4), crews: rng.byte(0, 7), attrs: rng.byte(1, 4), values: rng.byte(1, 6) };
+    let shape = Shape {
+        sizes,
+        edges: rng.below(12),
+        rules: rng.below(90),
+        terms: rng.byte(0, 4),
+        facts: rng.below(40),
+        roles: 5,
+    };
+    book(rng, &shape)
+}
+
+/// A depot in which much can be added and deletions rest on much: what is stuck comes to light over many rounds.
+///
+/// `most` bounds crews, attributes and values.
+pub fn tangled_book(rng: &mut Rng, most: (u8, u8, u8)) -> Draft {
+    let sizes =
+        Sizes { persons: 1, crews: rng.byte(0, most.0), attrs: rng.byte(1, most.1), values: rng.byte(1, most.2) };
+    let facts = sizes.facts();
+    let shape = Shape { sizes, edges: rng.below(6), rules: 0, terms: 0, facts: 0, roles: 2 };
+    let mut draft = book(rng, &shape);
+    let rules = (2 * facts + rng.below(3 * facts + 1)).min(MOST_RULES);
+    for _ in 0..rules {
+        let terms = rng.byte(1, 2);
+        let mut frame = rule(rng, &Shape { terms, ..shape });
+        // A deletion seldom goes without a term.
+        if frame[1].is_multiple_of(2) && frame[5] == 0 && rng.percent(70) {
+            frame[5] = 1;
+            frame.extend([rng.byte(1, 2), rng.byte(0, sizes.attrs - 1), rng.byte(0, sizes.values - 1)]);
+        }
+        draft.put(rng, frame);
+    }
+    if rng.percent(30) {
+        let frame = fact(rng, &sizes);
+        draft.put(rng, frame);
+    }
+    let mut query = vec![5, 2, 0, 0xFF, 0xFF, sizes.attrs];
+    for attr in 0..sizes.attrs {
+        let set = if rng.percent(70) { 0 } else { 1 << rng.below(sizes.values.into()) };
+        query.push(attr);
+        query.extend(u16::to_be_bytes(set));
+    }
+    let crews = if rng.percent(50) { rng.bits() as u32 & sizes.all_crews() } else { 0 };
+    query.extend(crews.to_be_bytes());
+    draft.ask(query);
+    draft
+}
+
+/// A ladder of values of attributes 0 and 1, of a person or of crews: one that must go again lets in one that may stay,
+/// which lets in the next; to delete the first takes the rung above. What is stuck comes to light rung by rung, from the
+/// top down; here and there an odd rule stops that. A value of attribute 2 rests on some rung and is wanted.
+pub fn ladder_book(rng: &mut Rng, crews: u8, rungs: u8) -> Draft {
+    let sizes = Sizes { persons: 1, crews: rng.byte(0, crews), attrs: 3, values: rng.byte(1, rungs) };
+    let on_crews = sizes.crews > 0 && rng.percent(70);
+    let (add, delete) = if on_crews { (3, 4) } else { (1, 2) };
+    let kind = rng.byte(1, 2);
+    let top = sizes.values - 1;
+    let mut frames = Vec::new();
+    for n in 0..=top {
+        frames.push(if n == 0 { vec![3, add, 0, 0, 0, 0] } else { vec![3, add, 0, 0, n, 1, kind, 1, n - 1] });
+        frames.push(vec![3, add, 0, 1, n, 1, kind, 0, n]);
+        if n < top {
+            frames.push(vec![3, delete, 0, 0, n, 1, kind, 1, n + 1]);
+        }
+        if n == top && rng.percent(40) || rng.percent(8) {
+            frames.push(vec![3, delete, 0, 0, n, 0]);
+        }
+    }
+    frames.push(vec![3, add, 0, 2, 0, 1, kind, 1, rng.byte(0, top)]);
+    let odd = Shape { sizes, edges: 0, rules: 0, terms: 2, facts: 0, roles: 1 };
+    for _ in 0..rng.below(4) {
+        frames.push(rule(rng, &odd));
+    }
+    if rng.percent(20) {
+        frames.push(fact(rng, &sizes));
+    }
+    if sizes.crews > 0 {
+        frames.push(vec![4, 3, 0, sizes.crews - 1, 0]);
+        (1..sizes.crews).for_each(|senior| frames.push(vec![2, senior, rng.byte(0, senior - 1)]));
+    }
+    frames.insert(0, vec![1, 1, sizes.crews, 3, sizes.values]);
+    let mut query = vec![5, 2, 0, 0, 1, 2, 0, 0, 0, 2, 0, rng.byte(0, 1)];
+    query.extend(sizes.crews.checked_sub(1).map_or(0, |last| 1_u32 << last).to_be_bytes());
+    frames.push(query);
+    Draft { sizes, frames }
+}
+
+/// A depot of any size up to the largest.
+pub fn large_book(rng: &mut Rng) -> Draft {
+    let largest = rng.percent(30);
+    let sizes = if largest {
+        Sizes { persons: 64, crews: 32, attrs: 8, values: 16 }
+    } else {
+        Sizes { persons: rng.byte(1, 64), crews: rng.byte(0, 32), attrs: rng.byte(1, 8), values: rng.byte(1, 16) }
+    };
+    let shape = Shape {
+        sizes,
+        edges: rng.pick(&[0, 8, 30, 100]),
+        rules: 1 + rng.below(MOST_RULES),
+        terms: rng.byte(1, 4),
+        facts: 1 + rng.below(900),
+        roles: ROLES,
+    };
+    book(rng, &shape)
+}
+
+/// A book of a shape, with a query of either mode.
+pub fn book(rng: &mut Rng, shape: &Shape) -> Draft {
+    let sizes = shape.sizes;
+    let mut frames = Vec::new();
+    if sizes.crews >= 2 {
+        for _ in 0..shape.edges {
+            let senior = rng.byte(1, sizes.crews - 1);
+            frames.push(vec![2, senior, rng.byte(0, senior - 1)]);
+        }
+    }
+    for _ in 0..shape.rules {
+        frames.push(rule(rng, shape));
+    }
+    for _ in 0..shape.facts {
+        frames.push(fact(rng, &sizes));
+    }
+    // "Frames 02, 03, 04 come in any order"
+    for end in (1..frames.len()).rev() {
+        frames.swap(end, rng.below(end + 1));
+    }
+    frames.insert(0, vec![1, sizes.persons, sizes.crews, sizes.attrs, sizes.values]);
+    frames.push(query(rng, shape));
+    Draft { sizes, frames }
+}
+
+fn rule(rng: &mut Rng, shape: &Shape) -> Vec<u8> {
+    let sizes = &shape.sizes;
+    let op = rng.byte(1, if sizes.crews == 0 { 4 } else { 6 });
+    let n = rng.byte(0, shape.terms);
+    let mut frame = vec![3, op, rng.byte(0, shape.roles - 1)];
+    if op < 5 {
+        frame.extend([rng.byte(0, sizes.attrs - 1), rng.byte(0, sizes.values - 1)]);
+    } else {
+        frame.extend([rng.byte(0, sizes.crews - 1), 0]);
+    }
+    frame.push(n);
+    for _ in 0..n {
+        let kind = rng.byte(1, if op < 5 { 2 } else { 4 });
+        frame.push(kind);
+        if kind < 3 {
+            frame.extend([rng.byte(0, sizes.attrs - 1), rng.byte(0, sizes.values - 1)]);
+        } else {
+            frame.extend([rng.byte(0, sizes.crews - 1), 0]);
+        }
+    }
+    frame
+}
+
+fn fact(rng: &mut Rng, sizes: &Sizes) -> Vec<u8> {
+    let kind = if sizes.crews == 0 { 1 } else { rng.byte(1, 3) };
+    match kind {
+        1 => vec![4, 1, rng.byte(0, sizes.persons - 1), rng.byte(0, sizes.attrs - 1), rng.byte(0, sizes.values - 1)],
+        2 => vec![4, 2, rng.byte(0, sizes.crews - 1), rng.byte(0, sizes.attrs - 1), rng.byte(0, sizes.values - 1)],
+        _ => vec![4, 3, rng.byte(0, sizes.persons - 1), rng.byte(0, sizes.crews - 1), 0],
+    }
+}
+
+fn query(rng: &mut Rng, shape: &Shape) -> Vec<u8> {
+    let sizes = &shape.sizes;
+    let mode = if rng.percent(70) { 2 } else { 1 };
+    let roles = if rng.percent(60) { u16::MAX } else { rng.bits() as u16 };
+    let mut frame = vec![5, mode, rng.byte(0, sizes.persons - 1)];
+    frame.extend(roles.to_be_bytes());
+    let mut named = Vec::new();
+    for attr in 0..sizes.attrs {
+        if rng.percent(if sizes.attrs > 2 { 30 } else { 70 }) {
+            let dense = rng.percent(50);
+            let set = (rng.bits() as u16) & (if dense { u16::MAX } else { rng.bits() as u16 }) & sizes.all_values();
+            named.push((attr, set));
+        }
+    }
+    frame.push(named.len() as u8);
+    for (attr, set) in named {
+        frame.push(attr);
+        frame.extend(set.to_be_bytes());
+    }
+    if mode == 2 {
+        let crews = (rng.bits() as u32) & (rng.bits() as u32) & sizes.all_crews();
+        frame.extend(crews.to_be_bytes());
+    }
+    frame
+}
+
+/// Walks from the starting facts by permitted requests of all roles, on the query's person and the crews.
+pub fn walk(rng: &mut Rng, book: &Book, steps: usize) -> Ledger {
+    let depot = Depot::new(book);
+    let mut ledger = Ledger::start(book);
+    if book.rules.is_empty() {
+        return ledger;
+    }
+    for _ in 0..steps {
+        let rule = &book.rules[rng.below(book.rules.len())];
+        let crew = |rng: &mut Rng| Crew(rng.byte(0, book.sizes.crews - 1));
+        let person = book.query.person;
+        let fact = match rule.what {
+            What::OfPerson(a, v) => Fact::PersonHolds(person, a, v),
+            What::OfCrew(..) if book.sizes.crews == 0 => continue,
+            What::OfCrew(a, v) => Fact::CrewHolds(crew(rng), a, v),
+            What::Membership(c) => Fact::PersonIn(person, c),
+        };
+        let request = Request { role: rule.role, way: rule.way, fact };
+        if depot.permits(&ledger, &request) {
+            request.carry_out(&mut ledger);
+        }
+    }
+    ledger
+}
+
+/// Asks, by mode 02 and with all roles, for what the query's person has in a ledger: every attribute of a random choice.
+pub fn aim(rng: &mut Rng, draft: &mut Draft, book: &Book, ledger: &Ledger) {
+    let depot = Depot::new(book);
+    let person = book.query.person;
+    let mut sets = Vec::new();
+    for attr in 0..book.sizes.attrs {
+        if rng.percent(60) {
+            sets.push((attr, depot.person_set(ledger, person, Attr(attr))));
+        }
+    }
+    let mut frame = vec![5, 2, person.0, 0xFF, 0xFF, sets.len() as u8];
+    for (attr, set) in sets {
+        frame.push(attr);
+        frame.extend(set.to_be_bytes());
+    }
+    frame.extend(ledger.memberships(person).to_be_bytes());
+    draft.ask(frame);
+}
+
+/// A book on which the refusal of this number, 1 to 9, falls, and its line; nothing when the sizes leave no room for it.
+///
+/// # Panics
+///
+/// On a number outside 1 to 9.
+pub fn damaged_book(rng: &mut Rng, number: u8, draft: &Draft) -> Option<(Vec<u8>, usize)> {
+    let mut draft = draft.clone();
+    match number {
+        1 => {
+            let mut text = draft.text();
+            let length = MOST_CHARACTERS + 1 + rng.below(40);
+            text.resize(length.max(text.len()), b'0');
+            Some((text, 0))
+        }
+        2 => Some(bad_characters(rng, &draft)),
+        3 => Some(bad_kind(rng, &mut draft)),
+        4 => {
+            let at = rng.below(draft.frames.len());
+            let frame = &mut draft.frames[at];
+            if rng.percent(50) {
+                frame.push(rng.byte(0, 3));
+            } else {
+                frame.pop();
+            }
+            Some((draft.text(), at + 1))
+        }
+        5 => Some(bad_range(rng, &mut draft)),
+        6 => {
+            let last = draft.sizes.crews.checked_sub(1)?;
+            let junior = rng.byte(0, last);
+            let at = draft.put(rng, vec![2, 0, junior]);
+            draft.frames[at - 1][1] = rng.byte(0, junior);
+            Some((draft.text(), at))
+        }
+        7 => {
+            let last = draft.sizes.crews.checked_sub(1)?;
+            let mut frame = vec![3, rng.byte(1, 4), rng.byte(0, 15), 0, 0, 2, 1, 0, 0];
+            let at = rng.pick(&[6, 9]);
+            frame.splice(at..at, [rng.byte(3, 4), rng.byte(0, last), 0]);
+            let at = draft.put(rng, frame);
+            Some((draft.text(), at))
+        }
+        8 => {
+            while draft.frames.iter().filter(|frame| frame[0] == 3).count() <= MOST_RULES {
+                let frame = vec![3, rng.byte(1, 4), rng.byte(0, 15), 0, 0, 0];
+                draft.put(rng, frame);
+            }
+            let rules = draft.frames.iter().enumerate().filter(|(_, frame)| frame[0] == 3);
+            let at = rules.map(|(at, _)| at + 1).nth(MOST_RULES)?;
+            Some((draft.text(), at))
+        }
+        9 => {
+            let (first, second) = (rng.byte(0, draft.sizes.attrs - 1), rng.byte(0, draft.sizes.attrs - 1));
+            let (first, second) = (first.max(second), first.min(second));
+            draft.ask(vec![5, 1, 0, 0, 0, 2, first, 0, 1, second, 0, 0]);
+            Some((draft.text(), draft.frames.len()))
+        }
+        _ => panic!("the table gives a line for 1 to 9 alone"),
+    }
+}
+
+fn bad_characters(rng: &mut Rng, draft: &Draft) -> (Vec<u8>, usize) {
+    let mut lines: Vec<Vec<u8>> = draft.frames.iter().map(|frame| line(frame)).collect();
+    let at = rng.below(lines.len());
+    match rng.below(5) {
+        0 => lines[at] = b"\n".to_vec(),
+        1 => {
+            lines[at].remove(0);
+        }
+        2 => {
+            let place = rng.below(lines[at].len() - 1);
+            lines[at][place] = rng.pick(b" \r\t\0/:@G`afx\xFF");
+        }
+        3 => {
+            let last = lines.len();
+            lines[last - 1].pop();
+            return (lines.concat(), last);
+        }
+        _ => {
+            lines.push(rng.pick(&[&b"0"[..], b"00", b"x", b"\n", b"0200 0\n"]).to_vec());
+            return (lines.concat(), draft.frames.len() + 1);
+        }
+    }
+    (lines.concat(), at + 1)
+}
+
+fn bad_kind(rng: &mut Rng, draft: &mut Draft) -> (Vec<u8>, usize) {
+    let at = match rng.below(5) {
+        0 => {
+            draft.frames[0][0] = rng.pick(&[0, 2, 3, 4, 5, 6, 255]);
+            1
+        }
+        1 => {
+            let first = draft.frames[0].clone();
+            draft.put(rng, first)
+        }
+        2 => {
+            let frame = vec![rng.pick(&[0, 6, 7, 16, 0x81, 255]), 0, 0];
+            draft.put(rng, frame)
+        }
+        3 => {
+            let frame = draft.frames[rng.below(draft.frames.len())].clone();
+            draft.frames.push(frame);
+            draft.frames.len()
+        }
+        _ => {
+            draft.frames.pop();
+            draft.frames.len() + 1
+        }
+    };
+    (draft.text(), at)
+}
+
+fn bad_range(rng: &mut Rng, draft: &mut Draft) -> (Vec<u8>, usize) {
+    let sizes = draft.sizes;
+    let (p, g, a, v) = (sizes.persons, sizes.crews, sizes.attrs, sizes.values);
+    let line = match rng.below(5) {
+        0 => {
+            let (field, value) = rng.pick(&[(1, 0), (1, 65), (2, 33), (3, 0), (3, 9), (4, 0), (4, 17), (1, 255)]);
+            draft.frames[0][field] = value;
+            1
+        }
+        1 => {
+            let frame = rng.pick(&[[2, g, 0], [2, 0, g], [2, 255, 255]]);
+            draft.put(rng, frame.to_vec())
+        }
+        2 => {
+            let mut nine = vec![3, 1, 0, 0, 0, 9];
+            nine.extend([1, 0, 0].repeat(9));
+            let frames: [&[u8]; 16] = [
+                &[3, 0, 0, 0, 0, 0],
+                &[3, 7, 0, 0, 0, 0],
+                &[3, 1, 16, 0, 0, 0],
+                &[3, 2, 0, a, 0, 0],
+                &[3, 3, 0, 0, v, 0],
+                &[3, 4, 15, a, v, 0],
+                &[3, 5, 0, g, 0, 0],
+                &[3, 6, 0, g, 0, 0],
+                &[3, 5, 0, 0, 1, 0],
+                &[3, 1, 0, 0, 0, 1, 0, 0, 0],
+                &[3, 1, 0, 0, 0, 1, 5, 0, 0],
+                &[3, 1, 0, 0, 0, 1, 1, a, 0],
+                &[3, 1, 0, 0, 0, 1, 2, 0, v],
+                &[3, 1, 0, 0, 0, 1, 3, g, 0],
+                &[3, 1, 0, 0, 0, 1, 4, 0, 1],
+                &nine,
+            ];
+            let frame = rng.pick(&frames).to_vec();
+            draft.put(rng, frame)
+        }
+        3 => {
+            let frame = rng.pick(&[
+                [4, 0, 0, 0, 0],
+                [4, 4, 0, 0, 0],
+                [4, 1, p, 0, 0],
+                [4, 1, 0, a, 0],
+                [4, 1, 0, 0, v],
+                [4, 2, g, 0, 0],
+                [4, 2, 0, a, 0],
+                [4, 3, p, 0, 0],
+                [4, 3, 0, g, 0],
+                [4, 3, 0, 0, 1],
+            ]);
+            draft.put(rng, frame.to_vec())
+        }
+        _ => {
+            let mut nine = vec![5, 1, 0, 0, 0, 9];
+            nine.extend([0, 0, 0].repeat(9));
+            let set = (u32::from(sizes.all_values()) + 1) as u16;
+            let crews = (u64::from(sizes.all_crews()) + 1) as u32;
+            let mut frames = vec![
+                vec![5, 0, 0, 0, 0, 0],
+                vec![5, 3, 0, 0, 0, 0],
+                vec![5, 1, p, 0, 0, 0],
+                vec![5, 1, 0, 0, 0, 1, a, 0, 0],
+                nine,
+            ];
+            if set != 0 {
+                let [high, low] = set.to_be_bytes();
+                frames.push(vec![5, 1, 0, 0, 0, 1, 0, high, low]);
+            }
+            if crews != 0 {
+                frames.push([&[5, 2, 0, 0, 0, 0][..], &crews.to_be_bytes()].concat());
+            }
+            draft.ask(frames.swap_remove(rng.below(frames.len())));
+            draft.frames.len()
+        }
+    };
+    (draft.text(), line)
+}
+
+/// Changes, drops, doubles or adds a few characters anywhere.
+pub fn noise(rng: &mut Rng, text: &mut Vec<u8>) {
+    for _ in 0..=rng.below(3) {
+        let at = rng.below(text.len().max(1)).min(text.len());
+        match rng.below(4) {
+            0 if at < text.len() => text[at] = rng.pick(b"0123456789ABCDEF\n 0123"),
+            1 if at < text.len() => {
+                text.remove(at);
+            }
+            2 if at < text.len() => text.insert(at, text[at]),
+            _ => text.insert(at, rng.pick(b"0123456789ABCDEF\n")),
+        }
+    }
+}
+
+/// The bytes of a ledger with no bit outside the sizes.
+pub fn ledger(rng: &mut Rng, sizes: &Sizes) -> Vec<u8> {
+    let mut ledger = Ledger::default();
+    let dense = rng.pick(&[5, 30, 80]);
+    let mut set = |rng: &mut Rng, fact| {
+        if rng.percent(dense) {
+            ledger.set(fact, true);
+        }
+    };
+    let pairs = || (0..sizes.attrs).flat_map(|a| (0..sizes.values).map(move |v| (Attr(a), Value(v))));
+    for p in (0..sizes.persons).map(Person) {
+        pairs().for_each(|(a, v)| set(rng, Fact::PersonHolds(p, a, v)));
+        (0..sizes.crews).for_each(|c| set(rng, Fact::PersonIn(p, Crew(c))));
+    }
+    for c in (0..sizes.crews).map(Crew) {
+        pairs().for_each(|(a, v)| set(rng, Fact::CrewHolds(c, a, v)));
+    }
+    ledger.to_bytes().to_vec()
+}
+
+/// The bytes of a ledger on which 11 falls: a wrong length, or one bit outside the sizes where there is room for one.
+pub fn damaged_ledger(rng: &mut Rng, sizes: &Sizes) -> Vec<u8> {
+    let mut bytes = ledger(rng, sizes);
+    if rng.percent(70) {
+        for _ in 0..200 {
+            let (at, bit) = (rng.below(LEDGER_BYTES), 1 << rng.below(8));
+            let mut one = [0; LEDGER_BYTES];
+            one[at] = bit;
+            if Ledger::from_bytes(sizes, &one).is_none() {
+                bytes[at] |= bit;
+                return bytes;
+            }
+        }
+    }
+    bytes.resize(rng.pick(&[0, 1, 1_024, LEDGER_BYTES - 1, LEDGER_BYTES + 1, 2 * LEDGER_BYTES]), 0);
+    bytes
+}
+
+/// A request whose fields are all in range.
+pub fn request(rng: &mut Rng, sizes: &Sizes) -> [u8; REQUEST_BYTES] {
+    let role = Role(rng.byte(0, ROLES - 1));
+    let way = rng.pick(&[Way::Add, Way::Delete]);
+    let (attr, value) = (Attr(rng.byte(0, sizes.attrs - 1)), Value(rng.byte(0, sizes.values - 1)));
+    let person = Person(rng.byte(0, sizes.persons - 1));
+    let fact = if sizes.crews == 0 {
+        Fact::PersonHolds(person, attr, value)
+    } else {
+        let crew = Crew(rng.byte(0, sizes.crews - 1));
+        rng.pick(&[
+            Fact::PersonHolds(person, attr, value),
+            Fact::CrewHolds(crew, attr, value),
+            Fact::PersonIn(person, crew),
+        ])
+    };
+    Request { role, way, fact }.to_bytes()
+}
+
+/// A request that one of the book's rules names, on any subject: permitted often enough.
+pub fn apt_request(rng: &mut Rng, book: &Book) -> [u8; REQUEST_BYTES] {
+    let mut bytes = request(rng, &book.sizes);
+    if let Some(rule) = book.rules.get(rng.below(book.rules.len().max(1))) {
+        let persons = book.sizes.persons;
+        let (subjects, a, v) = match rule.what {
+            What::OfPerson(a, v) => (persons, a.0, v.0),
+            What::OfCrew(a, v) => (book.sizes.crews, a.0, v.0),
+            What::Membership(c) => (persons, c.0, 0),
+        };
+        if subjects > 0 {
+            bytes = [op(rule.way, rule.what), rule.role.0, rng.byte(0, subjects - 1), a, v];
+        }
+    }
+    bytes
+}
+
+/// A request on which 12 falls: a wrong length or a field outside its range.
+pub fn damaged_request(rng: &mut Rng, sizes: &Sizes) -> Vec<u8> {
+    let (p, g, a, v) = (sizes.persons, sizes.crews, sizes.attrs, sizes.values);
+    if rng.percent(30) {
+        let mut bytes = request(rng, sizes).to_vec();
+        bytes.resize(rng.pick(&[0, 1, 4, 6, 10]), 0);
+        return bytes;
+    }
+    let fields = [
+        [0, 0, 0, 0, 0],
+        [7, 0, 0, 0, 0],
+        [255, 0, 0, 0, 0],
+        [1, 16, 0, 0, 0],
+        [1, 0, p, 0, 0],
+        [2, 0, 0, a, 0],
+        [2, 0, 0, 0, v],
+        [3, 0, g, 0, 0],
+        [4, 15, g, 0, 0],
+        [4, 0, 0, a, v],
+        [5, 0, p, 0, 0],
+        [5, 0, 0, g, 0],
+        [6, 0, 0, 0, 1],
+        [6, 0, 0, g, 0],
+    ];
+    rng.pick(&fields).to_vec()
+}
+
+/// A list of requests for replay: mostly apt ones, some damaged; now and then 14 falls.
+pub fn list(rng: &mut Rng, book: &Book) -> Vec<u8> {
+    let mut bytes = Vec::new();
+    for _ in 0..rng.below(12) {
+        if rng.percent(3) {
+            bytes.extend(damaged_request(rng, &book.sizes));
+        } else {
+            bytes.extend(apt_request(rng, book));
+        }
+    }
+    bytes
+}

@@ -1,0 +1,511 @@
+//! The ledger, its requests, and what a person effectively holds.
+//!
+//! "A ledger is 1,792 bytes."
+
+use std::fmt;
+
+use crate::book::{
+    self, Attr, Book, Crew, Fact, Mode, Person, Query, Role, Sizes, Term, Value, Way, What, MOST_ATTRS, MOST_CREWS,
+    MOST_PERSONS, ROLES,
+};
+
+/// "A ledger is 1,792 bytes."
+pub const LEDGER_BYTES: usize = 1_792;
+/// "A request is five bytes"
+pub const REQUEST_BYTES: usize = 5;
+
+/// "A ledger is a set of facts."
+#[derive(Clone, PartialEq, Eq)]
+pub struct Ledger {
+    persons: [[u16; MOST_ATTRS]; MOST_PERSONS],
+    crews: [[u16; MOST_ATTRS]; MOST_CREWS],
+    memberships: [u32; MOST_PERSONS],
+}
+
+impl Default for Ledger {
+    fn default() -> Self {
+        Ledger {
+            persons: [[0; MOST_ATTRS]; MOST_PERSONS],
+            crews: [[0; MOST_ATTRS]; MOST_CREWS],
+            memberships: [0; MOST_PERSONS],
+        }
+    }
+}
+
+impl Ledger {
+    /// The ledger of the starting facts.
+    #[must_use]
+    pub fn start(book: &Book) -> Self {
+        let mut ledger = Ledger::default();
+        for &fact in &book.facts {
+            ledger.set(fact, true);
+        }
+        ledger
+    }
+
+    /// Whether a fact is in the ledger.
+    #[must_use]
+    pub fn has(&self, fact: Fact) -> bool {
+        match fact {
+            Fact::PersonHolds(p, a, v) => self.persons[p.index()][a.index()] >> v.0 & 1 == 1,
+            Fact::CrewHolds(c, a, v) => self.crews[c.index()][a.index()] >> v.0 & 1 == 1,
+            Fact::PersonIn(p, c) => self.memberships[p.index()] >> c.0 & 1 == 1,
+        }
+    }
+
+    /// "A permitted request sets or clears its one fact"
+    pub fn set(&mut self, fact: Fact, there: bool) {
+        match fact {
+            Fact::PersonHolds(p, a, v) => put(&mut self.persons[p.index()][a.index()], 1 << v.0, there),
+            Fact::CrewHolds(c, a, v) => put(&mut self.crews[c.index()][a.index()], 1 << v.0, there),
+            Fact::PersonIn(p, c) => {
+                let set = &mut self.memberships[p.index()];
+                *set = if there { *set | 1 << c.0 } else { *set & !(1 << c.0) };
+            }
+        }
+    }
+
+    /// The crews a person is directly in.
+    #[must_use]
+    pub fn memberships(&self, person: Person) -> u32 {
+        self.memberships[person.index()]
+    }
+
+    /// Reads a ledger; nothing when it is "not 1,792 bytes or a bit outside the sizes".
+    #[must_use]
+    pub fn from_bytes(sizes: &Sizes, bytes: &[u8]) -> Option<Self> {
+        if bytes.len() != LEDGER_BYTES {
+            return None;
+        }
+        let mut ledger = Ledger::default();
+        let mut good = true;
+        for (p, row) in ledger.persons.iter_mut().enumerate() {
+            for (a, set) in row.iter_mut().enumerate() {
+                *set = two(bytes, 16 * p + 2 * a);
+                good &= inside(sizes, p, sizes.persons, a, *set);
+            }
+        }
+        for (c, row) in ledger.crews.iter_mut().enumerate() {
+            for (a, set) in row.iter_mut().enumerate() {
+                *set = two(bytes, 1_024 + 16 * c + 2 * a);
+                good &= inside(sizes, c, sizes.crews, a, *set);
+            }
+        }
+        for (p, set) in ledger.memberships.iter_mut().enumerate() {
+            let at = 1_536 + 4 * p;
+            *set = u32::from_be_bytes([bytes[at], bytes[at + 1], bytes[at + 2], bytes[at + 3]]);
+            let room = if p < sizes.persons.into() { sizes.all_crews() } else { 0 };
+            good &= *set & !room == 0;
+        }
+        good.then_some(ledger)
+    }
+
+    /// "Person p's attribute a is a two-byte set at 16·p + 2·a, crew c's at 1,024 + 16·c + 2·a, person p's crews a
+    /// four-byte set at 1,536 + 4·p; big-endian, weights as above, bits beyond the book's sizes 0."
+    #[must_use]
+    pub fn to_bytes(&self) -> [u8; LEDGER_BYTES] {
+        let mut bytes = [0; LEDGER_BYTES];
+        let sets = self.persons.iter().chain(&self.crews).flatten();
+        for (to, set) in bytes[..1_536].chunks_exact_mut(2).zip(sets) {
+            to.copy_from_slice(&set.to_be_bytes());
+        }
+        for (to, set) in bytes[1_536..].chunks_exact_mut(4).zip(&self.memberships) {
+            to.copy_from_slice(&set.to_be_bytes());
+        }
+        bytes
+    }
+}
+
+fn put(set: &mut u16, bit: u16, there: bool) {
+    *set = if there { *set | bit } else { *set & !bit };
+}
+
+fn two(bytes: &[u8], at: usize) -> u16 {
+    u16::from_be_bytes([bytes[at], bytes[at + 1]])
+}
+
+fn inside(sizes: &Sizes, row: usize, rows: u8, attr: usize, set: u16) -> bool {
+    let there = row < rows.into() && attr < sizes.attrs.into();
+    set & !(if there { sizes.all_values() } else { 0 }) == 0
+}
+
+/// The numbers in a set, rising.
+pub fn numbers(mut set: u64) -> impl Iterator<Item = u8> {
+    std::iter::from_fn(move || {
+        let lowest = (set != 0).then(|| set.trailing_zeros() as u8);
+        set &= set.wrapping_sub(1);
+        lowest
+    })
+}
+
+/// The crews of a set, rising.
+pub fn crews(set: u32) -> impl Iterator<Item = Crew> {
+    numbers(set.into()).map(Crew)
+}
+
+/// A book with its inheritance worked out: what the definitions look at beside a ledger.
+pub struct Depot<'b> {
+    /// The book.
+    pub book: &'b Book,
+    below: [u32; MOST_CREWS],
+}
+
+impl<'b> Depot<'b> {
+    /// Takes the crews below each crew from the book's edges.
+    #[must_use]
+    pub fn new(book: &'b Book) -> Self {
+        Depot { book, below: book.below() }
+    }
+
+    /// "A crew effectively holds a value when it holds it directly or some direct junior effectively holds it."
+    #[must_use]
+    pub fn crew_holds(&self, ledger: &Ledger, crew: Crew, attr: Attr, value: Value) -> bool {
+        crews(self.below[crew.index()]).any(|c| ledger.has(Fact::CrewHolds(c, attr, value)))
+    }
+
+    /// "A person is effectively in c when directly in c or in a crew from which c is reached downwards by edges."
+    #[must_use]
+    pub fn person_in(&self, ledger: &Ledger, person: Person) -> u32 {
+        crews(ledger.memberships(person)).fold(0, |set, c| set | self.below[c.index()])
+    }
+
+    /// "A person effectively holds a value when holding it directly or when some crew the person is directly in
+    /// effectively holds it."
+    #[must_use]
+    pub fn person_holds(&self, ledger: &Ledger, person: Person, attr: Attr, value: Value) -> bool {
+        ledger.has(Fact::PersonHolds(person, attr, value))
+            || crews(ledger.memberships(person)).any(|c| self.crew_holds(ledger, c, attr, value))
+    }
+
+    /// The set of values of an attribute that a person effectively holds.
+    #[must_use]
+    pub fn person_set(&self, ledger: &Ledger, person: Person, attr: Attr) -> u16 {
+        let under = crews(self.person_in(ledger, person));
+        under.fold(ledger.persons[person.index()][attr.index()], |set, c| set | ledger.crews[c.index()][attr.index()])
+    }
+
+    /// Whether a term holds of the subject of a fact.
+    #[must_use]
+    pub fn term_holds(&self, ledger: &Ledger, fact: Fact, term: Term) -> bool {
+        let person = match fact {
+            Fact::PersonHolds(person, ..) | Fact::PersonIn(person, _) => person,
+            Fact::CrewHolds(crew, ..) => {
+                return match term {
+                    Term::Holds(a, v) => ledger.has(Fact::CrewHolds(crew, a, v)),
+                    Term::EffectivelyHolds(a, v) => self.crew_holds(ledger, crew, a, v),
+                    Term::In(_) | Term::EffectivelyIn(_) => false,
+                }
+            }
+        };
+        match term {
+            Term::Holds(a, v) => ledger.has(Fact::PersonHolds(person, a, v)),
+            Term::EffectivelyHolds(a, v) => self.person_holds(ledger, person, a, v),
+            Term::In(c) => ledger.has(Fact::PersonIn(person, c)),
+            Term::EffectivelyIn(c) => self.person_in(ledger, person) >> c.0 & 1 == 1,
+        }
+    }
+
+    /// "A request is permitted when some rule has its op, role, a and v and all terms hold of the subject before the
+    /// request."
+    #[must_use]
+    pub fn permits(&self, ledger: &Ledger, request: &Request) -> bool {
+        let what = request.fact.what();
+        self.book.rules.iter().any(|rule| {
+            rule.role == request.role
+                && rule.way == request.way
+                && rule.what == what
+                && rule.terms.iter().all(|&term| self.term_holds(ledger, request.fact, term))
+        })
+    }
+
+    /// Whether a ledger meets the query.
+    #[must_use]
+    pub fn met(&self, ledger: &Ledger) -> bool {
+        let Query { mode, person, ref named, .. } = self.book.query;
+        let mut sets = named.iter().map(|&(attr, set)| (self.person_set(ledger, person, attr), set));
+        match mode {
+            Mode::AtLeast => sets.all(|(held, set)| set & !held == 0),
+            Mode::Exactly { crews } => ledger.memberships(person) == crews && sets.all(|(held, set)| held == set),
+        }
+    }
+}
+
+/// "A request is five bytes: op role subject a v, fields as in a rule."
+#[derive(Clone, Copy, Debug, PartialEq, Eq, PartialOrd, Ord, Hash)]
+pub struct Request {
+    /// Who makes it.
+    pub role: Role,
+    /// Whether it adds or deletes.
+    pub way: Way,
+    /// What it adds or deletes.
+    pub fact: Fact,
+}
+
+impl Request {
+    /// Reads a request; nothing when it is "not five bytes or field out of range".
+    #[must_use]
+    pub fn from_bytes(sizes: &Sizes, bytes: &[u8]) -> Option<Self> {
+        let &[op, role, subject, a, v] = bytes else {
+            return None;
+        };
+        if role >= ROLES {
+            return None;
+        }
+        let (way, what) = book::deed(sizes, op, a, v)?;
+        let fact = match what {
+            What::OfPerson(a, v) => Fact::PersonHolds(sizes.person(subject)?, a, v),
+            What::OfCrew(a, v) => Fact::CrewHolds(sizes.crew(subject)?, a, v),
+            What::Membership(c) => Fact::PersonIn(sizes.person(subject)?, c),
+        };
+        Some(Request { role: Role(role), way, fact })
+    }
+
+    /// The five bytes.
+    #[must_use]
+    pub fn to_bytes(&self) -> [u8; REQUEST_BYTES] {
+        let op = book::op(self.way, self.fact.what());
+        let (subject, a, v) = match self.fact {
+            Fact::PersonHolds(p, a, v) => (p.0, a.0, v.0),
+            Fact::CrewHolds(c, a, v) => (c.0, a.0, v.0),
+            Fact::PersonIn(p, c) => (p.0, c.0, 0),
+        };
+        [op, self.role.0, subject, a, v]
+    }
+
+    /// The ledger after the request, once it is permitted.
+    pub fn carry_out(&self, ledger: &mut Ledger) {
+        ledger.set(self.fact, self.way == Way::Add);
+    }
+}
+
+/// What turns an operation on a ledger back.
+#[derive(Clone, Copy, Debug, PartialEq, Eq)]
+pub enum Refusal {
+    /// 1 to 9.
+    Book(book::Refusal),
+    /// 11: "ledger not 1,792 bytes or a bit outside the sizes"
+    Ledger,
+    /// 12: "request not five bytes or field out of range; no such person to show"
+    Request,
+    /// 13: "not permitted"
+    NotPermitted,
+}
+
+impl Refusal {
+    /// The refusal's number in the table.
+    #[must_use]
+    pub fn number(&self) -> u8 {
+        match self {
+            Refusal::Book(refusal) => refusal.number(),
+            Refusal::Ledger => 11,
+            Refusal::Request => 12,
+            Refusal::NotPermitted => 13,
+        }
+    }
+}
+
+impl From<book::Refusal> for Refusal {
+    fn from(refusal: book::Refusal) -> Self {
+        Refusal::Book(refusal)
+    }
+}
+
+impl fmt::Display for Refusal {
+    fn fmt(&self, f: &mut fmt::Formatter<'_>) -> fmt::Result {
+        match self {
+            Refusal::Book(refusal) => refusal.fmt(f),
+            other => write!(f, "refusal {}", other.number()),
+        }
+    }
+}
+
+impl std::error::Error for Refusal {}
+
+/// "**open** writes the ledger of starting facts"; "11 for open (by length alone, the bytes there are not read)".
+///
+/// # Errors
+///
+/// 1-9, then 11; the ledger then keeps its bytes.
+pub fn open(characters: &[u8], ledger: &mut [u8]) -> Result<(), Refusal> {
+    let book = book::read(characters)?;
+    if ledger.len() != LEDGER_BYTES {
+        return Err(Refusal::Ledger);
+    }
+    ledger.copy_from_slice(&Ledger::start(&book).to_bytes());
+    Ok(())
+}
+
+/// "**request** acts on a ledger"; "11, 12, 13 for requests".
+///
+/// # Errors
+///
+/// 1-9, then 11, 12, 13; the ledger then keeps its bytes.
+pub fn request(characters: &[u8], ledger: &mut [u8], request: &[u8]) -> Result<(), Refusal> {
+    let book = book::read(characters)?;
+    let mut facts = Ledger::from_bytes(&book.sizes, ledger).ok_or(Refusal::Ledger)?;
+    let request = Request::from_bytes(&book.sizes, request).ok_or(Refusal::Request)?;
+    if !Depot::new(&book).permits(&facts, &request) {
+        return Err(Refusal::NotPermitted);
+    }
+    request.carry_out(&mut facts);
+    ledger.copy_from_slice(&facts.to_bytes());
+    Ok(())
+}
+
+/// "a person's eight effective sets (0 for an absent attribute) and effective crews"
+#[derive(Clone, Copy, Debug, PartialEq, Eq)]
+pub struct Shown {
+    /// The eight effective sets.
+    pub sets: [u16; MOST_ATTRS],
+    /// The effective crews.
+    pub crews: u32,
+}
+
+/// "**show** gives a person's eight effective sets (0 for an absent attribute) and effective crews"; "11 then 12 for
+/// show".
+///
+/// # Errors
+///
+/// 1-9, then 11, 12.
+pub fn show(characters: &[u8], ledger: &[u8], person: u8) -> Result<Shown, Refusal> {
+    let book = book::read(characters)?;
+    let facts = Ledger::from_bytes(&book.sizes, ledger).ok_or(Refusal::Ledger)?;
+    let person = book.sizes.person(person).ok_or(Refusal::Request)?;
+    let depot = Depot::new(&book);
+    let mut sets = [0; MOST_ATTRS];
+    for (a, set) in (0..).zip(sets.iter_mut()) {
+        *set = depot.person_set(&facts, person, Attr(a));
+    }
+    Ok(Shown { sets, crews: depot.person_in(&facts, person) })
+}
+
+#[cfg(test)]
+mod tests {
+    use super::*;
+    use crate::gen::{self, Rng};
+
+    const HEAD: &str = "0101020102\n";
+    const EDGE: &str = "020100\n";
+    const QUERY: &str = "0501000000 00";
+
+    fn opened(characters: &str) -> [u8; LEDGER_BYTES] {
+        let mut ledger = [0xAA; LEDGER_BYTES];
+        open(characters.as_bytes(), &mut ledger).expect("opens");
+        ledger
+    }
+
+    fn book(frames: &str) -> String {
+        format!("{HEAD}{frames}{}\n", QUERY.replace(' ', ""))
+    }
+
+    #[test]
+    fn places() {
+        let text = "0140200810\n04013F070F\n04021F070F\n04033F1F00\n0401000000\n050100000000\n";
+        let ledger = opened(text);
+        let set: Vec<(usize, u8)> = ledger.iter().copied().enumerate().filter(|&(_, byte)| byte != 0).collect();
+        assert_eq!(set, [(1, 0x01), (1_022, 0x80), (1_534, 0x80), (1_788, 0x80)]);
+    }
+
+    #[test]
+    fn d10_a_senior_inherits_and_a_junior_does_not() {
+        let text = book(&format!("{EDGE}0403000100\n0402000000\n"));
+        let shown = show(text.as_bytes(), &opened(&text), 0).expect("shown");
+        assert_eq!(shown, Shown { sets: [1, 0, 0, 0, 0, 0, 0, 0], crews: 0b11 });
+        let text = book(&format!("{EDGE}0403000000\n0402010000\n"));
+        let shown = show(text.as_bytes(), &opened(&text), 0).expect("shown");
+        assert_eq!(shown, Shown { sets: [0; 8], crews: 0b01 });
+    }
+
+    #[test]
+    fn d11_removal_from_a_crew_held_through_a_senior() {
+        let text = book(&format!("{EDGE}0403000100\n030600000000\n"));
+        let before = opened(&text);
+        let mut after = before;
+        assert_eq!(request(text.as_bytes(), &mut after, &[6, 0, 0, 0, 0]), Ok(()));
+        assert_eq!(before, after);
+    }
+
+    #[test]
+    fn d12_a_deleted_value_that_is_inherited() {
+        let text = book("0401000000\n0402000000\n0403000000\n030200000000\n");
+        let mut ledger = opened(&text);
+        assert_eq!(request(text.as_bytes(), &mut ledger, &[2, 0, 0, 0, 0]), Ok(()));
+        assert_eq!(ledger[1], 0);
+        assert_eq!(show(text.as_bytes(), &ledger, 0).expect("shown").sets[0], 1);
+    }
+
+    #[test]
+    fn the_tables_examples() {
+        let text = book("030100000000\n");
+        let text = text.as_bytes();
+        let mut ledger = [0; LEDGER_BYTES];
+        assert_eq!(open(text, &mut ledger[1..]), Err(Refusal::Ledger));
+        assert_eq!(request(text, &mut ledger[1..], &[1, 0, 0, 0, 0]), Err(Refusal::Ledger));
+        assert_eq!(show(text, &ledger[1..], 0), Err(Refusal::Ledger));
+        assert_eq!(request(text, &mut ledger, &[7, 0, 0, 0, 0]), Err(Refusal::Request));
+        assert_eq!(request(text, &mut ledger, &[1, 0, 0, 0]), Err(Refusal::Request));
+        assert_eq!(request(text, &mut ledger, &[1, 16, 0, 0, 0]), Err(Refusal::Request));
+        assert_eq!(show(text, &ledger, 1), Err(Refusal::Request));
+        assert_eq!(request(text, &mut ledger, &[1, 1, 0, 0, 0]), Err(Refusal::NotPermitted));
+        assert_eq!(ledger, [0; LEDGER_BYTES]);
+        assert_eq!(request(text, &mut ledger, &[1, 0, 0, 0, 0]), Ok(()));
+        assert_eq!(ledger[1], 1);
+    }
+
+    #[test]
+    fn open_reads_no_byte_and_others_read_all() {
+        let text = book("");
+        for at in [0, 2, 16, 1_024, 1_026, 1_056, 1_536, 1_539, 1_540, 1_791] {
+            let mut ledger = [0; LEDGER_BYTES];
+            ledger[at] = 4;
+            assert_eq!(show(text.as_bytes(), &ledger, 0), Err(Refusal::Ledger), "byte {at}");
+            assert_eq!(request(text.as_bytes(), &mut ledger, &[]), Err(Refusal::Ledger), "byte {at}");
+            assert_eq!(open(text.as_bytes(), &mut ledger), Ok(()));
+            assert_eq!(ledger, [0; LEDGER_BYTES]);
+        }
+    }
+
+    #[test]
+    fn numbers_of_a_set() {
+        assert!(numbers(0).eq([]));
+        assert!(numbers(1 << 63 | 0b101).eq([0, 2, 63]));
+        assert!(crews(u32::MAX).eq((0..32).map(Crew)));
+    }
+
+    /// The definition as the paper words it: crew test and scan over its direct juniors.
+    fn holds_by_juniors(book: &Book, ledger: &Ledger, crew: Crew, attr: Attr, value: Value) -> bool {
+        ledger.has(Fact::CrewHolds(crew, attr, value))
+            || book
+                .edges
+                .iter()
+                .any(|&(senior, junior)| senior == crew && holds_by_juniors(book, ledger, junior, attr, value))
+    }
+
+    #[test]
+    fn inheritance_is_that_of_the_definition() {
+        let mut rng = Rng::new(0x1E46);
+        for _ in 0..300 {
+            let text = gen::middle_book(&mut rng).text();
+            let book = book::read(&text).expect("accepted");
+            let bytes = gen::ledger(&mut rng, &book.sizes);
+            let ledger = Ledger::from_bytes(&book.sizes, &bytes).expect("good");
+            assert_eq!(ledger.to_bytes()[..], bytes[..]);
+            let depot = Depot::new(&book);
+            for a in 0..book.sizes.attrs {
+                for v in 0..book.sizes.values {
+                    let (a, v) = (Attr(a), Value(v));
+                    for c in crews(book.sizes.all_crews()) {
+                        let held = holds_by_juniors(&book, &ledger, c, a, v);
+                        assert_eq!(depot.crew_holds(&ledger, c, a, v), held);
+                    }
+                    for p in (0..book.sizes.persons).map(Person) {
+                        let by_crew = |c| holds_by_juniors(&book, &ledger, c, a, v);
+                        let held = ledger.has(Fact::PersonHolds(p, a, v)) || crews(ledger.memberships(p)).any(by_crew);
+                        assert_eq!(depot.person_holds(&ledger, p, a, v), held);
+                        assert_eq!(depot.person_set(&ledger, p, a) >> v.0 & 1 == 1, held);
+                    }
+                }
+            }
+        }
+    }
+}

@@ -1,0 +1,18 @@
+//! Crew books, ledgers and plans, written a second time from the paper and for tests only.
+//!
+//! * [`book`]: characters become a book, or refusal 1-9 with its line.
+//! * [`ledger`]: open, request and show, with refusals 11-13.
+//! * [`replay`]: judges a list of requests, with refusal 14.
+//! * [`plan`]: no way or a plan, with refusal 10; by two methods.
+//! * [`gen`]: seeded books, ledgers and requests, good and damaged.
+//!
+//! Sentences in quotation marks are the paper's.
+
+#![forbid(unsafe_code)]
+#![warn(missing_docs)]
+
+pub mod book;
+pub mod gen;
+pub mod ledger;
+pub mod plan;
+pub mod replay;

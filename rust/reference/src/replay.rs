@@ -1,0 +1,143 @@
+//! Replay: the judge of any list of requests.
+//!
+//! "**replay** judges any list of requests from the starting facts: reaches, stops at request k (counted from 1: first
+//! ill-formed, outside the query's roles, or not permitted), or ends short of the query."
+
+use std::fmt;
+
+use crate::book::{self, Book};
+use crate::ledger::{Depot, Ledger, Request, REQUEST_BYTES};
+
+/// What replay says of a list.
+#[derive(Clone, Copy, Debug, PartialEq, Eq)]
+pub enum Verdict {
+    /// The last ledger meets the query.
+    Reaches,
+    /// The first request, counted from 1, that ends the chain.
+    StopsAt(usize),
+    /// Every request is carried out and the last ledger does not meet the query.
+    EndsShort,
+}
+
+/// What turns replay back.
+#[derive(Clone, Copy, Debug, PartialEq, Eq)]
+pub enum Refusal {
+    /// 1 to 9.
+    Book(book::Refusal),
+    /// 14: "plan length no multiple of five"
+    Length,
+}
+
+impl Refusal {
+    /// The refusal's number in the table.
+    #[must_use]
+    pub fn number(&self) -> u8 {
+        match self {
+            Refusal::Book(refusal) => refusal.number(),
+            Refusal::Length => 14,
+        }
+    }
+}
+
+impl From<book::Refusal> for Refusal {
+    fn from(refusal: book::Refusal) -> Self {
+        Refusal::Book(refusal)
+    }
+}
+
+impl fmt::Display for Refusal {
+    fn fmt(&self, f: &mut fmt::Formatter<'_>) -> fmt::Result {
+        match self {
+            Refusal::Book(refusal) => refusal.fmt(f),
+            Refusal::Length => write!(f, "refusal 14"),
+        }
+    }
+}
+
+impl std::error::Error for Refusal {}
+
+/// Judges a list of requests from the starting facts.
+///
+/// # Errors
+///
+/// 1-9, then 14.
+pub fn replay(characters: &[u8], plan: &[u8]) -> Result<Verdict, Refusal> {
+    let book = book::read(characters)?;
+    if !plan.len().is_multiple_of(REQUEST_BYTES) {
+        return Err(Refusal::Length);
+    }
+    Ok(judge(&book, plan, |_, _| ()))
+}
+
+/// Judges a list whose length is a multiple of five, and shows each request with the ledger it acts on.
+pub fn judge(book: &Book, plan: &[u8], mut each: impl FnMut(&Ledger, &Request)) -> Verdict {
+    let depot = Depot::new(book);
+    let mut ledger = Ledger::start(book);
+    for (k, bytes) in (1..).zip(plan.chunks(REQUEST_BYTES)) {
+        let request = Request::from_bytes(&book.sizes, bytes)
+            .filter(|request| book.query.has_role(request.role) && depot.permits(&ledger, request));
+        let Some(request) = request else {
+            return Verdict::StopsAt(k);
+        };
+        each(&ledger, &request);
+        request.carry_out(&mut ledger);
+    }
+    if depot.met(&ledger) {
+        Verdict::Reaches
+    } else {
+        Verdict::EndsShort
+    }
+}
+
+#[cfg(test)]
+mod tests {
+    use super::*;
+
+    const D1: &str = "0101010102\n030100000100\n030501000001010001\n0402000000\n050100000301000001\n";
+    const ADD: [u8; 5] = [1, 0, 0, 0, 1];
+    const ASSIGN: [u8; 5] = [5, 1, 0, 0, 0];
+
+    fn verdict(book: &str, plan: &[[u8; 5]]) -> Verdict {
+        replay(book.as_bytes(), &plan.concat()).expect("judged")
+    }
+
+    #[test]
+    fn d1() {
+        assert_eq!(verdict(D1, &[ADD, ASSIGN]), Verdict::Reaches);
+        assert_eq!(verdict(D1, &[ADD]), Verdict::EndsShort);
+        assert_eq!(verdict(D1, &[]), Verdict::EndsShort);
+        assert_eq!(verdict(D1, &[ASSIGN, ADD]), Verdict::StopsAt(1));
+        assert_eq!(verdict(D1, &[ADD, ADD, [9; 5], ASSIGN]), Verdict::StopsAt(3));
+    }
+
+    #[test]
+    fn d2_roles_outside_the_query() {
+        let d2 = D1.replace("05010000030", "05010000010");
+        assert_eq!(verdict(&d2, &[ADD, ASSIGN]), Verdict::StopsAt(2));
+    }
+
+    #[test]
+    fn d5_the_order_of_deletions() {
+        let d5 = "0101000102\n0401000000\n0401000001\n030200000001010001\n030200000100\n0502\
+                  00FFFF0100000000000000\n";
+        let (zero, one) = ([2, 0, 0, 0, 0], [2, 0, 0, 0, 1]);
+        assert_eq!(verdict(d5, &[zero, one]), Verdict::Reaches);
+        assert_eq!(verdict(d5, &[one, zero]), Verdict::StopsAt(2));
+    }
+
+    #[test]
+    fn d9_a_deletion_may_rest_on_its_own_fact() {
+        let d9 = "0101000102\n0401000000\n030200000001010000\n050200FFFF0100000000000000\n";
+        let zero = [2, 0, 0, 0, 0];
+        assert_eq!(verdict(d9, &[zero]), Verdict::Reaches);
+        assert_eq!(verdict(d9, &[zero, zero]), Verdict::StopsAt(2));
+    }
+
+    #[test]
+    fn the_tables_example() {
+        assert_eq!(replay(D1.as_bytes(), &[0; 7]), Err(Refusal::Length));
+        let refusal = replay(b"", &[0; 7]).expect_err("refused");
+        assert_eq!(refusal.number(), 3);
+        assert_eq!(Refusal::Length.number(), 14);
+    }
+}
