@@ -166,4 +166,4 @@ module _ (b : Contents) (ok : Admitted b) where
 
 -- "Exactly": where there is a plan that works, no way is not given.
 pub never-both : {b : Contents} {chain : List (List ℕ)} → NoWay b → Works b chain → ⊥
-never-both {b} {chain} no works = no .none chain (works .last) (works .led) (works .meets)
+never-both {b} {chain} none works = none .none chain (works .last) (works .led) (works .meets)
