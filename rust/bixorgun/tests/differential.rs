@@ -4,6 +4,7 @@
 //! wants every refusal of every operation, and every answer, at least once. The plan alone is left open: of it the runs
 //! want that both say no way or both plan, and that both accept both plans.
 
+use std::env;
 use std::fs;
 use std::path::PathBuf;
 use std::thread::panicking;
@@ -347,9 +348,18 @@ fn operate(case: &Case, sizes: Sizes, rng: &mut Rng, counts: &mut Counts) {
     case.replay(&list, counts);
 }
 
+/// What `BIXORGUN_SHIFT` adds to every seed, to draw other books.
+fn shift() -> u64 {
+    match env::var("BIXORGUN_SHIFT") {
+        Ok(shift) => shift.parse().expect("BIXORGUN_SHIFT is a number"),
+        Err(_) => 0,
+    }
+}
+
 /// So many cases: most are good books, some are damaged by each of 1 to 9, some by noise.
 fn run(name: &'static str, first: u64, cases: u64, draw: impl Fn(&mut Rng) -> Draft) {
     let mut counts = Counts::default();
+    let first = first + shift();
     for seed in first..first + cases {
         let mut rng = Rng::new(seed);
         let draft = draw(&mut rng);
@@ -411,21 +421,20 @@ fn large() {
 /// The repository's stored books, good and bad.
 #[test]
 fn stored() {
-    let mut counts = Counts::default();
+    let mut files = Vec::new();
     for name in ["plan_books", "judge_books"] {
         let dir: PathBuf = [env!("CARGO_MANIFEST_DIR"), "..", "..", "crates", name, "data"].iter().collect();
-        let mut files: Vec<_> = fs::read_dir(&dir)
-            .unwrap_or_else(|error| panic!("{}: {error}", dir.display()))
-            .map(|entry| entry.expect("an entry").path())
-            .collect();
-        files.sort();
-        for (seed, file) in (0x0B1C_6000_0000..).zip(&files) {
-            let text = fs::read(file).unwrap_or_else(|error| panic!("{}: {error}", file.display()));
-            let case = Case { run: "stored", seed, text };
-            let mut rng = Rng::new(seed);
-            let Draft { sizes, .. } = gen::small_book(&mut rng);
-            (0..5).for_each(|_| operate(&case, sizes, &mut rng, &mut counts));
-        }
+        let entries = fs::read_dir(&dir).unwrap_or_else(|error| panic!("{}: {error}", dir.display()));
+        files.extend(entries.map(|entry| entry.expect("an entry").path()));
+    }
+    files.sort();
+    let mut counts = Counts::default();
+    for (seed, file) in (0x0B1C_6000_0000..).zip(&files) {
+        let text = fs::read(file).unwrap_or_else(|error| panic!("{}: {error}", file.display()));
+        let case = Case { run: "stored", seed, text };
+        let mut rng = Rng::new(seed);
+        let Draft { sizes, .. } = gen::small_book(&mut rng);
+        (0..5).for_each(|_| operate(&case, sizes, &mut rng, &mut counts));
     }
     counts.print("stored");
     counts.all_seen();
