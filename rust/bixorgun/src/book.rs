@@ -1,0 +1,111 @@
+use crate::bytes::Planned;
+use crate::{bytes, Answer, Judgement, Ledger, Plan, Refusal, Request, LEDGER_SIZE, PLAN_MAX, REQUEST_SIZE};
+
+/// A book's characters, borrowed.
+///
+/// Any characters will do: each operation reads the book, and refuses it by 1 to 9 where it is bad.
+///
+/// ```
+/// use bixorgun::{Book, Refusal};
+///
+/// let book = Book::new("0101000102\n0200\n");
+/// assert_eq!(book.open(), Err(Refusal::BadLength { line: 2 }));
+/// ```
+#[derive(Clone, Copy, Debug, PartialEq, Eq, Hash)]
+pub struct Book<'a> {
+    characters: &'a [u8],
+}
+
+impl<'a> Book<'a> {
+    /// The book of some characters: a string's, or any bytes.
+    #[must_use]
+    pub fn new(characters: &'a (impl AsRef<[u8]> + ?Sized)) -> Self {
+        Book { characters: characters.as_ref() }
+    }
+
+    /// The book's characters.
+    #[must_use]
+    pub const fn characters(&self) -> &'a [u8] {
+        self.characters
+    }
+
+    /// The ledger of the starting facts.
+    ///
+    /// ```
+    /// use bixorgun::Book;
+    ///
+    /// # fn main() -> Result<(), bixorgun::Refusal> {
+    /// let ledger = Book::new("0101000102\n0401000001\n050100000000\n").open()?;
+    /// assert_eq!(ledger.as_bytes()[..2], [0, 0b10]);
+    /// # Ok(())
+    /// # }
+    /// ```
+    ///
+    /// # Errors
+    ///
+    /// 1-9.
+    pub fn open(&self) -> Result<Ledger, Refusal> {
+        let mut ledger = [0; LEDGER_SIZE];
+        bytes::open(self.characters, &mut ledger)?;
+        Ok(Ledger::from(ledger))
+    }
+
+    /// Plans the query: no way, by any chain of requests whatever, or a plan that works.
+    ///
+    /// ```
+    /// use bixorgun::{Answer, Book};
+    ///
+    /// # fn main() -> Result<(), bixorgun::Refusal> {
+    /// // Value 0 may be added to who holds it.
+    /// let book = Book::new("0101000102\n030100000001010000\n050100FFFF01000001\n");
+    /// assert_eq!(book.plan()?, Answer::NoWay);
+    /// # Ok(())
+    /// # }
+    /// ```
+    ///
+    /// # Errors
+    ///
+    /// 1-9.
+    pub fn plan(&self) -> Result<Answer, Refusal> {
+        let mut buffer = vec![0; PLAN_MAX];
+        Ok(match bytes::plan_into(self.characters, &mut buffer)? {
+            Planned::NoWay => Answer::NoWay,
+            Planned::Plan(count) => Answer::Plan(Plan::of(&buffer[..REQUEST_SIZE * count])),
+        })
+    }
+
+    /// Judges a list of requests, of a [`Plan`] or any other, from the starting facts.
+    ///
+    /// ```
+    /// use bixorgun::{Act, Attr, Book, Judgement, Person, Request, Role, Value};
+    ///
+    /// # fn main() -> Result<(), bixorgun::Refusal> {
+    /// let book = Book::new("0101000102\n030100000000\n050100000101000001\n");
+    /// let add = |value| Request::new(Role(0), Act::AddToPerson(Person(0), Attr(0), Value(value)));
+    /// assert_eq!(book.replay([add(0)])?, Judgement::Reaches);
+    /// assert_eq!(book.replay([add(0), add(1)])?, Judgement::Stops(2));
+    /// assert_eq!(book.replay([])?, Judgement::EndsShort);
+    /// # Ok(())
+    /// # }
+    /// ```
+    ///
+    /// # Errors
+    ///
+    /// 1-9.
+    pub fn replay(&self, requests: impl IntoIterator<Item = Request>) -> Result<Judgement, Refusal> {
+        let list: Vec<u8> = requests.into_iter().flat_map(|request| request.to_bytes()).collect();
+        bytes::replay(self.characters, &list)
+    }
+}
+
+impl<'a> From<&'a [u8]> for Book<'a> {
+    fn from(characters: &'a [u8]) -> Self {
+        Book { characters }
+    }
+}
+
+impl<'a> From<&'a str> for Book<'a> {
+    fn from(characters: &'a str) -> Self {
+        Book { characters: characters.as_bytes() }
+    }
+}

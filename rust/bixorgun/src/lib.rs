@@ -1,0 +1,81 @@
+//! Bixorgun for Rust: who may come to hold which right in a parcel depot.
+//!
+//! A carrier writes a **book**: crews, rules, starting facts and one query. This crate wraps the five operations on it,
+//! which stand in `libbixorgun.a` and are proved there for every input:
+//!
+//! | Operation | By type | By slice |
+//! |---|---|---|
+//! | open: the ledger of starting facts | [`Book::open`] | [`bytes::open`] |
+//! | request: act on a ledger under the book's rules | [`Ledger::request`] | [`bytes::request`] |
+//! | show: what a person effectively holds and is effectively in | [`Ledger::show`] | [`bytes::show`] |
+//! | plan: no way, or requests that lead to the query | [`Book::plan`] | [`bytes::plan_into`] |
+//! | replay: judge a list of requests | [`Book::replay`] | [`bytes::replay`] |
+//!
+//! ```
+//! use bixorgun::{Answer, Attr, Book, Judgement, Person, Value};
+//!
+//! # fn main() -> Result<(), bixorgun::Refusal> {
+//! let book = Book::new("0101010102\n030100000100\n030501000001010001\n0402000000\n050100000301000001\n");
+//! let Answer::Plan(plan) = book.plan()? else { panic!("there is a way") };
+//! let lines: Vec<String> = plan.iter().map(|request| request.to_string()).collect();
+//! assert_eq!(lines, ["0100000001", "0501000000"]);
+//! assert_eq!(book.replay(&plan)?, Judgement::Reaches);
+//!
+//! let mut ledger = book.open()?;
+//! for request in &plan {
+//!     ledger.request(&book, request)?;
+//! }
+//! assert!(ledger.show(&book, Person(0))?.values(Attr(0)).contains(Value(0)));
+//! # Ok(())
+//! # }
+//! ```
+//!
+//! The operations keep no state, allocate nothing and may run on any number of threads at once. As measured, plan takes
+//! 230 KB of stack and the others 90 KB. An answer that `include/bixorgun.h` does not have means that another library was
+//! linked; the functions panic on it.
+//!
+//! Words in quotation marks are those of the specification.
+
+#![deny(unsafe_code)]
+#![warn(missing_docs)]
+
+pub mod bytes;
+
+mod book;
+mod ledger;
+mod numbers;
+mod plan;
+mod refusal;
+mod request;
+#[allow(unsafe_code)]
+mod sys;
+
+pub use book::Book;
+pub use ledger::{Ledger, View};
+pub use numbers::{Attr, Crew, Crews, Numbers, Person, Role, Value, Values};
+pub use plan::{Answer, Judgement, Plan, Requests};
+pub use refusal::Refusal;
+pub use request::{Act, Request};
+
+/// The characters of the longest book that is not refused.
+pub const BOOK_MAX: usize = 65_536;
+/// The bytes of a ledger.
+pub const LEDGER_SIZE: usize = 1_792;
+/// The bytes of a request.
+pub const REQUEST_SIZE: usize = 5;
+/// The bytes that show writes.
+pub const VIEW_SIZE: usize = 20;
+/// The bytes of a plan buffer that is long enough for every book.
+pub const PLAN_MAX: usize = plan_size(32, 8, 16);
+
+/// The bytes of a plan buffer that is long enough for a book whose first line is `01 P G A V`: 10 × F, with
+/// "F = (1 + G) × A × V + G".
+///
+/// ```
+/// assert_eq!(bixorgun::plan_size(0, 2, 2), 40);
+/// assert_eq!(bixorgun::PLAN_MAX, 42_560);
+/// ```
+#[must_use]
+pub const fn plan_size(crews: usize, attributes: usize, values: usize) -> usize {
+    10 * ((1 + crews) * attributes * values + crews)
+}

@@ -1,0 +1,442 @@
+//! The library against `reference`, the second implementation: seeded books, good and damaged, and all five operations.
+//!
+//! Each case is drawn from its own seed; a case that fails prints the seed and the book. Each run counts what it saw and
+//! wants every refusal of every operation, and every answer, at least once. The plan alone is left open: of it the runs
+//! want that both say no way or both plan, and that both accept both plans.
+
+use std::env;
+use std::fs;
+use std::path::PathBuf;
+use std::thread::panicking;
+
+use bixorgun::bytes::{self, Planned, Shown};
+use bixorgun::{Attr, Book, Judgement, Ledger, Person, Refusal, Request, LEDGER_SIZE, PLAN_MAX, VIEW_SIZE};
+use reference::book::Sizes;
+use reference::gen::{self, Draft, Rng};
+use reference::plan::demand;
+use reference::replay::Verdict;
+use reference::{book, ledger, plan, replay};
+
+const OPERATIONS: [&str; 5] = ["open", "request", "show", "plan", "replay"];
+const OPEN: usize = 0;
+const REQUEST: usize = 1;
+const SHOW: usize = 2;
+const PLAN: usize = 3;
+const REPLAY: usize = 4;
+
+const ANSWERS: [&str; 10] = [
+    "open done",
+    "request done, changed",
+    "request done, equal",
+    "show done",
+    "show no room",
+    "no way",
+    "plan",
+    "reaches",
+    "stops",
+    "ends short",
+];
+
+/// How often each refusal of each operation and each answer was seen.
+#[derive(Default)]
+struct Counts {
+    books: usize,
+    refusals: [[usize; 15]; 5],
+    answers: [usize; ANSWERS.len()],
+    bits: usize,
+    requests: usize,
+    longest: usize,
+}
+
+impl Counts {
+    fn answer(&mut self, name: &str) {
+        self.answers[ANSWERS.iter().position(|&answer| answer == name).expect("one of the answers")] += 1;
+    }
+
+    fn print(&self, run: &str) {
+        println!("{run}: {} books", self.books);
+        for (operation, numbers) in OPERATIONS.iter().zip(&self.refusals) {
+            let seen: Vec<_> = (1..15).filter(|&n| numbers[n] > 0).map(|n| format!("{n}: {}", numbers[n])).collect();
+            println!("  {operation:8} refused by {}", seen.join(", "));
+        }
+        let total: Vec<_> =
+            (1..15).map(|n| format!("{n}: {}", self.refusals.iter().map(|of| of[n]).sum::<usize>())).collect();
+        println!("  refusals in all {}", total.join(", "));
+        let answers: Vec<_> =
+            ANSWERS.iter().zip(self.answers).map(|(name, times)| format!("{name}: {times}")).collect();
+        println!("  {}", answers.join(", "));
+        println!("  bits damaged: {}; requests planned: {}, at most {}", self.bits, self.requests, self.longest);
+    }
+
+    /// Every refusal that the header gives an operation was seen, and no other; every answer was seen.
+    fn all_seen(&self) {
+        let own: [&[usize]; 5] = [&[11], &[11, 12, 13], &[11, 12], &[10], &[14]];
+        for ((operation, numbers), own) in OPERATIONS.iter().zip(&self.refusals).zip(own) {
+            for (n, &times) in numbers.iter().enumerate() {
+                let expected = (1..10).contains(&n) || own.contains(&n);
+                assert_eq!(times > 0, expected, "{operation}, refusal {n}: seen {times} times");
+            }
+        }
+        for (name, times) in ANSWERS.iter().zip(self.answers) {
+            assert!(times > 0, "{name}: never seen");
+        }
+        assert!(self.bits > 0);
+    }
+}
+
+/// A case, which prints itself when it fails.
+struct Case {
+    run: &'static str,
+    seed: u64,
+    text: Vec<u8>,
+}
+
+impl Drop for Case {
+    fn drop(&mut self) {
+        if panicking() {
+            println!("run {}, seed {:#X}; the book:", self.run, self.seed);
+            println!("{}", String::from_utf8_lossy(&self.text));
+        }
+    }
+}
+
+/// A refusal as number and line, of either implementation.
+type Turned = (u8, Option<usize>);
+
+fn ours(refusal: Refusal) -> Turned {
+    (refusal.number(), refusal.line())
+}
+
+fn of_book(refusal: book::Refusal) -> Turned {
+    (refusal.number(), Some(refusal.line))
+}
+
+fn of_ledger(refusal: ledger::Refusal) -> Turned {
+    match refusal {
+        ledger::Refusal::Book(refusal) => of_book(refusal),
+        other => (other.number(), None),
+    }
+}
+
+fn of_plan(refusal: plan::Refusal) -> Turned {
+    match refusal {
+        plan::Refusal::Book(refusal) => of_book(refusal),
+        other => (other.number(), None),
+    }
+}
+
+fn of_replay(refusal: replay::Refusal) -> Turned {
+    match refusal {
+        replay::Refusal::Book(refusal) => of_book(refusal),
+        other => (other.number(), None),
+    }
+}
+
+/// Bytes of a length, anyhow.
+fn filled(rng: &mut Rng, length: usize) -> Vec<u8> {
+    let first = rng.bits() as usize;
+    (0..length).map(|at| (first.wrapping_add(at.wrapping_mul(167)) >> (at % 3)) as u8).collect()
+}
+
+impl Case {
+    fn open(&self, before: &[u8], counts: &mut Counts) {
+        let (mut here, mut there) = (before.to_vec(), before.to_vec());
+        let answer = bytes::open(&self.text, &mut here).map_err(ours);
+        assert_eq!(answer, ledger::open(&self.text, &mut there).map_err(of_ledger), "open");
+        assert_eq!(here, there, "open, the ledger");
+        match answer {
+            Ok(()) => {
+                counts.answer("open done");
+                assert_eq!(
+                    Book::new(&self.text).open().map(Ledger::into_bytes).as_ref().map(|b| &b[..]),
+                    Ok(&here[..])
+                );
+            }
+            Err((number, _)) => {
+                assert_eq!(here, before, "open, refused");
+                counts.refusals[OPEN][usize::from(number)] += 1;
+            }
+        }
+    }
+
+    /// Gives the ledger afterwards.
+    fn request(&self, before: &[u8], request: &[u8], counts: &mut Counts) -> Vec<u8> {
+        let (mut here, mut there) = (before.to_vec(), before.to_vec());
+        let answer = bytes::request(&self.text, &mut here, request).map_err(ours);
+        assert_eq!(answer, ledger::request(&self.text, &mut there, request).map_err(of_ledger), "request {request:?}");
+        assert_eq!(here, there, "request {request:?}, the ledger");
+        match answer {
+            Ok(()) => counts.answer(if here == before { "request done, equal" } else { "request done, changed" }),
+            Err((number, _)) => {
+                assert_eq!(here, before, "request {request:?}, refused");
+                counts.refusals[REQUEST][usize::from(number)] += 1;
+            }
+        }
+        // The same by types, where there are types for it.
+        let typed = request.try_into().ok().and_then(Request::from_bytes);
+        if let (Some(request), Ok(mut ledger)) = (typed, Ledger::try_from(before)) {
+            assert_eq!(ledger.request(&Book::new(&self.text), request).map_err(ours), answer);
+            assert_eq!(ledger.as_ref(), here);
+        }
+        here
+    }
+
+    fn show(&self, ledger: &[u8], person: u8, room: usize, rng: &mut Rng, counts: &mut Counts) {
+        let before = filled(rng, room);
+        let mut view = before.clone();
+        let answer = bytes::show_into(&self.text, ledger, Person(person), &mut view).map_err(ours);
+        let typed = bytes::show(&self.text, ledger, Person(person)).map_err(ours);
+        match ledger::show(&self.text, ledger, person).map_err(of_ledger) {
+            Ok(shown) => {
+                let sets = shown.sets.iter().flat_map(|set| set.to_be_bytes());
+                let front: Vec<u8> = sets.chain(shown.crews.to_be_bytes()).collect();
+                if room < VIEW_SIZE {
+                    assert_eq!(answer, Ok(Shown::NoRoom), "show {person}");
+                    assert_eq!(view, before, "show {person}, no room");
+                    counts.answer("show no room");
+                } else {
+                    assert_eq!(answer, Ok(Shown::Done), "show {person}");
+                    assert_eq!(view[..VIEW_SIZE], front, "show {person}, the view");
+                    assert_eq!(view[VIEW_SIZE..], before[VIEW_SIZE..], "show {person}, behind the view");
+                    counts.answer("show done");
+                }
+                let typed = typed.expect("shown");
+                for (attr, set) in (0..).map(Attr).zip(shown.sets) {
+                    assert_eq!(typed.values(attr).bits(), set);
+                    assert!(typed.values(attr).iter().map(u8::from).eq(ledger::numbers(set.into())));
+                }
+                assert_eq!(typed.crews().bits(), shown.crews);
+                assert!(typed.crews().iter().map(u8::from).eq(ledger::numbers(shown.crews.into())));
+            }
+            Err(turned) => {
+                assert_eq!(answer, Err(turned), "show {person}");
+                assert_eq!(typed, Err(turned));
+                assert_eq!(view, before, "show {person}, refused");
+                counts.refusals[SHOW][usize::from(turned.0)] += 1;
+            }
+        }
+    }
+
+    fn replay(&self, list: &[u8], counts: &mut Counts) -> Option<Judgement> {
+        let answer = bytes::replay(&self.text, list).map_err(ours);
+        let expected = replay::replay(&self.text, list).map_err(of_replay).map(|verdict| match verdict {
+            Verdict::Reaches => Judgement::Reaches,
+            Verdict::StopsAt(k) => Judgement::Stops(k),
+            Verdict::EndsShort => Judgement::EndsShort,
+        });
+        assert_eq!(answer, expected, "replay {list:?}");
+        match answer {
+            Ok(Judgement::Reaches) => counts.answer("reaches"),
+            Ok(Judgement::Stops(_)) => counts.answer("stops"),
+            Ok(Judgement::EndsShort) => counts.answer("ends short"),
+            Err((number, _)) => counts.refusals[REPLAY][usize::from(number)] += 1,
+        }
+        answer.ok()
+    }
+
+    /// Plans in a buffer of a length; both plans are then replayed by both, whole and damaged.
+    fn plan(&self, length: usize, rng: &mut Rng, counts: &mut Counts) {
+        let before = filled(rng, length);
+        let (mut here, mut there) = (before.clone(), before.clone());
+        let answer = bytes::plan_into(&self.text, &mut here).map_err(ours);
+        let expected = plan::plan(&self.text, &mut there).map_err(of_plan);
+        match (answer, expected) {
+            (Ok(Planned::NoWay), Ok(plan::Answer::NoWay)) => {
+                assert_eq!(here, before, "plan, no way");
+                counts.answer("no way");
+            }
+            (Ok(Planned::Plan(count)), Ok(plan::Answer::Plan(other))) => {
+                let (front, behind) = here.split_at(5 * count);
+                assert_eq!(behind, &before[5 * count..], "plan, behind it");
+                let book = book::read(&self.text).expect("planned");
+                let requests: Option<Vec<_>> =
+                    front.chunks(5).map(|five| ledger::Request::from_bytes(&book.sizes, five)).collect();
+                assert_eq!(demand::check(&book, &requests.expect("well formed")), Ok(()), "plan {front:?}");
+                assert_eq!(self.replay(front, counts), Some(Judgement::Reaches), "plan {front:?}");
+                assert_eq!(self.replay(&there[..5 * other], counts), Some(Judgement::Reaches));
+                self.damaged(front, rng, counts);
+                counts.answer("plan");
+                counts.requests += count;
+                counts.longest = counts.longest.max(count);
+            }
+            (Err(turned), Err(expected)) => {
+                assert_eq!(turned, expected, "plan");
+                assert_eq!(here, before, "plan, refused");
+                counts.refusals[PLAN][usize::from(turned.0)] += 1;
+            }
+            differ => panic!("plan: {differ:?}"),
+        }
+    }
+
+    /// A plan with a request lost or doubled, a bit changed, and its end cut.
+    fn damaged(&self, plan: &[u8], rng: &mut Rng, counts: &mut Counts) {
+        if plan.is_empty() {
+            return;
+        }
+        let at = 5 * rng.below(plan.len() / 5);
+        let mut list = plan.to_vec();
+        list.drain(at..at + 5);
+        self.replay(&list, counts);
+        list = plan.to_vec();
+        list.extend_from_slice(&plan[at..at + 5]);
+        self.replay(&list, counts);
+        list = plan.to_vec();
+        list[rng.below(plan.len())] ^= 1 << rng.below(8);
+        counts.bits += 1;
+        self.replay(&list, counts);
+        self.replay(&plan[..rng.below(plan.len())], counts);
+    }
+}
+
+/// All five operations on one book: what is lent is now good and now bad.
+fn operate(case: &Case, sizes: Sizes, rng: &mut Rng, counts: &mut Counts) {
+    counts.books += 1;
+    let book = book::read(&case.text).ok();
+    let sizes = book.as_ref().map_or(sizes, |book| book.sizes);
+
+    let length = if rng.percent(90) { LEDGER_SIZE } else { rng.pick(&[0, 1, LEDGER_SIZE - 1, LEDGER_SIZE + 1]) };
+    let before = filled(rng, length);
+    case.open(&before, counts);
+
+    // A run of requests from the starting facts or from any ledger.
+    let mut bytes = match &book {
+        Some(book) if rng.percent(50) => ledger::Ledger::start(book).to_bytes().to_vec(),
+        _ if rng.percent(85) => gen::ledger(rng, &sizes),
+        _ => gen::damaged_ledger(rng, &sizes),
+    };
+    let steps = if book.is_some() { 4 } else { 1 };
+    for _ in 0..steps {
+        let request = match &book {
+            _ if rng.percent(15) => gen::damaged_request(rng, &sizes),
+            Some(book) if rng.percent(85) => gen::apt_request(rng, book).to_vec(),
+            _ => gen::request(rng, &sizes).to_vec(),
+        };
+        bytes = case.request(&bytes, &request, counts);
+    }
+    let person = if rng.percent(85) { rng.byte(0, sizes.persons - 1) } else { rng.pick(&[sizes.persons, 64, 255]) };
+    let room = if rng.percent(80) { VIEW_SIZE + rng.below(4) } else { rng.below(VIEW_SIZE) };
+    case.show(&bytes, person, room, rng, counts);
+
+    // One bit of the ledger and one of a request, anywhere.
+    if bytes.len() == LEDGER_SIZE {
+        for _ in 0..2 {
+            let mut bent = bytes.clone();
+            bent[rng.below(LEDGER_SIZE)] ^= 1 << rng.below(8);
+            let mut request = gen::request(rng, &sizes);
+            case.request(&bent, &request, counts);
+            case.show(&bent, person, VIEW_SIZE, rng, counts);
+            request[rng.below(5)] ^= 1 << rng.below(8);
+            case.request(&bytes, &request, counts);
+            counts.bits += 2;
+        }
+    }
+
+    let need = 10 * sizes.facts();
+    let length = match rng.below(10) {
+        0 => need - 1,
+        1 => rng.below(need),
+        2 => need + rng.below(30),
+        3 => PLAN_MAX,
+        _ => need,
+    };
+    case.plan(length, rng, counts);
+
+    let list = match &book {
+        Some(book) => gen::list(rng, book),
+        None => filled(rng, 7),
+    };
+    case.replay(&list, counts);
+}
+
+/// What `BIXORGUN_SHIFT` adds to every seed, to draw other books.
+fn shift() -> u64 {
+    match env::var("BIXORGUN_SHIFT") {
+        Ok(shift) => shift.parse().expect("BIXORGUN_SHIFT is a number"),
+        Err(_) => 0,
+    }
+}
+
+/// So many cases: most are good books, some are damaged by each of 1 to 9, some by noise.
+fn run(name: &'static str, first: u64, cases: u64, draw: impl Fn(&mut Rng) -> Draft) {
+    let mut counts = Counts::default();
+    let first = first + shift();
+    for seed in first..first + cases {
+        let mut rng = Rng::new(seed);
+        let draft = draw(&mut rng);
+        let mut case = Case { run: name, seed, text: draft.text() };
+        let kind = rng.below(100);
+        if kind < 18 {
+            let number = (kind % 9 + 1) as u8;
+            if let Some((text, line)) = gen::damaged_book(&mut rng, number, &draft) {
+                case.text = text;
+                assert_eq!(Book::new(&case.text).open().map_err(ours), Err((number, Some(line))));
+            }
+        } else if kind < 30 {
+            gen::noise(&mut rng, &mut case.text);
+        }
+        operate(&case, draft.sizes, &mut rng, &mut counts);
+    }
+    counts.print(name);
+    counts.all_seen();
+}
+
+#[test]
+fn small() {
+    run("small", 0x0B1C_0000_0000, 60_000, gen::small_book);
+}
+
+#[test]
+fn small_aimed() {
+    run("small and aimed", 0x0B1C_1000_0000, 40_000, gen::small_aimed_book);
+}
+
+#[test]
+fn middle() {
+    run("middle", 0x0B1C_2000_0000, 15_000, gen::middle_book);
+}
+
+#[test]
+fn tangled() {
+    run("tangled", 0x0B1C_3000_0000, 5_000, |rng| gen::tangled_book(rng, (4, 3, 4)));
+}
+
+#[test]
+fn ladders() {
+    run("ladders", 0x0B1C_4000_0000, 5_000, |rng| gen::ladder_book(rng, 6, 16));
+}
+
+#[test]
+fn large() {
+    run("large", 0x0B1C_5000_0000, 600, |rng| {
+        let mut draft = gen::large_book(rng);
+        if rng.percent(50) {
+            let book = book::read(&draft.text()).expect("a good book");
+            let ledger = gen::walk(rng, &book, 2_000);
+            gen::aim(rng, &mut draft, &book, &ledger);
+        }
+        draft
+    });
+}
+
+/// The repository's stored books, good and bad.
+#[test]
+fn stored() {
+    let mut files = Vec::new();
+    for name in ["plan_books", "judge_books"] {
+        let dir: PathBuf = [env!("CARGO_MANIFEST_DIR"), "..", "..", "crates", name, "data"].iter().collect();
+        let entries = fs::read_dir(&dir).unwrap_or_else(|error| panic!("{}: {error}", dir.display()));
+        files.extend(entries.map(|entry| entry.expect("an entry").path()));
+    }
+    files.sort();
+    let mut counts = Counts::default();
+    for (seed, file) in (0x0B1C_6000_0000..).zip(&files) {
+        let text = fs::read(file).unwrap_or_else(|error| panic!("{}: {error}", file.display()));
+        let case = Case { run: "stored", seed, text };
+        let mut rng = Rng::new(seed);
+        let Draft { sizes, .. } = gen::small_book(&mut rng);
+        (0..5).for_each(|_| operate(&case, sizes, &mut rng, &mut counts));
+    }
+    counts.print("stored");
+    counts.all_seen();
+    assert!(counts.books > 1_000);
+}

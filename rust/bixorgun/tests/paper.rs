@@ -1,0 +1,240 @@
+//! The specification's example, D1 to D12, and the shapes of answers.
+
+use std::fmt::Write as _;
+
+use bixorgun::bytes::{self, Planned, Shown};
+use bixorgun::{Act, Answer, Attr, Book, Crew, Judgement, Ledger, Person, Plan, Refusal, Request, Role, Value};
+use bixorgun::{LEDGER_SIZE, PLAN_MAX, VIEW_SIZE};
+
+const D1: &str = "0101010102\n030100000100\n030501000001010001\n0402000000\n050100000301000001\n";
+const HOLDS_BOTH: &str = "0401000000\n0401000001\n";
+const EACH_NEEDS_THE_OTHER: &str = "030200000001010001\n030200000101010000\n";
+
+/// One person, one attribute, values 0 and 1, no crews.
+fn bare(frames: &str, query: &str) -> String {
+    format!("0101000102\n{frames}{query}\n")
+}
+
+/// The same with crew 1, the senior of crew 0, and a query that is not asked.
+fn two_crews(frames: &str) -> String {
+    format!("0101020102\n020100\n{frames}050100FFFF00\n")
+}
+
+/// "exactly": mode 02, all roles, the one attribute, no crews.
+fn exactly(set: u16) -> String {
+    format!("050200FFFF0100{set:04X}00000000")
+}
+
+/// What the product's program prints for a book.
+fn printed(book: &str) -> String {
+    match Book::new(book).plan() {
+        Ok(Answer::NoWay) => "80\n".to_owned(),
+        Ok(Answer::Plan(plan)) => plan.iter().fold(format!("81{:04X}\n", plan.len()), |mut text, request| {
+            writeln!(text, "{request}").expect("a string takes all");
+            text
+        }),
+        Err(refusal) => format!("8F{:02X}{:04X}\n", refusal.number(), refusal.line().unwrap_or(0)),
+    }
+}
+
+/// Plans a book, and sees that the plan works when it is carried out; its requests.
+fn planned(book: &str) -> Option<Vec<[u8; 5]>> {
+    let book = Book::new(book);
+    let plan = book.plan().expect("accepted").plan()?;
+    assert_eq!(book.replay(&plan), Ok(Judgement::Reaches));
+    let mut ledger = book.open().expect("accepted");
+    for request in &plan {
+        let before = ledger.clone();
+        ledger.request(&book, request).expect("permitted");
+        assert_ne!(before, ledger);
+    }
+    Some(plan.iter().map(|request| request.to_bytes()).collect())
+}
+
+fn judged(book: &str, list: &[[u8; 5]]) -> Judgement {
+    bytes::replay(book.as_bytes(), &list.concat()).expect("judged")
+}
+
+#[test]
+fn the_example_is_printed() {
+    assert_eq!(printed(D1), "810002\n0100000001\n0501000000\n");
+    assert_eq!(printed(""), "8F030001\n");
+    assert_eq!(printed(&bare("", "050100FFFF01000001")), "80\n");
+    assert_eq!(printed(&bare("", "050100FFFF00")), "810000\n");
+}
+
+#[test]
+fn d1_and_d2() {
+    let (add, assign) = ([1, 0, 0, 0, 1], [5, 1, 0, 0, 0]);
+    assert_eq!(planned(D1), Some(vec![add, assign]));
+    assert_eq!(judged(D1, &[add]), Judgement::EndsShort);
+    assert_eq!(judged(D1, &[assign, add]), Judgement::Stops(1));
+    assert_eq!(judged(D1, &[add, add, [9; 5], assign]), Judgement::Stops(3));
+    let d2 = D1.replace("05010000030", "05010000010");
+    assert_eq!(planned(&d2), None);
+    assert_eq!(judged(&d2, &[add, assign]), Judgement::Stops(2));
+}
+
+#[test]
+fn d3_to_d5() {
+    let (zero, one) = ([2, 0, 0, 0, 0], [2, 0, 0, 0, 1]);
+    let each = format!("{HOLDS_BOTH}{EACH_NEEDS_THE_OTHER}");
+    assert_eq!(planned(&bare(&each, &exactly(0b00))), None, "D3");
+    assert_eq!(planned(&bare(&each, &exactly(0b10))), Some(vec![zero]), "D4");
+    let d5 = bare(&format!("{HOLDS_BOTH}030200000001010001\n030200000100\n"), &exactly(0b00));
+    assert_eq!(planned(&d5), Some(vec![zero, one]), "D5");
+    assert_eq!(judged(&d5, &[one, zero]), Judgement::Stops(2));
+}
+
+#[test]
+fn d6_to_d9() {
+    let d6 = bare("030100000000\n030100000100\n", &exactly(0b01));
+    assert_eq!(planned(&d6), Some(vec![[1, 0, 0, 0, 0]]), "D6");
+    assert_eq!(planned(&bare("", "050100FFFF00")), Some(vec![]), "D7");
+    assert_eq!(planned(&bare("030100000001010000\n", "050100FFFF01000001")), None, "D8");
+    let d9 = bare("0401000000\n030200000001010000\n", &exactly(0b00));
+    assert_eq!(planned(&d9), Some(vec![[2, 0, 0, 0, 0]]), "D9");
+}
+
+#[test]
+fn d10_a_senior_inherits_and_a_junior_does_not() {
+    let text = two_crews("0403000100\n0402000000\n");
+    let book = Book::new(&text);
+    let view = book.open().expect("opens").show(&book, Person(0)).expect("shown");
+    assert!(view.values(Attr(0)).iter().eq([Value(0)]));
+    assert!(view.crews().iter().eq([Crew(0), Crew(1)]));
+    let text = two_crews("0403000000\n0402010000\n");
+    let book = Book::new(&text);
+    let view = book.open().expect("opens").show(&book, Person(0)).expect("shown");
+    assert!(view.values(Attr(0)).is_empty());
+    assert!(view.crews().iter().eq([Crew(0)]));
+}
+
+#[test]
+fn d11_removal_from_a_crew_held_through_a_senior() {
+    let text = two_crews("0403000100\n030600000000\n");
+    let book = Book::new(&text);
+    let mut ledger = book.open().expect("opens");
+    let before = ledger.clone();
+    assert_eq!(ledger.request(&book, Request::new(Role(0), Act::Remove(Person(0), Crew(0)))), Ok(()));
+    assert_eq!(ledger, before);
+}
+
+#[test]
+fn d12_a_deleted_value_that_is_inherited() {
+    let text = two_crews("0401000000\n0402000000\n0403000000\n030200000000\n");
+    let book = Book::new(&text);
+    let mut ledger = book.open().expect("opens");
+    assert_eq!(ledger.as_bytes()[1], 1);
+    let delete = Request::new(Role(0), Act::DeleteFromPerson(Person(0), Attr(0), Value(0)));
+    assert_eq!(ledger.request(&book, delete), Ok(()));
+    assert_eq!(ledger.as_bytes()[1], 0);
+    assert!(ledger.show(&book, Person(0)).expect("shown").values(Attr(0)).contains(Value(0)));
+}
+
+#[test]
+fn the_ledgers_places() {
+    let text = "0140200810\n04013F070F\n04021F070F\n04033F1F00\n0401000000\n050100000000\n";
+    let ledger = Book::new(text).open().expect("opens");
+    assert_eq!(format!("{ledger:?}"), "Ledger {1: 1, 1022: 128, 1534: 128, 1788: 128}");
+    assert!(Ledger::try_from(&ledger.as_bytes()[..]).is_ok_and(|again| again == ledger));
+    assert!(Ledger::try_from(&ledger.as_bytes()[1..]).is_err());
+    assert_eq!(Ledger::from(*ledger.as_bytes()).into_bytes()[..], *ledger.as_ref());
+}
+
+/// Shows bytes, front and behind, and what each number of a view says.
+#[test]
+fn the_bytes_of_show() {
+    // Person 63 holds values 15 and 0 of attribute 7 and 3 of attribute 1, and is in crew 31, senior of 9, which holds 8.
+    let text = "0140200810\n04013F070F\n04013F0700\n04013F0103\n04033F1F00\n021F09\n0402090108\n050100000000\n";
+    let book = Book::new(text);
+    let ledger = book.open().expect("opens");
+    let mut buffer = [0xA5; VIEW_SIZE + 3];
+    assert_eq!(bytes::show_into(text.as_bytes(), ledger.as_ref(), Person(63), &mut buffer), Ok(Shown::Done));
+    let (front, behind) = buffer.split_at(VIEW_SIZE);
+    assert_eq!(front, [0, 0, 1, 8, 0, 0, 0, 0, 0, 0, 0, 0, 0, 0, 0x80, 1, 0x80, 0, 2, 0]);
+    assert_eq!(behind, [0xA5; 3]);
+    let view = ledger.show(&book, Person(63)).expect("shown");
+    assert!(view.values(Attr(7)).iter().eq([Value(0), Value(15)]));
+    assert!(view.values(Attr(1)).iter().eq([Value(3), Value(8)]));
+    assert!(view.crews().iter().eq([Crew(9), Crew(31)]));
+    assert_eq!((view.crews().len(), view.values(Attr(8)).len()), (2, 0));
+    assert!(!view.values(Attr(7)).contains(Value(16)) && !view.crews().contains(Crew(32)));
+    let named: Vec<_> = view.sets().filter(|(_, set)| !set.is_empty()).map(|(attr, set)| (attr, set.bits())).collect();
+    assert_eq!(named, [(Attr(1), 0x0108), (Attr(7), 0x8001)]);
+    for length in 0..VIEW_SIZE {
+        let mut short = vec![0xA5; length];
+        assert_eq!(bytes::show_into(text.as_bytes(), ledger.as_ref(), Person(63), &mut short), Ok(Shown::NoRoom));
+        assert_eq!(short, vec![0xA5; length]);
+        // A refusal comes before the want of room.
+        assert_eq!(
+            bytes::show_into(text.as_bytes(), ledger.as_ref(), Person(64), &mut short),
+            Err(Refusal::BadRequest)
+        );
+    }
+}
+
+#[test]
+fn a_plan_iterates() {
+    let book = Book::new(D1);
+    let Ok(Answer::Plan(plan)) = book.plan() else { panic!("a plan") };
+    let add = Request::new(Role(0), Act::AddToPerson(Person(0), Attr(0), Value(1)));
+    let assign = Request::new(Role(1), Act::Assign(Person(0), Crew(0)));
+    assert_eq!(plan.as_slice(), [add, assign]);
+    assert_eq!((plan.len(), plan.is_empty(), plan.iter().len()), (2, false, 2));
+    assert!(plan.iter().rev().eq([assign, add]));
+    assert!((&plan).into_iter().eq([add, assign]));
+    assert_eq!(plan.iter().collect::<Plan>(), plan);
+    assert_eq!(book.replay(plan.iter().take(1)), Ok(Judgement::EndsShort));
+    assert_eq!(book.replay(plan.iter().rev()), Ok(Judgement::Stops(1)));
+    assert_eq!(plan.to_bytes(), [1, 0, 0, 0, 1, 5, 1, 0, 0, 0]);
+    assert!(plan.into_iter().eq([add, assign]));
+    assert!(Plan::default().is_empty());
+}
+
+/// A buffer of exactly 10 × F, and a longer one; a plan in its front, and all behind as it was.
+#[test]
+fn a_plan_fills_the_front() {
+    let need = bixorgun::plan_size(1, 1, 2);
+    for length in [need, need + 1, PLAN_MAX] {
+        let mut buffer = vec![0xA5; length];
+        assert_eq!(bytes::plan_into(D1.as_bytes(), &mut buffer), Ok(Planned::Plan(2)));
+        assert_eq!(buffer[..10], [1, 0, 0, 0, 1, 5, 1, 0, 0, 0]);
+        assert!(buffer[10..].iter().all(|&byte| byte == 0xA5));
+        let d2 = D1.replace("05010000030", "05010000010");
+        let before = buffer.clone();
+        assert_eq!(bytes::plan_into(d2.as_bytes(), &mut buffer), Ok(Planned::NoWay));
+        assert_eq!(buffer, before);
+    }
+}
+
+#[test]
+fn requests_and_their_bytes() {
+    for op in 0..=255 {
+        for v in [0, 1, 255] {
+            let five = [op, 15, 63, 7, v];
+            let good = (1..=4).contains(&op) || matches!((op, v), (5 | 6, 0));
+            let request = Request::from_bytes(five);
+            assert_eq!(request.is_some(), good, "{five:?}");
+            if let Some(request) = request {
+                assert_eq!(request.to_bytes(), five);
+            } else {
+                let mut ledger = [0; LEDGER_SIZE];
+                let book = "0140200810\n050100000000\n";
+                assert_eq!(bytes::request(book.as_bytes(), &mut ledger, &five), Err(Refusal::BadRequest));
+            }
+        }
+    }
+}
+
+/// A lent book, a ledger and an answer may go to other threads.
+#[test]
+fn threads() {
+    std::thread::scope(|scope| {
+        let threads: Vec<_> = (0..4).map(|_| scope.spawn(|| Book::new(D1).plan())).collect();
+        for thread in threads {
+            let answer = thread.join().expect("no panic").expect("accepted");
+            assert_eq!(answer.plan().map(|plan| plan.len()), Some(2));
+        }
+    });
+}
