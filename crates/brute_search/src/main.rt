@@ -182,14 +182,22 @@ fn try_next(seed: &mut u64, t: Tally) -> Tally {
     counted(t, f, is_met_at_start(&book[..len]))
 }
 
+// A line of a name and its count.
+fn print_count(name: &[u8], n: usize) {
+    io::write_all(STDOUT_FILENO, name);
+    io::write_all(STDOUT_FILENO, b" ");
+    io::print_decimal(STDOUT_FILENO, n as u64);
+    io::write_all(STDOUT_FILENO, b"\n");
+}
+
 fn print_tally(t: Tally) {
-    trials::print_count(b"books", BOOKS);
-    trials::print_count(b"met by the starting facts", t.met);
-    trials::print_count(b"no way", t.no_way);
-    trials::print_count(b"plans", t.plans);
-    trials::print_count(b"plans with deletions", t.deleting);
-    trials::print_count(b"longest plan", t.longest);
-    trials::print_count(b"differences", t.differences);
+    print_count(b"books", BOOKS);
+    print_count(b"met by the starting facts", t.met);
+    print_count(b"no way", t.no_way);
+    print_count(b"plans", t.plans);
+    print_count(b"plans with deletions", t.deleting);
+    print_count(b"longest plan", t.longest);
+    print_count(b"differences", t.differences);
 }
 
 fn main() {

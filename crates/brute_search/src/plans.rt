@@ -84,7 +84,7 @@ fn is_reaching(r: replay::Replayed) -> bool {
 }
 
 // A plan from the starting facts: its requests, its last ledger, and what replay says of it.
-pub fn tried(book: &[u8], query: &[u8], d: Depot, table: &[u8], plan: &[u8]) -> Trace
+pub(crate) fn tried(book: &[u8], query: &[u8], d: Depot, table: &[u8], plan: &[u8]) -> Trace
     requires { ⌜ d .facts ≤ 12 ⌝ }
 {
     let mut ledger = [0u8; 1792];
@@ -101,7 +101,7 @@ pub fn tried(book: &[u8], query: &[u8], d: Depot, table: &[u8], plan: &[u8]) -> 
 }
 
 // Whether a buffer still has its filling from a place on.
-pub fn is_kept(buffer: &[u8], from: usize, filling: u8) -> bool {
+pub(crate) fn is_kept(buffer: &[u8], from: usize, filling: u8) -> bool {
     let mut i = from;
     while i < buffer.len() {
         if buffer[i] != filling {
@@ -113,7 +113,7 @@ pub fn is_kept(buffer: &[u8], from: usize, filling: u8) -> bool {
 }
 
 // Whether a plan buffer that is too short is refused by 10 and keeps its filling.
-pub fn is_short_refused(book: &[u8], room: &mut [u8], filling: u8) -> bool {
+pub(crate) fn is_short_refused(book: &[u8], room: &mut [u8], filling: u8) -> bool {
     let answer = planner::plan(book, room);
     let kept = is_kept(room, 0, filling);
     match answer {
@@ -124,7 +124,7 @@ pub fn is_short_refused(book: &[u8], room: &mut [u8], filling: u8) -> bool {
 }
 
 // Whether replay refuses seven bytes by 14.
-pub fn is_length_refused(book: &[u8]) -> bool {
+pub(crate) fn is_length_refused(book: &[u8]) -> bool {
     let list = [1u8; 7];
     let answer = replay::replay(book, &list);
     match answer {

@@ -27,7 +27,7 @@ fn fill_ledger(table: &[u8], count: usize, state: u32, ledger: &mut [u8])
 }
 
 // The state of a ledger.
-pub fn state_of(table: &[u8], count: usize, ledger: &[u8]) -> u32
+pub(crate) fn state_of(table: &[u8], count: usize, ledger: &[u8]) -> u32
     requires { ⌜ count ≤ 12 ⌝ }
 {
     let mut state: u32 = 0;
@@ -78,7 +78,7 @@ pub fn aim_of(table: &[u8], count: usize, q: &[u8]) -> u8
 }
 
 // Whether an op adds its fact; the others delete it.
-pub fn is_adding(op: u8) -> bool {
+pub(crate) fn is_adding(op: u8) -> bool {
     op % 2 == 1
 }
 
@@ -296,7 +296,7 @@ fn explore(
 }
 
 // Whether some chain of requests leads from the starting facts to a ledger that meets the query.
-pub fn is_reachable(book: &[u8], query: &[u8], d: Depot, table: &[u8], heads: &[u8]) -> bool
+pub(crate) fn is_reachable(book: &[u8], query: &[u8], d: Depot, table: &[u8], heads: &[u8]) -> bool
     requires { ⌜ d .facts ≤ 12 ⌝ }
 {
     let mut moves = [0u8; 216];

@@ -1,6 +1,9 @@
 // Small depots drawn from a seed, each written as a book's characters: 1-2 persons, 0-3 crews, 1-2 attributes of 1-3 values, up to
 // twelve rules of every op and every kind of term, starting facts, and a query of either mode.
-ghost use Prim.Native.Nat.{_≤_};
+ghost use mathlib.Core.Path.{_≡_};
+ghost use Prim.Native.Nat.{_+_, _*_, _≤_};
+ghost use Rattle.lines.specs.Digits.{byteAt};
+ghost use Rattle.frames.specs.Book.{factOf};
 use facts::Attr;
 use facts::Crew;
 use facts::Fact;
@@ -134,6 +137,7 @@ fn list_facts(z: Sizes, table: &mut [u8]) {
 // Fact i of the table.
 pub fn fact_at(table: &[u8], i: usize) -> Fact
     requires { ⌜ i ≤ 64 ⌝ }
+    ensures { λ r. ⌜ r ≡ factOf (byteAt (now (table .entry)) (4 * i)) (byteAt (now (table .entry)) (4 * i + 1)) (byteAt (now (table .entry)) (4 * i + 2)) (byteAt (now (table .entry)) (4 * i + 3)) ⌝ }
 {
     let kind = trials::byte_in(table, 4 * i);
     let s = trials::byte_in(table, 4 * i + 1);
@@ -434,7 +438,9 @@ fn put_query(seed: &mut u64, z: Sizes, book: &mut [u8], at: usize) -> usize {
 }
 
 // Draws a depot. The table takes its facts and the heads its rules' op, role, a and v, four bytes each; the book its characters.
-pub fn make(seed: &mut u64, table: &mut [u8], heads: &mut [u8], book: &mut [u8]) -> Depot {
+pub fn make(seed: &mut u64, table: &mut [u8], heads: &mut [u8], book: &mut [u8]) -> Depot
+    ensures { λ r. ⌜ r .rules ≤ 12 ⌝ }
+{
     let z = draw_sizes(seed);
     let facts = fact_count(z);
     list_facts(z, table);

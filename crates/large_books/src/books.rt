@@ -196,7 +196,7 @@ fn put_row(book: &mut [u8]) -> usize {
 }
 
 // Writes book k, and answers its length.
-pub fn put_book(book: &mut [u8], k: u8) -> usize {
+pub(crate) fn put_book(book: &mut [u8], k: u8) -> usize {
     if k == 0 {
         return put_chain(book);
     }

@@ -2,7 +2,6 @@
 // carried out one by one.
 ghost use mathlib.Core.Path.{_≡_};
 ghost use Prim.Native.Nat.{_≤_};
-use trials::Course;
 
 // The changes to a plan.
 pub const LEFT_OUT: u8 = 0;
@@ -105,6 +104,50 @@ fn is_same(one: &[u8], two: &[u8]) -> bool {
     true
 }
 
+// What a list of requests comes to. Stops names the first request that does not go, counted from 1.
+pub enum Course {
+    Reaches,
+    Stops(usize),
+    EndsShort,
+}
+
+// The bytes of a slice from one place to another, as far as it goes.
+pub(crate) fn part(s: &[u8], from: usize, to: usize) -> &[u8] {
+    let end = trials::lent(s, to);
+    let start = trials::lent(s, from);
+    if start > end {
+        return &s[end..end];
+    }
+    &s[start..end]
+}
+
+// How many requests go from the ledger on, up to the first that does not.
+fn count_going(book: &[u8], query: &[u8], ledger: &mut [u8], plan: &[u8]) -> usize {
+    let n = plan.len() / 5;
+    let mut i: usize = 0;
+    while i < n {
+        let at = 5 * i;
+        let end = at + 5;
+        if !trials::goes(book, query, ledger, &plan[at..end]) {
+            return i;
+        }
+        i += 1;
+    }
+    n
+}
+
+// A list of requests from a ledger on.
+fn judge_from(book: &[u8], query: &[u8], ledger: &mut [u8], plan: &[u8]) -> Course {
+    let n = count_going(book, query, ledger, plan);
+    if n < plan.len() / 5 {
+        return Course::Stops(n + 1);
+    }
+    if trials::is_met(book, query, ledger) {
+        return Course::Reaches;
+    }
+    Course::EndsShort
+}
+
 // A course of requests behind `done` others.
 fn behind(done: usize, c: Course) -> Course {
     match c {
@@ -116,7 +159,7 @@ fn behind(done: usize, c: Course) -> Course {
 
 // What a list comes to that is a plan changed at place k, where the ledger before that place is given. Where the ledger is the plan's own
 // two requests later, the rest of both is the same, and the plan reaches.
-pub fn course_of(
+pub(crate) fn course_of(
     book: &[u8],
     query: &[u8],
     ledger: &[u8],
@@ -133,25 +176,25 @@ pub fn course_of(
     let mut there = [0u8; 1792];
     copy_ledger(ledger, &mut here);
     copy_ledger(ledger, &mut there);
-    let first = trials::part(list, at, at + 10);
-    let went = trials::count_going(book, query, &mut here, first);
+    let first = part(list, at, at + 10);
+    let went = count_going(book, query, &mut here, first);
     if went < first.len() / 5 {
         return Course::Stops(k + went + 1);
     }
-    trials::count_going(
+    count_going(
         book,
         query,
         &mut there,
-        trials::part(plan, at, at + 5 * window_of(change)),
+        part(plan, at, at + 5 * window_of(change)),
     );
     if is_same(&here, &there) {
         return Course::Reaches;
     }
-    let rest = trials::judge_from(
+    let rest = judge_from(
         book,
         query,
         &mut here,
-        trials::part(list, at + 10, list.len()),
+        part(list, at + 10, list.len()),
     );
     behind(done, rest)
 }

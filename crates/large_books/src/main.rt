@@ -6,7 +6,7 @@ mod books;
 mod lists;
 
 use libc::STDOUT_FILENO;
-use trials::Course;
+use lists::Course;
 
 const SEED: u64 = 20261115;
 
@@ -91,7 +91,7 @@ fn try_change(
 {
     let mut room = [0u8; 42565];
     let m = lists::put_list(plan, n, change, k, &mut room);
-    let list = trials::part(&room, 0, 5 * m);
+    let list = lists::part(&room, 0, 5 * m);
     let course = lists::course_of(book, query, ledger, plan, change, k, list);
     let number = course_number(course);
     let replayed = replay::replay(book, list);
@@ -173,7 +173,7 @@ fn try_places(
 {
     let mut k: usize = 0;
     while k < n {
-        let q = trials::part(plan, 5 * k, 5 * k + 5);
+        let q = lists::part(plan, 5 * k, 5 * k + 5);
         try_place(book, query, ledger, plan, n, k, seed, counts);
         expect(trials::goes(book, query, ledger, q), counts);
         k += 1;
@@ -184,11 +184,11 @@ fn try_places(
 fn try_plan(book: &[u8], plan: &[u8], n: usize, seed: &mut u64, counts: &mut [usize])
     requires { ⌜ n ≤ 8512 ⌝ }
 {
-    let query = trials::part(book, trials::query_start(book), book.len());
+    let query = lists::part(book, trials::query_start(book), book.len());
     let mut ledger = [0u8; 1792];
     ledger::open(book, &mut ledger);
     try_places(book, query, &mut ledger, plan, n, seed, counts);
-    let replayed = replay::replay(book, trials::part(plan, 0, 5 * n));
+    let replayed = replay::replay(book, lists::part(plan, 0, 5 * n));
     expect(is_answered(replayed, 0), counts);
     expect(trials::is_met(book, query, &ledger), counts);
 }
@@ -196,18 +196,18 @@ fn try_plan(book: &[u8], plan: &[u8], n: usize, seed: &mut u64, counts: &mut [us
 // The book's name and its plan's count.
 fn print_book(k: u8, n: usize) {
     if k == 0 {
-        trials::print_count(b"chain", n);
+        print_count(b"chain", n);
         return;
     }
     if k == 1 {
-        trials::print_count(b"free", n);
+        print_count(b"free", n);
         return;
     }
     if k == 2 {
-        trials::print_count(b"dense", n);
+        print_count(b"dense", n);
         return;
     }
-    trials::print_count(b"row", n);
+    print_count(b"row", n);
 }
 
 // The count of the plan's requests; 0 and a difference where there is none.
@@ -237,7 +237,7 @@ fn try_book(k: u8, seed: &mut u64, counts: &mut [usize]) {
     let mut chars = [0u8; 65536];
     let mut out = [0u8; 42560];
     let len = books::put_book(&mut chars, k);
-    let book = trials::part(&chars, 0, len);
+    let book = lists::part(&chars, 0, len);
     let planned = planner::plan(book, &mut out);
     let n = count_of(planned, counts);
     print_book(k, n);
@@ -248,11 +248,19 @@ fn try_book(k: u8, seed: &mut u64, counts: &mut [usize]) {
 fn print_kind(name: &[u8], counts: &[usize], change: u8) {
     let at = 3 * change as usize;
     io::write_all(STDOUT_FILENO, name);
-    trials::print_count(b", reaches", count_in(counts, at));
+    print_count(b", reaches", count_in(counts, at));
     io::write_all(STDOUT_FILENO, name);
-    trials::print_count(b", ends short", count_in(counts, at + 1));
+    print_count(b", ends short", count_in(counts, at + 1));
     io::write_all(STDOUT_FILENO, name);
-    trials::print_count(b", stops", count_in(counts, at + 2));
+    print_count(b", stops", count_in(counts, at + 2));
+}
+
+// A line of a name and its count.
+fn print_count(name: &[u8], n: usize) {
+    io::write_all(STDOUT_FILENO, name);
+    io::write_all(STDOUT_FILENO, b" ");
+    io::print_decimal(STDOUT_FILENO, n as u64);
+    io::write_all(STDOUT_FILENO, b"\n");
 }
 
 fn main() {
@@ -266,5 +274,5 @@ fn main() {
     print_kind(b"left out", &counts, lists::LEFT_OUT);
     print_kind(b"doubled", &counts, lists::DOUBLED);
     print_kind(b"swapped", &counts, lists::SWAPPED);
-    trials::print_count(b"differences", count_in(&counts, DIFFERENCES));
+    print_count(b"differences", count_in(&counts, DIFFERENCES));
 }

@@ -1,10 +1,10 @@
--- `trials::count_going` is safe and ends. The invariant: the ledger keeps its length, and `i` is at most n. The measure is what is left of n. Assumes nothing.
+-- `lists::count_going` is safe and ends. The invariant: the ledger keeps its length, and `i` is at most n. The measure is what is left of n. Assumes nothing.
 use mathlib.Core.Path.{_≡_}
 use Prim.Native.Nat.{_≤_, _-_}
 use lib.ListN.{length}
 use borrow.Author.Needs.{needs}
-use Rattle.trials.proofs.count_going.Statement.{statement}
-use Rattle.trials.proofs.count_going.Tie as tie
+use Rattle.large_books.proofs.lists.count_going.Statement.{statement}
+use Rattle.large_books.proofs.lists.count_going.Tie as tie
 
 abbrev Inv-loop : tie.InvT-loop
 Inv-loop book query ledger₀ plan n i₀ ledger i = (length ledger ≡ length ledger₀) × (i ≤ n)
