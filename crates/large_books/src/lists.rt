@@ -190,11 +190,6 @@ pub(crate) fn course_of(
     if is_same(&here, &there) {
         return Course::Reaches;
     }
-    let rest = judge_from(
-        book,
-        query,
-        &mut here,
-        part(list, at + 10, list.len()),
-    );
+    let rest = judge_from(book, query, &mut here, part(list, at + 10, list.len()));
     behind(done, rest)
 }
