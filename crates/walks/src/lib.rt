@@ -1,0 +1,1 @@
+// What the proofs that walk code by hand have in common: laws, no code.
