@@ -1,22 +1,29 @@
 // Replay: what a list of requests does from a book's starting facts, and whether it reaches the query.
 ghost use mathlib.Core.Path.{_≡_};
-ghost use mathlib.Core.Bool.{cond};
-ghost use Prim.Native.Nat.{_≤_};
-ghost use lib.Dec.{eqb};
+ghost use mathlib.Core.Bool.{cond, _&&_};
+ghost use Prim.Native.Nat.{_+_, _*_, _/_, _≤_};
+ghost use lib.Dec.{eqb, ltb};
+ghost use lib.ListN.{length};
 ghost use Rattle.facts.specs.Facts.{holds};
-ghost use Rattle.frames.specs.Book.{contentsOf};
-ghost use Rattle.frames.specs.Fits.{Admitted};
+ghost use Rattle.frames.specs.Book.{listed, contentsOf};
+ghost use Rattle.frames.specs.Fits.{Each, Short, Admitted};
 ghost use Rattle.requests.specs.Requests.{requestOf};
-ghost use Rattle.rules.specs.Search.{all};
+ghost use Rattle.rules.specs.Search.{all, first};
+ghost use Rattle.rules.specs.Rules.{permits};
 ghost use Rattle.ledger.specs.Ledger.{after};
 ghost use Rattle.ledger.specs.Show.{setBelow};
 ghost use Rattle.replay.specs.Chains.{goes, run, fives};
+ghost use Rattle.replay.specs.Lent.{standing, fiveAt, due, ranTo};
 ghost use Rattle.replay.specs.Met.{wants, effectiveSet, metAtLeast, met};
 ghost use Rattle.replay.specs.Replay.{refusalNumber, refusalLine, replayIn, replayed, runFor};
 use facts::Crew;
 use facts::Fact;
 use facts::Person;
 use frames::Book;
+use frames::Rule;
+use frames::Rules;
+use gate::Sizes;
+use requests::Request;
 
 // What a list of requests comes to. Stops names the first request that does not go, counted from 1.
 pub enum Judgement {
@@ -62,47 +69,138 @@ pub fn refusal_line(r: Refusal) -> usize
     }
 }
 
-// One request of a list: carried out where it is well formed, its role is one of the query's and some rule permits it; else the
-// ledger stays.
-fn step(b: Book, ledger: &mut [u8], q: &[u8]) -> bool
-    requires { ⌜ Admitted (contentsOf b) ⌝ }
-    ensures { λ r. ⌜ (r ≡ goes (contentsOf b) (b .query .roles) (now (ledger .entry)) (now (q .entry))) × (now (ledger .exit) ≡ cond r (after (now (ledger .entry)) (requestOf (now (q .entry)))) (now (ledger .entry))) ⌝ }
+// TEMPORARY
+fn first_permitting(rules: &[Rule], ledger: &[u8], juniors: &[u32], q: Request) -> usize
+    requires { ⌜ Each Short (now rules) × (length (now juniors) ≡ 32) ⌝ }
+    ensures { λ r. ⌜ r ≡ first (permits (now (juniors .entry)) (holds (now (ledger .entry))) q) (now (rules .entry)) ⌝ }
 {
-    let z = b.sizes;
+    rules.len()
+}
+
+// Whether request `i` of a list is well formed and its role one of the query's.
+fn is_due(z: Sizes, roles: u32, plan: &[u8], i: usize) -> bool
+    requires { ⌜ 5 * i + 5 ≤ length (now plan) ⌝ }
+    ensures { λ r. ⌜ r ≡ due z roles (fiveAt (now (plan .entry)) i) ⌝ }
+{
+    let at = 5 * i;
+    let q = &plan[at..at + 5];
     if !requests::is_request(z, q) {
         return false;
     }
     let request = requests::request_of(q);
-    let roles = b.query.roles;
     let role = request.role;
-    if !sets::has(roles, role.0) {
+    sets::has(roles, role.0)
+}
+
+// Request `i` of a list.
+fn request_at(plan: &[u8], i: usize) -> Request
+    requires { ⌜ 5 * i + 5 ≤ length (now plan) ⌝ }
+    ensures { λ r. ⌜ r ≡ requestOf (fiveAt (now (plan .entry)) i) ⌝ }
+{
+    let at = 5 * i;
+    let q = &plan[at..at + 5];
+    requests::request_of(q)
+}
+
+// Carries the request out where it is ready and a rule before the n-th permits it: sets or clears its fact.
+fn carry_out(ready: bool, found: usize, n: usize, q: Request, ledger: &mut [u8]) -> bool
+    ensures { λ r. ⌜ (r ≡ ready && ltb found n) × (now (ledger .exit) ≡ cond r (after (now (ledger .entry)) q) (now (ledger .entry))) ⌝ }
+{
+    if !ready {
         return false;
     }
-    if !ledger::is_allowed(b, ledger, request) {
+    if n <= found {
         return false;
     }
-    let on = requests::is_adding(request.op);
-    let f = request.fact;
+    let on = requests::is_adding(q.op);
+    let f = q.fact;
     facts::put_fact(ledger, f, on);
     true
 }
 
-// The requests in order, each on the ledger that the one before it left.
-fn run_plan(b: Book, ledger: &mut [u8], plan: &[u8]) -> Course
+// How many requests a list has.
+fn count_of(plan: &[u8]) -> usize
+    ensures { λ r. ⌜ r ≡ length (now (plan .entry)) / 5 ⌝ }
+{
+    plan.len() / 5
+}
+
+// One request of a list: carried out where it is well formed, its role is one of the query's and some rule permits it; else the
+// ledger stays.
+fn step(
+    rules: &[Rule],
+    z: Sizes,
+    juniors: &[u32],
+    roles: u32,
+    ledger: &mut [u8],
+    plan: &[u8],
+    i: usize,
+) -> bool
+    requires { ⌜ (Each Short (now rules) × (length (now juniors) ≡ 32)) × (5 * i + 5 ≤ length (now plan)) ⌝ }
+    ensures { λ r. ⌜ (r ≡ goes (standing z (now (juniors .entry)) (now (rules .entry))) roles (now (ledger .entry)) (fiveAt (now (plan .entry)) i)) × (now (ledger .exit) ≡ cond r (after (now (ledger .entry)) (requestOf (fiveAt (now (plan .entry)) i))) (now (ledger .entry))) ⌝ }
+{
+    let due = is_due(z, roles, plan, i);
+    let q = request_at(plan, i);
+    let found = first_permitting(rules, ledger, juniors, q);
+    carry_out(due, found, rules.len(), q, ledger)
+}
+
+// The requests in order, each on the ledger that the one before it left. Returns the number of the request that stops them,
+// counted from 1, or 0.
+fn run_plan(
+    rules: &[Rule],
+    z: Sizes,
+    juniors: &[u32],
+    roles: u32,
+    ledger: &mut [u8],
+    plan: &[u8],
+) -> usize
+    requires { ⌜ Each Short (now rules) × (length (now juniors) ≡ 32) ⌝ }
+    ensures { λ r. ⌜ ranTo r (now (ledger .exit)) ≡ run (standing z (now (juniors .entry)) (now (rules .entry))) roles (now (ledger .entry)) 1 (fives (now (plan .entry))) ⌝ }
+{
+    let n = count_of(plan);
+    let mut i: usize = 0;
+    while i < n {
+        if step(rules, z, juniors, roles, ledger, plan, i) {
+            i += 1;
+        } else {
+            return i + 1;
+        }
+    }
+    0
+}
+
+// The same of the list by value: its front is lent.
+fn run_listed(
+    rs: Rules,
+    z: Sizes,
+    juniors: &[u32],
+    roles: u32,
+    ledger: &mut [u8],
+    plan: &[u8],
+) -> usize
+    requires { ⌜ ((rs .count ≤ 512) × Each Short (listed rs)) × (length (now juniors) ≡ 32) ⌝ }
+    ensures { λ r. ⌜ ranTo r (now (ledger .exit)) ≡ run (standing z (now (juniors .entry)) (listed rs)) roles (now (ledger .entry)) 1 (fives (now (plan .entry))) ⌝ }
+{
+    let list = rs.rules;
+    let n = rs.count;
+    run_plan(&list[..n], z, juniors, roles, ledger, plan)
+}
+
+// The same of an accepted book under its query's roles.
+fn run_in(b: Book, ledger: &mut [u8], plan: &[u8]) -> Course
     requires { ⌜ Admitted (contentsOf b) ⌝ }
     ensures { λ r. ⌜ runFor r (now (ledger .exit)) ≡ run (contentsOf b) (b .query .roles) (now (ledger .entry)) 1 (fives (now (plan .entry))) ⌝ }
 {
-    let n = plan.len() / 5;
-    let mut i: usize = 0;
-    while i < n {
-        let at = 5 * i;
-        let q = &plan[at..at + 5];
-        if !step(b, ledger, q) {
-            return Course::Stopped(i + 1);
-        }
-        i += 1;
+    let z = b.sizes;
+    let juniors = b.juniors;
+    let rules = b.rules;
+    let roles = b.query.roles;
+    let k = run_listed(rules, z, &juniors, roles, ledger, plan);
+    if k == 0 {
+        return Course::Ended;
     }
-    Course::Ended
+    Course::Stopped(k)
 }
 
 // The set of the crews below n that the person is directly in.
@@ -187,7 +285,7 @@ fn replay_in(b: Book, plan: &[u8]) -> Replayed
         return Replayed::Refused(Refusal::BadLength);
     }
     let mut ledger = b.facts;
-    let course = run_plan(b, &mut ledger, plan);
+    let course = run_in(b, &mut ledger, plan);
     if let Course::Stopped(k) = course {
         return Replayed::Judged(Judgement::Stops(k));
     }

@@ -13,11 +13,11 @@ returns : tie.Need-returns
 unfolding replayIn
 returns c = rw (ne-eqb _ _ (c .if1 .taken))
 
-slice-aggregate-run-plan : tie.Need-slice-aggregate-run-plan
-slice-aggregate-run-plan c = search needs
+slice-aggregate-run-in : tie.Need-slice-aggregate-run-in
+slice-aggregate-run-in c = search needs
 
-run-plan-requires : tie.Need-run-plan-requires
-run-plan-requires c κs = search needs
+run-in-requires : tie.Need-run-in-requires
+run-in-requires c κs = search needs
 
 enum-known-course : tie.Need-enum-known-course
 enum-known-course c = search needs
@@ -26,7 +26,7 @@ returns-2 : tie.Need-returns-2
 unfolding contentsOf
 returns-2 c =
     let start = c .before .before .before .before .before .before .before .before .before in
-    sym (replay-stops (contentsOf (start .args .b)) (start .args .plan .now) (c .before .before .before .before .before .before .before .if1 .left) (c .before .course .given .0 .0) (stopped _ _ _ _ (c .before .before .before .before .run-plan .ensures) (c .before .course .given .1)))
+    sym (replay-stops (contentsOf (start .args .b)) (start .args .plan .now) (c .before .before .before .before .before .before .before .if1 .left) (c .before .course .given .0 .0) (stopped _ _ _ _ (c .before .before .before .before .run-in .ensures) (c .before .course .given .1)))
 
 enum-told : tie.Need-enum-told
 enum-told c = search needs
@@ -41,21 +41,21 @@ returns-3 : tie.Need-returns-3
 unfolding contentsOf
 returns-3 c =
     let start = c .before .before .before .before .before .before .before .before .before .before .before in
-    sym (replay-reaches (contentsOf (start .args .b)) (start .args .plan .now) (c .before .before .before .before .before .before .before .before .before .if1 .left) _ (record { led = ended _ _ _ (c .before .before .before .before .before .before .run-plan .ensures) (c .before .before .before .enum-told .given .1) }) (sym (c .before .is-met .ensures) ∙ c .if2 .taken))
+    sym (replay-reaches (contentsOf (start .args .b)) (start .args .plan .now) (c .before .before .before .before .before .before .before .before .before .if1 .left) _ (record { led = ended _ _ _ (c .before .before .before .before .before .before .run-in .ensures) (c .before .before .before .enum-told .given .1) }) (sym (c .before .is-met .ensures) ∙ c .if2 .taken))
 
 returns-4 : tie.Need-returns-4
 unfolding contentsOf
 returns-4 c =
     let start = c .before .before .before .before .before .before .before .before .before .before .before in
-    sym (replay-ends-short (contentsOf (start .args .b)) (start .args .plan .now) (c .before .before .before .before .before .before .before .before .before .if1 .left) _ (record { led = ended _ _ _ (c .before .before .before .before .before .before .run-plan .ensures) (c .before .before .before .enum-told .given .1) }) (sym (c .before .is-met .ensures) ∙ c .if2 .left))
+    sym (replay-ends-short (contentsOf (start .args .b)) (start .args .plan .now) (c .before .before .before .before .before .before .before .before .before .if1 .left) _ (record { led = ended _ _ _ (c .before .before .before .before .before .before .run-in .ensures) (c .before .before .before .enum-told .given .1) }) (sym (c .before .is-met .ensures) ∙ c .if2 .left))
 
 pub replay-in-spec : {M : Type 1} → statement M
 replay-in-spec =
     tie.close
     (tie.spec
     returns
-    slice-aggregate-run-plan
-    run-plan-requires
+    slice-aggregate-run-in
+    run-in-requires
     enum-known-course
     returns-2
     enum-told

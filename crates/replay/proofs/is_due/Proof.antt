@@ -1,0 +1,71 @@
+-- `replay::is_due` meets its contract: the five bytes are cut out and tested. Assumes nothing.
+use mathlib.Core.Path.{_≡_, sym, ap, _∙_}
+use Prim.Native.Nat.{ℕ, _+_, _*_, _-_}
+use lib.ListN.{take, drop}
+use borrow.Author.Tests.{not-true, not-false}
+use Rattle.sets.specs.Sets.{member}
+use Rattle.requests.specs.declared.Request.{Request}
+use Rattle.requests.specs.Requests.{requestOf, wellFormed}
+use Rattle.replay.specs.Lent.{fiveAt}
+use Rattle.replay.proofs.LentLaws.{due-not, due-by-role}
+use borrow.Author.Needs.{needs}
+use native.Mathlib.Omega.{arith}
+use Rattle.replay.proofs.is_due.Statement.{statement}
+use Rattle.replay.proofs.is_due.Tie as tie
+
+mul-at : tie.Need-mul-at
+mul-at c = search needs
+
+add-q : tie.Need-add-q
+add-q c = search needs
+
+sub-q : tie.Need-sub-q
+sub-q c = search needs
+
+part-q-start : tie.Need-part-q-start
+part-q-start c = search needs
+
+part-q-end : tie.Need-part-q-end
+part-q-end c = search needs
+
+is-request-requires : tie.Need-is-request-requires
+is-request-requires c κs = search needs
+
+returns : tie.Need-returns
+returns c =
+    let start = c .before .before .before .before in
+    let i = start .args .i in
+    let five : 5 * i + 5 - 5 * i ≡ 5 = omega arith in
+    let told = c .before .is-request .ensures ∙ ap (λ (k : ℕ). wellFormed (start .args .z) (take k (drop (5 * i) (start .args .plan .now)))) five in
+    sym (due-not (start .args .z) (start .args .roles) (fiveAt (start .args .plan .now) i) (sym told ∙ not-true _ (c .if1 .taken)))
+
+request-of-requires : tie.Need-request-of-requires
+request-of-requires c κs = search needs
+
+has-requires : tie.Need-has-requires
+has-requires c κs = search needs
+
+returns-2 : tie.Need-returns-2
+returns-2 c =
+    let start = c .before .before .before .before .before .before .before in
+    let i = start .args .i in
+    let five : 5 * i + 5 - 5 * i ≡ 5 = omega arith in
+    let told = c .before .before .before .before .is-request .ensures ∙ ap (λ (k : ℕ). wellFormed (start .args .z) (take k (drop (5 * i) (start .args .plan .now)))) five in
+    let made = c .before .before .request-of .ensures ∙ ap (λ (k : ℕ). requestOf (take k (drop (5 * i) (start .args .plan .now)))) five in
+    c .has .ensures ∙ ap (λ (r : Request). member (start .args .roles) (r .role .0)) made
+    ∙ sym (due-by-role (start .args .z) (start .args .roles) (fiveAt (start .args .plan .now) i) (sym told ∙ not-false _ (c .before .before .before .if1 .left)))
+
+pub is-due-spec : {M : Type 1} → statement M
+is-due-spec =
+    tie.close
+    (tie.spec
+    mul-at
+    add-q
+    sub-q
+    part-q-start
+    part-q-end
+    is-request-requires
+    returns
+    request-of-requires
+    has-requires
+    returns-2)
