@@ -12,6 +12,7 @@ use Rattle.facts.specs.Facts.{holds}
 use Rattle.gate.specs.declared.Sizes.{Sizes}
 use Rattle.frames.specs.declared.Rule.{Rule}
 use Rattle.frames.specs.Book.{Contents}
+use Rattle.requests.specs.declared.Request.{Request}
 use Rattle.requests.specs.Requests.{requestOf, wellFormed}
 use Rattle.rules.specs.Search.{first}
 use Rattle.rules.specs.Rules.{permits, permitted}
@@ -63,6 +64,17 @@ goes-found z juniors rules roles l q =
     together : (a b c : Bool) → (a && b) && c ≡ a && (b && c)
     together true b c = refl
     together false b c = refl
+
+-- So it is carried out by the two tests, from the request that the bytes write.
+pub step-done : (z : Sizes) (juniors : List ℕ) (rules : List Rule) (roles : ℕ) (l bytes : List ℕ) (d : Bool) (k : ℕ) (q : Request) (r : Bool) (m : List ℕ)
+    → d ≡ due z roles bytes → q ≡ requestOf bytes → k ≡ first (permits juniors (holds l) q) rules → (r ≡ d && ltb k (length rules)) × (m ≡ cond r (after l q) l)
+    → (r ≡ goes (standing z juniors rules) roles l bytes) × (m ≡ cond r (after l (requestOf bytes)) l)
+step-done z juniors rules roles l bytes d k q r m is-due is-request found told = (
+  told .0 ∙ ap (λ (t : Bool). t && ltb k (length rules)) is-due
+      ∙ ap (λ (j : ℕ). due z roles bytes && ltb j (length rules)) (found ∙ ap (λ (p : Request). first (permits juniors (holds l) p) rules) is-request)
+      ∙ goes-found z juniors rules roles l bytes,
+  told .1 ∙ ap (λ (p : Request). cond r (after l p) l) is-request,
+)
 
 -- ---------------------------------------------------------------- how far the requests went
 
