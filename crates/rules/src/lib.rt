@@ -187,3 +187,14 @@ pub fn first_permitting(rules: &[Rule], ledger: &[u8], juniors: &[u32], q: Reque
     }
     found
 }
+
+// The same of the list by value: its front is lent to the trial.
+pub fn first_listed(rs: Rules, ledger: &[u8], juniors: &[u32], q: Request) -> usize
+    requires { ⌜ (rs .count ≤ 512) × Each Short (listed rs) ⌝ }
+    requires { ⌜ length (now juniors) ≡ 32 ⌝ }
+    ensures { λ r. ⌜ r ≡ first (permits (now (juniors .entry)) (holds (now (ledger .entry))) q) (listed rs) ⌝ }
+{
+    let n = rs.count;
+    let rules = rs.rules;
+    first_permitting(&rules[..n], ledger, juniors, q)
+}
