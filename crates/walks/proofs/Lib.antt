@@ -3,3 +3,5 @@ pub mod Lent
 pub mod Again
 pub mod Last
 pub mod Shared
+pub mod Fields
+pub mod Asked
