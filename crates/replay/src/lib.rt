@@ -8,8 +8,7 @@ ghost use Rattle.facts.specs.Facts.{holds};
 ghost use Rattle.frames.specs.Book.{listed, contentsOf};
 ghost use Rattle.frames.specs.Fits.{Each, Short, Admitted};
 ghost use Rattle.requests.specs.Requests.{requestOf};
-ghost use Rattle.rules.specs.Search.{all, first};
-ghost use Rattle.rules.specs.Rules.{permits};
+ghost use Rattle.rules.specs.Search.{all};
 ghost use Rattle.ledger.specs.Ledger.{after};
 ghost use Rattle.ledger.specs.Show.{setBelow};
 ghost use Rattle.replay.specs.Chains.{goes, run, fives};
@@ -67,14 +66,6 @@ pub fn refusal_line(r: Refusal) -> usize
         Refusal::BadBook(b) => frames::refusal_line(b),
         Refusal::BadLength => 0,
     }
-}
-
-// TEMPORARY
-fn first_permitting(rules: &[Rule], ledger: &[u8], juniors: &[u32], q: Request) -> usize
-    requires { ⌜ Each Short (now rules) × (length (now juniors) ≡ 32) ⌝ }
-    ensures { λ r. ⌜ r ≡ first (permits (now (juniors .entry)) (holds (now (ledger .entry))) q) (now (rules .entry)) ⌝ }
-{
-    rules.len()
 }
 
 // Whether request `i` of a list is well formed and its role one of the query's.
@@ -141,7 +132,7 @@ fn step(
 {
     let due = is_due(z, roles, plan, i);
     let q = request_at(plan, i);
-    let found = first_permitting(rules, ledger, juniors, q);
+    let found = rules::first_permitting(rules, ledger, juniors, q);
     carry_out(due, found, rules.len(), q, ledger)
 }
 

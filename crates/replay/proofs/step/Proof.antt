@@ -55,10 +55,10 @@ use Rattle.requests.proofs.Request as Q
 use Rattle.requests.proofs.Request.Laws as Q′
 use Rattle.rules.specs.Search.{first}
 use Rattle.rules.specs.Rules.{permits}
-use Rattle.replay.proofs.first_permitting as first-permitting
-use Rattle.replay.proofs.first_permitting.Symbol as first-permitting-def
-use Rattle.replay.proofs.first_permitting.Symbol.{name as #replay·first-permitting}
-use Rattle.replay.proofs.first_permitting.Met as first-permitting-thm
+use Rattle.rules.proofs.first_permitting as first-permitting
+use Rattle.rules.proofs.first_permitting.Symbol as first-permitting-def
+use Rattle.rules.proofs.first_permitting.Symbol.{name as #rules·first-permitting}
+use Rattle.rules.proofs.first_permitting.Met as first-permitting-thm
 use Rattle.ledger.specs.Ledger.{after}
 use Rattle.replay.specs.Chains.{goes}
 use Rattle.replay.specs.Lent.{standing, fiveAt, due}
@@ -245,7 +245,7 @@ module _ {M : Type 1} (𝓤 : URA M) (H : Heap 𝓤) (A : Atoms 𝓤) (W : Given
       owned ! Boolean (Is Boolean) (bool-makes 𝓤 H A W) d _ refl $ fjoin ! $ move ! (1 ∷ 0 ∷ []) $ join ! $ frame ! $ done !
 
   module _ (C : Calls 𝓤 H) (Λ : Loops 𝓤 H) (fm : FmC 𝓤 H (W .laws) C) (known-due : Triple 𝓤 (C #replay·is-due) (IsDue 𝓤 H A mem run)) (known-request : Triple 𝓤 (C #replay·request-at) (RequestAt 𝓤 H A mem run))
-      (known-first : Triple 𝓤 (C #replay·first-permitting) (First 𝓤 H A mem run)) (known-carry : Triple 𝓤 (C #replay·carry-out) (CarryOut 𝓤 H A mem run)) where
+      (known-first : Triple 𝓤 (C #rules·first-permitting) (First 𝓤 H A mem run)) (known-carry : Triple 𝓤 (C #replay·carry-out) (CarryOut 𝓤 H A mem run)) where
     walk : ent 𝓤 (onEntry 𝓤 H A step.signature (κ₀, (κ₁, (κ₂, (κ₃, tt)))) (q₀, (q₁, (q₂, (q₃, tt)))) a at) (WpFn 𝓤 H C Λ code.function (v₀ ∷ mz ∷ v₁ ∷ vint w32 ρ ∷ v₂ ∷ v₃ ∷ vint w64 i ∷ []) Post)
     walk =
         qed W ((T₀ ⊛ (T₁ ⊛ (T₂ ⊛ T₃))) ∷ ‵ (owns (ShrSlice (named 0) κ₀ R.the-row ∷ Z.the-row ∷ ShrSlice (named 1) κ₁ u32 ∷ u32 ∷ MutSlice (named 2) κ₂ u8 ∷ ShrSlice (named 3) κ₃ u8 ∷ usize ∷ []) a at) ∷ []) ∵ enter ! C Λ code.function (v₀ ∷ mz ∷ v₁ ∷ vint w32 ρ ∷ v₂ ∷ v₃ ∷ vint w64 i ∷ []) _ $
@@ -297,7 +297,7 @@ module _ {M : Type 1} (𝓤 : URA M) (H : Heap 𝓤) (A : Atoms 𝓤) (W : Given
 
 module _ {M : Type 1} (𝓤 : URA M) (H : Heap 𝓤) (A : Atoms 𝓤) (W : Given 𝓤 H A) (mem : Memory → SProp 𝓤) (run : Routine → Fun 𝓤) (𝓣 : Tables 𝓤 H)
     (known-due : Triple 𝓤 (𝓣 .C #replay·is-due) (IsDue 𝓤 H A mem run)) (known-request : Triple 𝓤 (𝓣 .C #replay·request-at) (RequestAt 𝓤 H A mem run))
-    (known-first : Triple 𝓤 (𝓣 .C #replay·first-permitting) (First 𝓤 H A mem run)) (known-carry : Triple 𝓤 (𝓣 .C #replay·carry-out) (CarryOut 𝓤 H A mem run)) where
+    (known-first : Triple 𝓤 (𝓣 .C #rules·first-permitting) (First 𝓤 H A mem run)) (known-carry : Triple 𝓤 (𝓣 .C #replay·carry-out) (CarryOut 𝓤 H A mem run)) where
   step-walks : Walks 𝓤 H A step.ended stayed (WpFn 𝓤 H (𝓣 .C) (𝓣 .Λ) code.function) (step.clauses 𝓤 H A mem run)
   step-walks = walked 𝓤 H A step.ended stayed (step.clauses 𝓤 H A mem run) (WpFn 𝓤 H (𝓣 .C) (𝓣 .Λ) code.function)
       (λ κs. (slice-vals, (LL.vals Z.the-type Z′.the-laws, (slice-vals, (uint-vals w32, (slice-vals, (slice-vals, (uint-vals w64, tt))))))))
@@ -330,5 +330,5 @@ step-spec 𝓤 H 𝓜 𝓖 𝓡 =
     (step-meets 𝓤 H (𝓖 .A) (givenOf 𝓤 H 𝓜 𝓖) (𝓜 .mem) (𝓡 .run) (tablesOf 𝓤 H 𝓜 (tables 𝓤 H 𝓜 𝓡 code.env))
     (cited 𝓤 H (IsDue 𝓤 H (𝓖 .A) (𝓜 .mem) (𝓡 .run)) 𝓜 𝓡 code.env #replay·is-due is-due-def.routine code.calls-replay·is-due (is-due-thm.met 𝓤 H 𝓜 𝓖 𝓡))
     (cited 𝓤 H (RequestAt 𝓤 H (𝓖 .A) (𝓜 .mem) (𝓡 .run)) 𝓜 𝓡 code.env #replay·request-at request-at-def.routine code.calls-replay·request-at (request-at-thm.met 𝓤 H 𝓜 𝓖 𝓡))
-    (cited 𝓤 H (First 𝓤 H (𝓖 .A) (𝓜 .mem) (𝓡 .run)) 𝓜 𝓡 code.env #replay·first-permitting first-permitting-def.routine code.calls-replay·first-permitting (first-permitting-thm.met 𝓤 H 𝓜 𝓖 𝓡))
+    (cited 𝓤 H (First 𝓤 H (𝓖 .A) (𝓜 .mem) (𝓡 .run)) 𝓜 𝓡 code.env #rules·first-permitting first-permitting-def.routine code.calls-rules·first-permitting (first-permitting-thm.met 𝓤 H 𝓜 𝓖 𝓡))
     (cited 𝓤 H (CarryOut 𝓤 H (𝓖 .A) (𝓜 .mem) (𝓡 .run)) 𝓜 𝓡 code.env #replay·carry-out carry-out-def.routine code.calls-replay·carry-out (carry-out-thm.met 𝓤 H 𝓜 𝓖 𝓡)))
