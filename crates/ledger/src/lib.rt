@@ -102,7 +102,7 @@ pub fn is_allowed(b: Book, ledger: &[u8], q: requests::Request) -> bool
     let juniors = b.juniors;
     let rules = b.rules;
     let n = rules.count;
-    rules::first_permitting(rules, ledger, &juniors, q) < n
+    rules::first_listed(rules, ledger, &juniors, q) < n
 }
 
 fn request_in(b: Book, ledger: &mut [u8], request: &[u8]) -> Outcome

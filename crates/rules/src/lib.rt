@@ -1,9 +1,9 @@
 // Terms, rules, and the trial of a request: whether some rule permits it in a ledger.
 ghost use mathlib.Core.Path.{_≡_};
 ghost use Prim.Native.Nat.{_≤_, _<_};
-ghost use lib.ListN.{length};
+ghost use lib.ListN.{length, getD};
 ghost use Rattle.facts.specs.Facts.{holds};
-ghost use Rattle.frames.specs.Book.{listed};
+ghost use Rattle.frames.specs.Book.{listed, noTerm};
 ghost use Rattle.frames.specs.Fits.{Each, Short};
 ghost use Rattle.rules.specs.Search.{first};
 ghost use Rattle.rules.specs.Rules.{subjectOf, aOf, vOf, directly, effectively, inDirectly, inEffectively, termHolds, names, permits};
@@ -141,34 +141,60 @@ fn is_named(r: Rule, q: Request) -> bool
     (r.op == q.op) & ((r.role.0 == q.role.0) & ((r.a == a) & (r.v == v)))
 }
 
+// How many terms a rule has.
+fn term_count(r: Rule) -> usize
+    ensures { λ m. ⌜ m ≡ r .n ⌝ }
+{
+    r.n as usize
+}
+
+// Whether term j of a rule holds of whom the request is about.
+fn meets_term(r: Rule, j: usize, ledger: &[u8], juniors: &[u32], q: Request) -> bool
+    requires { ⌜ (j < 8) × (length (now juniors) ≡ 32) ⌝ }
+    ensures { λ x. ⌜ x ≡ termHolds (now (juniors .entry)) (holds (now (ledger .entry))) (subjectOf (q .fact)) (getD (r .terms) j noTerm) ⌝ }
+{
+    let f = q.fact;
+    let s = subject_of(f);
+    let t = r.terms[j];
+    term_holds(ledger, juniors, s, t)
+}
+
 // The place of the first rule that permits the request, or the count of the rules where none does.
-pub fn first_permitting(rs: Rules, ledger: &[u8], juniors: &[u32], q: Request) -> usize
+pub fn first_permitting(rules: &[Rule], ledger: &[u8], juniors: &[u32], q: Request) -> usize
+    requires { ⌜ Each Short (now rules) × (length (now juniors) ≡ 32) ⌝ }
+    ensures { λ r. ⌜ r ≡ first (permits (now (juniors .entry)) (holds (now (ledger .entry))) q) (now (rules .entry)) ⌝ }
+{
+    let n = rules.len();
+    let mut found = n;
+    let mut i: usize = 0;
+    'rules: while i < n {
+        let r = rule_list::rule_at(rules, i);
+        let here = i;
+        i += 1;
+        if !is_named(r, q) {
+            continue 'rules;
+        }
+        let m = term_count(r);
+        let mut j: usize = 0;
+        while j < m {
+            if !meets_term(r, j, ledger, juniors, q) {
+                continue 'rules;
+            }
+            j += 1;
+        }
+        found = here;
+        break 'rules;
+    }
+    found
+}
+
+// The same of the list by value: its front is lent to the trial.
+pub fn first_listed(rs: Rules, ledger: &[u8], juniors: &[u32], q: Request) -> usize
     requires { ⌜ (rs .count ≤ 512) × Each Short (listed rs) ⌝ }
     requires { ⌜ length (now juniors) ≡ 32 ⌝ }
     ensures { λ r. ⌜ r ≡ first (permits (now (juniors .entry)) (holds (now (ledger .entry))) q) (listed rs) ⌝ }
 {
     let n = rs.count;
-    let f = q.fact;
-    let s = subject_of(f);
-    let mut found = n;
-    let mut i: usize = 0;
-    'rules: while i < n {
-        let r = rs.rules[i];
-        i += 1;
-        if !is_named(r, q) {
-            continue 'rules;
-        }
-        let m = r.n as usize;
-        let mut j: usize = 0;
-        while j < m {
-            let t = r.terms[j];
-            if !term_holds(ledger, juniors, s, t) {
-                continue 'rules;
-            }
-            j += 1;
-        }
-        found = i - 1;
-        break 'rules;
-    }
-    found
+    let rules = rs.rules;
+    first_permitting(&rules[..n], ledger, juniors, q)
 }

@@ -1,3 +1,5 @@
 pub mod Walk
 pub mod Lent
 pub mod Again
+pub mod Fields
+pub mod Asked

@@ -10,17 +10,17 @@ use borrow.Author.Needs.{needs}
 use Rattle.ledger.proofs.is_allowed.Statement.{statement}
 use Rattle.ledger.proofs.is_allowed.Tie as tie
 
-slice-aggregate-first-permitting : tie.Need-slice-aggregate-first-permitting
-slice-aggregate-first-permitting c = search needs
+slice-aggregate-first-listed : tie.Need-slice-aggregate-first-listed
+slice-aggregate-first-listed c = search needs
 
-first-permitting-requires : tie.Need-first-permitting-requires
+first-listed-requires : tie.Need-first-listed-requires
 unfolding contentsOf
-first-permitting-requires c κs = let book = c .before .before .before .before .pre in ((book .rules-few, book .rules-short), book .edge-room)
+first-listed-requires c κs = let book = c .before .before .before .before .pre in ((book .rules-few, book .rules-short), book .edge-room)
 
 returns : tie.Need-returns
 unfolding allowed permitted contentsOf
-returns c = let start = c .before .before .before .before .before in rw (c .first-permitting .ensures) (sym (any-first (permits (start .args .b .juniors) (holds (start .args .ledger .now)) (start .args .q)) (listed (start .args .b .rules)) ∙ ap (ltb _) (start .pre .rules-counted)))
+returns c = let start = c .before .before .before .before .before in rw (c .first-listed .ensures) (sym (any-first (permits (start .args .b .juniors) (holds (start .args .ledger .now)) (start .args .q)) (listed (start .args .b .rules)) ∙ ap (ltb _) (start .pre .rules-counted)))
 
 pub is-allowed-spec : {M : Type 1} → statement M
 is-allowed-spec =
-    tie.close (tie.spec slice-aggregate-first-permitting first-permitting-requires returns)
+    tie.close (tie.spec slice-aggregate-first-listed first-listed-requires returns)
