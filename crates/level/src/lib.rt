@@ -109,7 +109,7 @@ fn numbers_of(m: Move) -> [u16; 14]
 }
 
 // Writes move `k` of a list.
-fn put_move(m: Move, k: usize, ms: &mut [u16])
+pub fn put_move(m: Move, k: usize, ms: &mut [u16])
     requires { ⌜ Fine m × ((k < 512) × (length (now ms) ≡ 7168)) ⌝ }
     ensures { λ _. ⌜ MovePut (now (ms .entry)) k m (now (ms .exit)) ⌝ }
 {
