@@ -6,6 +6,7 @@ ghost use Rattle.level.specs.Terms.{GoodRule};
 ghost use Rattle.level.specs.Chosen.{GoodRules, Gathered};
 ghost use Rattle.moves.specs.Listed.{ofList, Taken};
 use frames::Rule;
+use frames::Rules;
 
 // The move of a rule, where it is chosen, is written as move `k`. Returns how many moves there are then.
 fn gather(r: Rule, one: u8, two: u8, roles: u32, k: usize, ms: &mut [u16]) -> usize
@@ -31,4 +32,14 @@ pub fn moves_of(rules: &[Rule], one: u8, two: u8, roles: u32, ms: &mut [u16]) ->
         i += 1;
     }
     k
+}
+
+// The same of the list by value: its front is lent.
+pub fn moves_listed(rs: Rules, one: u8, two: u8, roles: u32, ms: &mut [u16]) -> usize
+    requires { ⌜ GoodRules rs × (length (now ms) ≡ 7168) ⌝ }
+    ensures { λ r. ⌜ Gathered rs one two roles r (now (ms .exit)) ⌝ }
+{
+    let n = rs.count;
+    let rules = rs.rules;
+    moves_of(&rules[..n], one, two, roles, ms)
 }

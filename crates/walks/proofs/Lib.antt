@@ -2,3 +2,4 @@ pub mod Walk
 pub mod Lent
 pub mod Again
 pub mod Last
+pub mod Field
