@@ -2,13 +2,12 @@
 use mathlib.Core.Path.{_≡_, refl, sym, _∙_}
 use mathlib.Core.Bool.{Bool, true, false, true≢false}
 use mathlib.Core.List.{List, [], _∷_}
-use Prim.Native.Nat.{ℕ, zero, suc, _+_, _*_, _≤_, _<_}
+use Prim.Native.Nat.{ℕ, zero, suc, _+_, _≤_, _<_}
 use native.Mathlib.Omega.{arith}
 use native.Mathlib.Nat.{not-suc-le-zero, le-of-suc-le-suc}
 use lib.ListN.{length, getD, take}
 use lib.Seq.{getD-take, length-take-le}
-use Rattle.level.specs.Moves.{Moves}
-use Rattle.level.specs.Terms.{MoveOf, GoodRule}
+use Rattle.level.specs.Terms.{MoveOf}
 use Rattle.level.specs.Chosen.{chosenIn, ruleAt, GoodRules, MovesOf, MovePut, Gathered}
 use Rattle.level.specs.declared.Move.{Move}
 use Rattle.level.proofs.ChosenLaws.{firstMoves, moves-more, moves-skip}

@@ -1,7 +1,7 @@
 -- An array of records that is copied out of a struct's field. A field's row has a record as the tuple of its parts, and an array on its own has the records. It says nothing of any crate.
 --     out-of-field     what relates the tuples of xs to a machine value relates xs to it
 -- Assumes nothing.
-use mathlib.Core.Path.{_≡_, sym, _∙_}
+use mathlib.Core.Path.{sym, _∙_}
 use Prim.Native.Nat.{ℕ}
 use mathlib.Core.List.{List, [], _∷_, map}
 use lib.ListN.{length-map}
