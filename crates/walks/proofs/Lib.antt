@@ -1,5 +1,6 @@
 pub mod Walk
 pub mod Lent
-pub mod Again
 pub mod Fields
 pub mod Asked
+pub mod Again
+pub mod Last
