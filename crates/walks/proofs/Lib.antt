@@ -1,3 +1,4 @@
 pub mod Walk
 pub mod Lent
 pub mod Again
+pub mod Last
