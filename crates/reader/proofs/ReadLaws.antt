@@ -3,17 +3,17 @@ use mathlib.Core.Path.{_≡_, sym, ap, subst, _∙_}
 use mathlib.Core.Bool.{true, false}
 use mathlib.Core.List.{List}
 use mathlib.Core.Logic.{dite}
-use Prim.Native.Nat.{ℕ, _-_, _<_}
+use Prim.Native.Nat.{ℕ, _<_}
 use native.Mathlib.Decide.{decLt}
 use native.Mathlib.Omega.{arith}
-use lib.ListN.{length, take, drop}
+use lib.ListN.{length}
 use Rattle.lines.specs.Digits.{malformed, InFront}
 use Rattle.lines.specs.declared.Cursor.{Cursor}
 use Rattle.lines.specs.declared.Frame.{Frame}
 use Rattle.lines.specs.declared.Frame.the-variants.{Malformed, Bytes}
 use Rattle.lines.proofs.FrameLaws.{decoded-frame, decoded-malformed}
 use Rattle.reader.specs.declared.Read.{Read}
-use Rattle.reader.specs.Reading.{lineEnd, FrameRead}
+use Rattle.reader.specs.Reading.{lineEnd, lineOf, FrameRead}
 
 abbrev HasBytes : Frame → Type 0
 HasBytes Malformed = ⊥
@@ -25,7 +25,7 @@ module _ {book : List ℕ} {c : Cursor} {before : List ℕ} {r : Read} {after : 
   end = lineEnd book (c .at)
 
   abbrev line : List ℕ
-  line = take (end - c .at) (drop (c .at) book)
+  line = lineOf book (c .at) end
 
   pub read-size : length after ≡ length before
   read-size = dite (decLt end (length book)) (λ (h : end < length book). p .line .ended h .size) (λ (h : end < length book → ⊥). ap length (p .line .unended (omega (arith, h)) .1))
