@@ -37,6 +37,7 @@ fn line_at(book: &[u8], at: usize, frame: &mut [u8]) -> Line
     }
 }
 
+// A line's frame, with the cursor of the line behind it.
 fn read_of(line: Line, next: Cursor) -> Read
     ensures { λ r. ⌜ (r .frame ≡ line .frame) × (r .next ≡ next) ⌝ }
 {

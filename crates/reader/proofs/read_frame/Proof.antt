@@ -1,4 +1,4 @@
--- `reader::read_frame` meets its contract: a walk of its MIR, by hand, with a `&[u8]` and a `&mut [u8]` at two lifetimes. A reader that `new` returns is held in a local, lent the buffer by `current`, and moved by `next`; `place` says where it then stands. All that the proof knows of the functions called is that each meets its contract.
+-- `reader::read_frame` meets its contract: a walk of its MIR, by hand, with a `&[u8]` and a `&mut [u8]` at two lifetimes. A reader that `new` returns is held in a local: `current` reads its line into the buffer, `next` moves it, and `place` says where it then stands. All that the proof knows of the functions called is that each meets its contract.
 -- The reader is Copy: one copy of what it owns goes to `current`, the other to `next`. The buffer is passed on at its own lifetime, share and name: it is given up for good, and what `current` says of the last list is what `read_frame` says of it.
 -- In a local of a body MIR erases the lifetime of the struct's type, so the value is shown to have the type at `erased`.
 -- Assumes nothing.
