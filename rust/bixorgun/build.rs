@@ -1,4 +1,5 @@
-//! Links `libbixorgun.a`, from the directory that `BIXORGUN_LIB_DIR` names or else from the repository's `target/staticlib`.
+//! Links `libbixorgun.a`, from the directory that `BIXORGUN_LIB_DIR` names or else from the repository's `target/staticlib`. The
+//! archive's path is `BIXORGUN_ARCHIVE` for the tests.
 
 use std::env;
 use std::path::{Path, PathBuf};
@@ -34,6 +35,7 @@ fn link() -> Result<(), String> {
     }
     println!("cargo:rustc-link-search=native={}", dir.display());
     println!("cargo:rustc-link-lib=static=bixorgun");
+    println!("cargo:rustc-env=BIXORGUN_ARCHIVE={}", archive.display());
     Ok(())
 }
 

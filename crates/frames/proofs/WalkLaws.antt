@@ -2,8 +2,9 @@
 use mathlib.Core.Path.{_≡_, refl, ap, sym, subst, _∙_}
 use mathlib.Core.Bool.{Bool, true, false, cond}
 use mathlib.Core.List.{List, _∷_}
-use mathlib.Core.Logic.{_⊎_, ⊎-elim}
+use mathlib.Core.Logic.{_⊎_, ⊎-elim, dite}
 use Prim.Native.Nat.{ℕ, _+_, _-_, _*_, _≤_, _<_}
+use native.Mathlib.Decide.{decLt}
 use native.Mathlib.Numerals.{add-one}
 use native.Mathlib.Omega.{arith}
 use lib.Dec.{eqb}
@@ -14,6 +15,10 @@ use Rattle.lines.specs.Digits.{byteAt, frameOf, malformed}
 use Rattle.lines.specs.Lines.{Line, ended, lines, toEnd}
 use Rattle.lines.proofs.DigitLaws.{well-long}
 use Rattle.lines.proofs.LineLaws.{line-ended, line-unended}
+use Rattle.lines.specs.declared.Frame.the-variants.{Malformed as NoFrame}
+use Rattle.reader.specs.declared.Read.{Read}
+use Rattle.reader.specs.Reading.{lineEnd, FrameRead}
+use Rattle.reader.proofs.ReadLaws.{read-malformed}
 use Rattle.gate.specs.Gate.{verdict, lineVerdict}
 use Rattle.gate.specs.declared.Known.{Known}
 use Rattle.gate.specs.declared.Fault.{Fault}
@@ -141,3 +146,9 @@ module _ (book : List ℕ) (k : Known) (q : Query) (m fs : List ℕ) (rs : List 
                 ∙ ap (λ (w : List ℕ). walk (enter (held k q m fs rs) w) (l + 1) (lines (drop (e + 1) book))) (sym xs)
                 ∙ rw (ek, eq, em, ef, rules .0) refl;
           }
+
+  -- No frame was read of the line at i: it is unended or malformed.
+  pub unread-bad : (before : List ℕ) (r : Read) (after : List ℕ) → FrameRead book (record { at = i; line = l }) before r after → i < length book → r .frame ≡ NoFrame → refused (BadLine Malformed l) ≡ walk nothing 1 (lines book)
+  unread-bad before r after p h none =
+      dite (decLt (lineEnd book i) (length book)) (λ (k : lineEnd book i < length book). line-malformed (lineEnd book i) refl k (read-malformed p none k))
+      (λ (k : lineEnd book i < length book → ⊥). unended-bad (lineEnd book i) refl h (omega (arith, k)))

@@ -373,13 +373,8 @@ fn read_lines(book: &[u8]) -> Reading
     let mut frame = [0u8; 32768];
     let mut cursor = lines::opening_line();
     while cursor.at < book.len() {
-        let at = cursor.at;
-        let e = lines::line_end(book, at);
-        if book.len() <= e {
-            return turned_back(Refusal::BadLine(gate::Fault::Malformed, cursor.line));
-        }
-        let line = &book[at..e];
-        let decoded = lines::decode(line, &mut frame);
+        let read = reader::read_frame(book, cursor, &mut frame);
+        let decoded = read.frame;
         let lines::Frame::Bytes(n) = decoded else {
             return turned_back(Refusal::BadLine(gate::Fault::Malformed, cursor.line));
         };
@@ -397,7 +392,7 @@ fn read_lines(book: &[u8]) -> Reading
             rules[i] = rule_of(x);
         }
         known = known_after(known, x);
-        cursor = lines::following_line(cursor, e);
+        cursor = read.next;
     }
     if !known.asked {
         return turned_back(Refusal::BadLine(gate::Fault::Misplaced, cursor.line));

@@ -1,6 +1,5 @@
 // One level of the planner: the facts of one crew, or of the query's person, the moves that rules permit on them, and the rounds that settle the level.
 use frames::Rule;
-use frames::Rules;
 ghost use mathlib.Core.Path.{_≡_};
 ghost use mathlib.Core.Bool.{true, false, not, _&&_, _||_};
 ghost use Prim.Native.Nat.{_+_, _*_, _≤_, _<_};
@@ -8,7 +7,7 @@ ghost use lib.ListN.{length, getD};
 ghost use Rattle.theory.specs.Facts.{_⊆_};
 ghost use Rattle.level.specs.Shown.{touches, More, rowFlags, Put, direct};
 ghost use Rattle.level.specs.Moves.{flagsMet, flagsWith, placeOf, Fine, Sound, askOf, moveAt, movesIn};
-ghost use Rattle.level.specs.Chosen.{chosenIn, GoodRules, Numbers, MovePut, Gathered};
+ghost use Rattle.level.specs.Chosen.{chosenIn, Numbers, MovePut};
 ghost use Rattle.level.specs.Terms.{codeOf, GoodRule, MoveOf};
 ghost use Rattle.level.specs.Notes.{Noted};
 ghost use Rattle.level.specs.Build.{Blank, Built, Stripped, Copied, Lacks};
@@ -109,7 +108,7 @@ fn numbers_of(m: Move) -> [u16; 14]
 }
 
 // Writes move `k` of a list.
-fn put_move(m: Move, k: usize, ms: &mut [u16])
+pub fn put_move(m: Move, k: usize, ms: &mut [u16])
     requires { ⌜ Fine m × ((k < 512) × (length (now ms) ≡ 7168)) ⌝ }
     ensures { λ _. ⌜ MovePut (now (ms .entry)) k m (now (ms .exit)) ⌝ }
 {
@@ -160,27 +159,6 @@ pub fn chosen(r: Rule, one: u8, two: u8, roles: u32) -> bool
         return given;
     }
     false
-}
-
-// Writes the moves of the rules that have one of two ops and one of the roles, in the rules' order. Returns how many.
-pub fn moves_of(rs: Rules, one: u8, two: u8, roles: u32, ms: &mut [u16]) -> usize
-    requires { ⌜ GoodRules rs × (length (now ms) ≡ 7168) ⌝ }
-    ensures { λ r. ⌜ Gathered rs one two roles r (now (ms .exit)) ⌝ }
-{
-    let n = rs.count;
-    let mut k: usize = 0;
-    let mut i: usize = 0;
-    while i < n {
-        let r = rs.rules[i];
-        if chosen(r, one, two, roles) {
-            put_move(move_of(r), k, ms);
-            k += 1;
-            i += 1;
-        } else {
-            i += 1;
-        }
-    }
-    k
 }
 
 // ---------------------------------------------------------------- the flags of a subject

@@ -115,9 +115,9 @@ pub fn opening_line() -> Cursor
     Cursor { at: 0, line: 1 }
 }
 
-// Where the line behind the 0A at place `end` starts.
+// Where the line behind the one that ends at place `end` starts.
 pub fn following_line(c: Cursor, end: usize) -> Cursor
-    requires { ⌜ (end < 65536) × (c .line ≤ 65536) ⌝ }
+    requires { ⌜ (end ≤ 65536) × (c .line ≤ 65536) ⌝ }
     ensures { λ r. ⌜ r ≡ following c end ⌝ }
 {
     Cursor {

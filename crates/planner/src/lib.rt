@@ -262,8 +262,8 @@ fn search(b: Book, up: &mut [u8], down: &mut [u8]) -> Outcome
     let rules = b.rules;
     let mut adds = [0u16; 7168];
     let mut dels = [0u16; 7168];
-    let n = level::moves_of(rules, 3, 3, roles, &mut adds);
-    let m = level::moves_of(rules, 4, 4, roles, &mut dels);
+    let n = moves::moves_listed(rules, 3, 3, roles, &mut adds);
+    let m = moves::moves_listed(rules, 4, 4, roles, &mut dels);
     let mut reach = [false; 5120];
     let mut rows = [false; 5120];
     let mut table = [false; 5280];
@@ -283,8 +283,8 @@ fn search(b: Book, up: &mut [u8], down: &mut [u8]) -> Outcome
     if !r.found {
         return stuck;
     }
-    let n = level::moves_of(rules, 1, 5, roles, &mut adds);
-    let m = level::moves_of(rules, 2, 6, roles, &mut dels);
+    let n = moves::moves_listed(rules, 1, 5, roles, &mut adds);
+    let m = moves::moves_listed(rules, 2, 6, roles, &mut dels);
     let p = person_level(
         b,
         &adds[..14 * n],

@@ -5,13 +5,13 @@ use mathlib.Core.Logic.{⊎-elim, inl, inr}
 use borrow.Author.Tests.{not-true, not-false}
 use Prim.Native.Nat.{_-_}
 use native.Mathlib.Omega.{arith}
-use lib.ListN.{length, drop, set, length-drop}
+use lib.ListN.{length, set}
 use lib.Seq.{length-take-le}
-use Rattle.lines.proofs.FrameLaws.{decoded-frame, decoded-malformed}
+use Rattle.reader.proofs.ReadLaws.{read-size, read-bytes}
 use Rattle.gate.proofs.PassedLaws.{rule-passed}
 use Rattle.facts.specs.Facts.{noFacts}
 use Rattle.frames.specs.Book.{answerOf, contentsOf, listed, nothing}
-use Rattle.frames.proofs.WalkLaws.{held, Held, Stored, at-end-good, at-end-bad, unended-bad, line-malformed, line-bad, line-good, junior-small}
+use Rattle.frames.proofs.WalkLaws.{held, Held, Stored, at-end-good, at-end-bad, unread-bad, line-bad, line-good, junior-small}
 use borrow.Author.Needs.{needs}
 use Rattle.frames.proofs.read_lines.Statement.{statement}
 use Rattle.frames.proofs.read_lines.Tie as tie
@@ -35,29 +35,14 @@ loop-holds : tie.Need-loop-holds Inv-loop μ-loop
 unfolding held nothing noFacts
 loop-holds c = rw (c .opening-line .ensures) (record { within = omega arith; lined = omega arith; counted = omega arith; crewed = omega arith; edged = refl; roomed = refl; left = rw (c .before .before .no-query .ensures) }, refl)
 
-line-end-requires : tie.Need-line-end-requires Inv-loop μ-loop
-line-end-requires c κs = search needs
+slice-aggregate-read-frame : tie.Need-slice-aggregate-read-frame Inv-loop μ-loop
+slice-aggregate-read-frame c = search needs
 
-turned-back-requires : tie.Need-turned-back-requires Inv-loop μ-loop
-turned-back-requires c κs = search needs
-
-returns : tie.Need-returns Inv-loop μ-loop
-returns c = let at = c .before .before .before .before .before .loop in c .turned-back .ensures ∙ unended-bad _ (at .known) (at .query) (at .juniors) (at .facts) (at .rules) (at .cursor .at) (at .cursor .line) (at .inv .0) _ (c .before .before .line-end .ensures) (c .before .before .before .if1 .taken) (c .before .if2 .taken)
-
-sub-line : tie.Need-sub-line Inv-loop μ-loop
-sub-line c = omega (arith, c .before .line-end .ensures)
-
-part-line-start : tie.Need-part-line-start Inv-loop μ-loop
-part-line-start c = omega (arith, c .before .line-end .ensures)
-
-part-line-end : tie.Need-part-line-end Inv-loop μ-loop
-part-line-end c = search needs
-
-slice-aggregate-decode : tie.Need-slice-aggregate-decode Inv-loop μ-loop
-slice-aggregate-decode c = search needs
-
-decode-requires : tie.Need-decode-requires Inv-loop μ-loop
-decode-requires c κs = let at = c .before .before .before .before .before .before .loop in let size = length-take-le (c .before .before .before .line-end .result - at .cursor .at) (drop (at .cursor .at) (c .before .before .before .before .before .before .before .before .before .before .before .args .book .now)) (omega (arith, length-drop (at .cursor .at) (c .before .before .before .before .before .before .before .before .before .before .before .args .book .now), c .before .before .if2 .left)) in (omega (arith, size, c .before .before .if2 .left, c .before .before .before .before .before .before .before .before .before .before .before .pre), omega (arith, size, c .before .before .if2 .left, c .before .before .before .before .before .before .before .before .before .before .before .pre, at .inv .1))
+read-frame-requires : tie.Need-read-frame-requires Inv-loop μ-loop
+read-frame-requires c κs =
+    let inv = c .before .before .before .loop .inv in
+    let most = c .before .before .before .before .before .before .before .before .pre in
+    (inv .0 .within, (most, (omega (arith, inv .1), omega (arith, inv .0 .lined, inv .0 .within, most))))
 
 enum-known-decoded : tie.Need-enum-known-decoded Inv-loop μ-loop
 enum-known-decoded c = search needs
@@ -65,17 +50,17 @@ enum-known-decoded c = search needs
 enum-told : tie.Need-enum-told Inv-loop μ-loop
 enum-told c = search needs
 
-turned-back-requires-2 : tie.Need-turned-back-requires-2 Inv-loop μ-loop
-turned-back-requires-2 c κs = search needs
+turned-back-requires : tie.Need-turned-back-requires Inv-loop μ-loop
+turned-back-requires c κs = search needs
 
-returns-2 : tie.Need-returns-2 Inv-loop μ-loop
-returns-2 c = let at = c .before .before .before .before .before .before .before .before .before .before .before .loop in c .turned-back2 .ensures ∙ line-malformed _ (at .known) (at .query) (at .juniors) (at .facts) (at .rules) (at .cursor .at) (at .cursor .line) (at .inv .0) _ (c .before .before .before .before .before .before .before .before .line-end .ensures) (c .before .before .before .before .before .before .before .if2 .left) (decoded-malformed (c .before .before .before .before .decode .ensures) (c .before .enum-told .given .1))
+returns : tie.Need-returns Inv-loop μ-loop
+returns c = let at = c .before .before .before .before .before .before .before .before .loop in c .turned-back .ensures ∙ unread-bad _ (at .known) (at .query) (at .juniors) (at .facts) (at .rules) (at .cursor .at) (at .cursor .line) (at .inv .0) _ _ _ (c .before .before .before .before .read-frame .ensures) (c .before .before .before .before .before .before .if1 .taken) (c .before .enum-told .given .1)
 
 array-share-prefix-frame : tie.Need-array-share-prefix-frame Inv-loop μ-loop
-array-share-prefix-frame c = omega (arith, decoded-frame (c .before .before .before .before .decode .ensures) (c .before .decoded .given .1) .1 .fits, c .before .before .before .before .decode .ensures .size, c .before .before .before .before .before .before .before .before .before .before .before .loop .inv .1)
+array-share-prefix-frame c = let read = c .before .before .before .before .read-frame .ensures in omega (arith, read-bytes read (c .before .decoded .given .1) .1 .1 .fits, read-size read, c .before .before .before .before .before .before .before .before .loop .inv .1)
 
 slice-aggregate-x : tie.Need-slice-aggregate-x Inv-loop μ-loop
-slice-aggregate-x c = sym (length-take-le _ _ (decoded-frame (c .before .before .before .before .before .decode .ensures) (c .before .before .decoded .given .1) .1 .fits))
+slice-aggregate-x c = sym (length-take-le _ _ (read-bytes (c .before .before .before .before .before .read-frame .ensures) (c .before .before .decoded .given .1) .1 .1 .fits))
 
 judge-frame-requires : tie.Need-judge-frame-requires Inv-loop μ-loop
 judge-frame-requires c κs = search needs
@@ -83,17 +68,17 @@ judge-frame-requires c κs = search needs
 enum-known-verdict : tie.Need-enum-known-verdict Inv-loop μ-loop
 enum-known-verdict c = search needs
 
-turned-back-requires-3 : tie.Need-turned-back-requires-3 Inv-loop μ-loop
-turned-back-requires-3 c κs = search needs
+turned-back-requires-2 : tie.Need-turned-back-requires-2 Inv-loop μ-loop
+turned-back-requires-2 c κs = search needs
 
-returns-3 : tie.Need-returns-3 Inv-loop μ-loop
-returns-3 c = let at = c .before .before .before .before .before .before .before .before .before .before .before .before .before .before .before .before .before .loop in let line = decoded-frame (c .before .before .before .before .before .before .before .before .before .before .decode .ensures) (c .before .before .before .before .before .before .before .decoded .given .1) in c .turned-back3 .ensures ∙ line-bad _ (at .known) (at .query) (at .juniors) (at .facts) (at .rules) (at .cursor .at) (at .cursor .line) (at .inv .0) _ (c .before .before .before .before .before .before .before .before .before .before .before .before .before .before .line-end .ensures) _ (c .before .before .before .before .before .before .before .before .before .before .before .before .before .if2 .left) (line .0) (line .1 .front) (c .before .before .verdict .given .0 .0) (sym (c .before .before .before .before .judge-frame .ensures) ∙ c .before .before .verdict .given .1)
+returns-2 : tie.Need-returns-2 Inv-loop μ-loop
+returns-2 c = let at = c .before .before .before .before .before .before .before .before .before .before .before .before .before .before .loop in let line = read-bytes (c .before .before .before .before .before .before .before .before .before .before .read-frame .ensures) (c .before .before .before .before .before .before .before .decoded .given .1) in c .turned-back2 .ensures ∙ line-bad _ (at .known) (at .query) (at .juniors) (at .facts) (at .rules) (at .cursor .at) (at .cursor .line) (at .inv .0) _ refl _ (line .0) (line .1 .0) (line .1 .1 .front) (c .before .before .verdict .given .0 .0) (sym (c .before .before .before .before .judge-frame .ensures) ∙ c .before .before .verdict .given .1)
 
 enum-told-2 : tie.Need-enum-told-2 Inv-loop μ-loop
 enum-told-2 c = search needs
 
 enter-edge-requires : tie.Need-enter-edge-requires Inv-loop μ-loop
-enter-edge-requires c κs = (junior-small (c .before .before .before .before .before .before .before .before .before .before .before .before .before .before .before .before .loop .known) _ (sym (c .before .before .before .judge-frame .ensures) ∙ c .before .enum-told2 .given .1) (c .before .before .before .before .before .before .before .before .before .before .before .before .before .before .before .before .loop .inv .0 .crewed), c .before .before .before .before .before .before .before .before .before .before .before .before .before .before .before .before .loop .inv .0 .edged)
+enter-edge-requires c κs = let at = c .before .before .before .before .before .before .before .before .before .before .before .before .before .loop in (junior-small (at .known) _ (sym (c .before .before .before .judge-frame .ensures) ∙ c .before .enum-told2 .given .1) (at .inv .0 .crewed), at .inv .0 .edged)
 
 enter-fact-requires : tie.Need-enter-fact-requires Inv-loop μ-loop
 enter-fact-requires c κs = search needs
@@ -108,40 +93,38 @@ rule-of-requires : tie.Need-rule-of-requires Inv-loop μ-loop
 rule-of-requires c κs = search needs
 
 mul-rules : tie.Need-mul-rules Inv-loop μ-loop
-mul-rules c = omega (arith, rule-passed (c .before .before .before .before .before .before .before .before .before .before .before .before .before .before .before .before .before .before .before .before .before .before .before .loop .known) _ (sym (c .before .before .before .before .before .before .before .before .before .before .judge-frame .ensures) ∙ c .before .before .before .before .before .before .before .before .enum-told2 .given .1) (sym (c .before .before .byte-at .ensures) ∙ c .before .if3 .taken) .1 .1)
+mul-rules c = omega (arith, rule-passed (c .before .before .before .before .before .before .before .before .before .before .before .before .before .before .before .before .before .before .before .before .loop .known) _ (sym (c .before .before .before .before .before .before .before .before .before .before .judge-frame .ensures) ∙ c .before .before .before .before .before .before .before .before .enum-told2 .given .1) (sym (c .before .before .byte-at .ensures) ∙ c .before .if2 .taken) .1 .1)
 
 array-set-from-rules : tie.Need-array-set-from-rules Inv-loop μ-loop
-array-set-from-rules c = rule-passed (c .before .before .before .before .before .before .before .before .before .before .before .before .before .before .before .before .before .before .before .before .before .before .before .loop .known) _ (sym (c .before .before .before .before .before .before .before .before .before .before .judge-frame .ensures) ∙ c .before .before .before .before .before .before .before .before .enum-told2 .given .1) (sym (c .before .before .byte-at .ensures) ∙ c .before .if3 .taken) .1 .1
+array-set-from-rules c = rule-passed (c .before .before .before .before .before .before .before .before .before .before .before .before .before .before .before .before .before .before .before .before .loop .known) _ (sym (c .before .before .before .before .before .before .before .before .before .before .judge-frame .ensures) ∙ c .before .before .before .before .before .before .before .before .enum-told2 .given .1) (sym (c .before .before .byte-at .ensures) ∙ c .before .if2 .taken) .1 .1
 
 known-after-requires : tie.Need-known-after-requires Inv-loop μ-loop
-known-after-requires c κs = c .before .before .before .before .before .before .before .before .before .before .before .before .before .before .before .before .before .before .before .before .before .before .loop .inv .0 .counted
-
-following-line-requires : tie.Need-following-line-requires Inv-loop μ-loop
-following-line-requires c κs = (omega (arith, c .before .before .before .before .before .before .before .before .before .before .before .before .before .before .before .before .before .before .before .if2 .left, c .before .before .before .before .before .before .before .before .before .before .before .before .before .before .before .before .before .before .before .before .before .before .before .before .before .before .before .before .pre), omega (arith, c .before .before .before .before .before .before .before .before .before .before .before .before .before .before .before .before .before .before .before .before .before .before .before .loop .inv .0 .lined, c .before .before .before .before .before .before .before .before .before .before .before .before .before .before .before .before .before .before .before .before .before .before .before .loop .inv .0 .within, c .before .before .before .before .before .before .before .before .before .before .before .before .before .before .before .before .before .before .before .before .before .before .before .before .before .before .before .before .pre))
+known-after-requires c κs = c .before .before .before .before .before .before .before .before .before .before .before .before .before .before .before .before .before .before .before .loop .inv .0 .counted
 
 loop-less : tie.Need-loop-less Inv-loop μ-loop
-loop-less c = rw (c .following-line .ensures) (omega (arith, c .before .before .before .before .before .before .before .before .before .before .before .before .before .before .before .before .before .before .before .before .before .line-end .ensures, c .before .before .before .before .before .before .before .before .before .before .before .before .before .before .before .before .before .before .before .before .before .before .if1 .taken, c .before .before .before .before .before .before .before .before .before .before .before .before .before .before .before .before .before .before .before .before .if2 .left))
+loop-less c = let read = c .before .before .before .before .before .before .before .before .before .before .before .before .before .before .before .before .before .read-frame .ensures in rw (read .next) (omega (arith, read-bytes read (c .before .before .before .before .before .before .before .before .before .before .before .before .before .before .decoded .given .1) .0, c .before .before .before .before .before .before .before .before .before .before .before .before .before .before .before .before .before .before .before .if1 .taken))
 
 loop-again : tie.Need-loop-again Inv-loop μ-loop
 loop-again c =
-    let at = c .before .before .before .before .before .before .before .before .before .before .before .before .before .before .before .before .before .before .before .before .before .before .before .before .loop in
-    let line = decoded-frame (c .before .before .before .before .before .before .before .before .before .before .before .before .before .before .before .before .before .decode .ensures) (c .before .before .before .before .before .before .before .before .before .before .before .before .before .before .decoded .given .1) in
+    let at = c .before .before .before .before .before .before .before .before .before .before .before .before .before .before .before .before .before .before .before .before .before .loop in
+    let read = c .before .before .before .before .before .before .before .before .before .before .before .before .before .before .before .before .before .read-frame .ensures in
+    let line = read-bytes read (c .before .before .before .before .before .before .before .before .before .before .before .before .before .before .decoded .given .1) in
     let kind = c .before .before .before .byte-at .ensures in
-    let stored : Stored (at .known) (at .rules) _ (c .before .before .if3 .rules) =
+    let stored : Stored (at .known) (at .rules) _ (c .before .before .if2 .rules) =
     ⊎-elim (λ w. inl (sym kind ∙ w .0 .taken, w .2 ∙ ap (set (at .rules) (at .known .count)) (w .1 .ensures)))
-    (λ w. inr ((λ z. w .0 .left (kind ∙ z)), w .1)) (c .before .before .if3 .came) in
-    rw (c .following-line .ensures)
-    (line-good _ (at .known) (at .query) (at .juniors) (at .facts) (at .rules) (at .cursor .at) (at .cursor .line) (at .inv .0) _ (c .before .before .before .before .before .before .before .before .before .before .before .before .before .before .before .before .before .before .before .before .before .line-end .ensures) _ (c .before .before .before .before .before .before .before .before .before .before .before .before .before .before .before .before .before .before .before .before .if2 .left) (line .0) (line .1 .front) _ _ _ _ (c .before .before .if3 .rules) (sym (c .before .before .before .before .before .before .before .before .before .before .before .judge-frame .ensures) ∙ c .before .before .before .before .before .before .before .before .before .enum-told2 .given .1) (c .before .known-after .ensures) (c .before .before .before .before .query-after .ensures) (c .before .before .before .before .before .before .before .enter-edge .ensures) (c .before .before .before .before .before .enter-fact .ensures) stored, c .before .before .before .before .before .before .before .before .before .before .before .before .before .before .before .before .before .decode .ensures .size ∙ at .inv .1)
+    (λ w. inr ((λ z. w .0 .left (kind ∙ z)), w .1)) (c .before .before .if2 .came) in
+    rw (read .next)
+    (line-good _ (at .known) (at .query) (at .juniors) (at .facts) (at .rules) (at .cursor .at) (at .cursor .line) (at .inv .0) _ refl _ (line .0) (line .1 .0) (line .1 .1 .front) _ _ _ _ (c .before .before .if2 .rules) (sym (c .before .before .before .before .before .before .before .before .before .before .before .judge-frame .ensures) ∙ c .before .before .before .before .before .before .before .before .before .enum-told2 .given .1) (c .before .known-after .ensures) (c .before .before .before .before .query-after .ensures) (c .before .before .before .before .before .before .before .enter-edge .ensures) (c .before .before .before .before .before .enter-fact .ensures) stored, read-size read ∙ at .inv .1)
 
-turned-back-requires-4 : tie.Need-turned-back-requires-4 Inv-loop μ-loop
-turned-back-requires-4 c κs = search needs
+turned-back-requires-3 : tie.Need-turned-back-requires-3 Inv-loop μ-loop
+turned-back-requires-3 c κs = search needs
+
+returns-3 : tie.Need-returns-3 Inv-loop μ-loop
+returns-3 c = let at = c .before .before .before .before .before .loop in c .turned-back3 .ensures ∙ at-end-bad _ (at .known) (at .query) (at .juniors) (at .facts) (at .rules) (at .cursor .at) (at .cursor .line) (at .inv .0) (c .before .before .before .if1 .left) (not-true _ (c .before .if3 .taken))
 
 returns-4 : tie.Need-returns-4 Inv-loop μ-loop
-returns-4 c = let at = c .before .before .before .before .before .loop in c .turned-back4 .ensures ∙ at-end-bad _ (at .known) (at .query) (at .juniors) (at .facts) (at .rules) (at .cursor .at) (at .cursor .line) (at .inv .0) (c .before .before .before .if1 .left) (not-true _ (c .before .if4 .taken))
-
-returns-5 : tie.Need-returns-5 Inv-loop μ-loop
 unfolding answerOf contentsOf listed held
-returns-5 c = let at = c .before .before .before .before .before .loop in at-end-good _ (at .known) (at .query) (at .juniors) (at .facts) (at .rules) (at .cursor .at) (at .cursor .line) (at .inv .0) (c .before .before .before .if1 .left) (not-false _ (c .before .if4 .left))
+returns-4 c = let at = c .before .before .before .before .before .loop in at-end-good _ (at .known) (at .query) (at .juniors) (at .facts) (at .rules) (at .cursor .at) (at .cursor .line) (at .inv .0) (c .before .before .before .if1 .left) (not-false _ (c .before .if3 .left))
 
 pub read-lines-spec : {M : Type 1} → statement M
 read-lines-spec =
@@ -153,24 +136,18 @@ read-lines-spec =
     no-rule-requires
     opening-line-requires
     loop-holds
-    line-end-requires
-    turned-back-requires
-    returns
-    sub-line
-    part-line-start
-    part-line-end
-    slice-aggregate-decode
-    decode-requires
+    slice-aggregate-read-frame
+    read-frame-requires
     enum-known-decoded
     enum-told
-    turned-back-requires-2
-    returns-2
+    turned-back-requires
+    returns
     array-share-prefix-frame
     slice-aggregate-x
     judge-frame-requires
     enum-known-verdict
-    turned-back-requires-3
-    returns-3
+    turned-back-requires-2
+    returns-2
     enum-told-2
     enter-edge-requires
     enter-fact-requires
@@ -180,9 +157,8 @@ read-lines-spec =
     mul-rules
     array-set-from-rules
     known-after-requires
-    following-line-requires
     loop-less
     loop-again
-    turned-back-requires-4
-    returns-4
-    returns-5)
+    turned-back-requires-3
+    returns-3
+    returns-4)

@@ -23,17 +23,17 @@ none-found never = record { written = λ e. absurd (true≢false (sym e)); stuck
 moves-fit : {rs : Rules} {one two roles n : ℕ} {buffer : List ℕ} → Gathered rs one two roles n buffer → 14 * n ≤ length buffer
 moves-fit g = omega (arith, g .few, g .size)
 
-slice-aggregate-moves-of : tie.Need-slice-aggregate-moves-of
-slice-aggregate-moves-of c = search needs
+slice-aggregate-moves-listed : tie.Need-slice-aggregate-moves-listed
+slice-aggregate-moves-listed c = search needs
 
-moves-of-requires : tie.Need-moves-of-requires
-moves-of-requires c κs = (book-good (c .before .before .before .before .before .args .b) (c .before .before .before .before .before .pre .0) (simp length-map at (c .before .before .before .before .before .good .0 .1 .1 .1 .1 .0 .1 .1 .1 .0 .1 .0 .1)), refl)
+moves-listed-requires : tie.Need-moves-listed-requires
+moves-listed-requires c κs = (book-good (c .before .before .before .before .before .args .b) (c .before .before .before .before .before .pre .0) (simp length-map at (c .before .before .before .before .before .good .0 .1 .1 .1 .1 .0 .1 .1 .1 .0 .1 .0 .1)), refl)
 
-slice-aggregate-moves-of-2 : tie.Need-slice-aggregate-moves-of-2
-slice-aggregate-moves-of-2 c = search needs
+slice-aggregate-moves-listed-2 : tie.Need-slice-aggregate-moves-listed-2
+slice-aggregate-moves-listed-2 c = search needs
 
-moves-of-requires-2 : tie.Need-moves-of-requires-2
-moves-of-requires-2 c κs = (book-good (c .before .before .before .before .before .before .before .before .args .b) (c .before .before .before .before .before .before .before .before .pre .0) (simp length-map at (c .before .before .before .before .before .before .before .before .good .0 .1 .1 .1 .1 .0 .1 .1 .1 .0 .1 .0 .1)), refl)
+moves-listed-requires-2 : tie.Need-moves-listed-requires-2
+moves-listed-requires-2 c κs = (book-good (c .before .before .before .before .before .before .before .before .args .b) (c .before .before .before .before .before .before .before .before .pre .0) (simp length-map at (c .before .before .before .before .before .before .before .before .good .0 .1 .1 .1 .1 .0 .1 .1 .1 .0 .1 .0 .1)), refl)
 
 slice-aggregate-fill-reach : tie.Need-slice-aggregate-fill-reach
 slice-aggregate-fill-reach c = search needs
@@ -55,22 +55,22 @@ slice-aggregate-crew-levels : tie.Need-slice-aggregate-crew-levels
 slice-aggregate-crew-levels c = search needs
 
 mul-adds : tie.Need-mul-adds
-mul-adds c = omega (arith, c .before .before .before .before .before .before .before .before .before .before .before .before .moves-of .ensures .few)
+mul-adds c = omega (arith, c .before .before .before .before .before .before .before .before .before .before .before .before .moves-listed .ensures .few)
 
 array-share-prefix-adds : tie.Need-array-share-prefix-adds
-array-share-prefix-adds c = moves-fit (c .before .before .before .before .before .before .before .before .before .before .before .before .moves-of .ensures)
+array-share-prefix-adds c = moves-fit (c .before .before .before .before .before .before .before .before .before .before .before .before .moves-listed .ensures)
 
 slice-aggregate-crew-levels-2 : tie.Need-slice-aggregate-crew-levels-2
-slice-aggregate-crew-levels-2 c = sym (length-take-le _ _ (moves-fit (c .before .before .before .before .before .before .before .before .before .before .before .before .before .moves-of .ensures)))
+slice-aggregate-crew-levels-2 c = sym (length-take-le _ _ (moves-fit (c .before .before .before .before .before .before .before .before .before .before .before .before .before .moves-listed .ensures)))
 
 mul-dels : tie.Need-mul-dels
-mul-dels c = omega (arith, c .before .before .before .before .before .before .before .before .before .before .moves-of2 .ensures .few)
+mul-dels c = omega (arith, c .before .before .before .before .before .before .before .before .before .before .moves-listed2 .ensures .few)
 
 array-share-prefix-dels : tie.Need-array-share-prefix-dels
-array-share-prefix-dels c = moves-fit (c .before .before .before .before .before .before .before .before .before .before .moves-of2 .ensures)
+array-share-prefix-dels c = moves-fit (c .before .before .before .before .before .before .before .before .before .before .moves-listed2 .ensures)
 
 slice-aggregate-crew-levels-3 : tie.Need-slice-aggregate-crew-levels-3
-slice-aggregate-crew-levels-3 c = sym (length-take-le _ _ (moves-fit (c .before .before .before .before .before .before .before .before .before .before .before .moves-of2 .ensures)))
+slice-aggregate-crew-levels-3 c = sym (length-take-le _ _ (moves-fit (c .before .before .before .before .before .before .before .before .before .before .before .moves-listed2 .ensures)))
 
 slice-aggregate-crew-levels-4 : tie.Need-slice-aggregate-crew-levels-4
 slice-aggregate-crew-levels-4 c = search needs
@@ -83,7 +83,7 @@ slice-aggregate-crew-levels-6 c = search needs
 
 crew-levels-requires : tie.Need-crew-levels-requires
 unfolding contentsOf
-crew-levels-requires c κs = ((c .before .before .before .before .before .before .before .before .before .before .before .before .before .before .before .before .before .before .before .before .before .before .before .before .before .pre .0, (side-moves (c .before .before .before .before .before .before .before .before .before .before .before .before .before .before .before .before .before .before .before .before .before .before .before .before .before .args .b) (c .before .before .before .before .before .before .before .before .before .before .before .before .before .before .before .before .before .before .before .before .before .before .before .before .before .pre .0) (simp length-map at (c .before .before .before .before .before .before .before .before .before .before .before .before .before .before .before .before .before .before .before .before .before .before .before .before .before .good .0 .1 .1 .1 .1 .0 .1 .1 .1 .0 .1 .0 .1)) (c .before .before .before .before .before .before .before .before .before .before .before .before .before .before .before .before .before .before .before .moves-of .ensures .moves) (c .before .before .before .before .before .before .before .before .before .before .before .before .before .before .before .before .moves-of2 .ensures .moves), (c .before .before .before .before .before .before .before .before .before .before .before .before .fill-reach .ensures .0, (c .before .before .before .before .before .before .before .before .before .before .before .before .fill-reach .ensures .1, refl)))), (record { size = refl; blank = λ j h. getD-replicate 5280 j false false (omega arith) }, drive-first (contentsOf (c .before .before .before .before .before .before .before .before .before .before .before .before .before .before .before .before .before .before .before .before .before .before .before .before .before .args .b)) (c .before .before .before .before .before .before .before .before .before .before .before .before .before .before .before .before .before .before .before .before .before .before .before .before .before .pre .0) _ _ _ (c .before .before .before .before .before .before .before .before .before .first-rows .ensures) (c .before .before .before .before .before .before .before .before .before .before .before .before .before .before .before .before .before .before .before .before .before .before .before .before .before .pre .1 .0) (c .before .before .before .before .before .before .before .before .before .before .before .before .before .before .before .before .before .before .before .before .before .before .before .before .before .pre .1 .1)))
+crew-levels-requires c κs = ((c .before .before .before .before .before .before .before .before .before .before .before .before .before .before .before .before .before .before .before .before .before .before .before .before .before .pre .0, (side-moves (c .before .before .before .before .before .before .before .before .before .before .before .before .before .before .before .before .before .before .before .before .before .before .before .before .before .args .b) (c .before .before .before .before .before .before .before .before .before .before .before .before .before .before .before .before .before .before .before .before .before .before .before .before .before .pre .0) (simp length-map at (c .before .before .before .before .before .before .before .before .before .before .before .before .before .before .before .before .before .before .before .before .before .before .before .before .before .good .0 .1 .1 .1 .1 .0 .1 .1 .1 .0 .1 .0 .1)) (c .before .before .before .before .before .before .before .before .before .before .before .before .before .before .before .before .before .before .before .moves-listed .ensures .moves) (c .before .before .before .before .before .before .before .before .before .before .before .before .before .before .before .before .moves-listed2 .ensures .moves), (c .before .before .before .before .before .before .before .before .before .before .before .before .fill-reach .ensures .0, (c .before .before .before .before .before .before .before .before .before .before .before .before .fill-reach .ensures .1, refl)))), (record { size = refl; blank = λ j h. getD-replicate 5280 j false false (omega arith) }, drive-first (contentsOf (c .before .before .before .before .before .before .before .before .before .before .before .before .before .before .before .before .before .before .before .before .before .before .before .before .before .args .b)) (c .before .before .before .before .before .before .before .before .before .before .before .before .before .before .before .before .before .before .before .before .before .before .before .before .before .pre .0) _ _ _ (c .before .before .before .before .before .before .before .before .before .first-rows .ensures) (c .before .before .before .before .before .before .before .before .before .before .before .before .before .before .before .before .before .before .before .before .before .before .before .before .before .pre .1 .0) (c .before .before .before .before .before .before .before .before .before .before .before .before .before .before .before .before .before .before .before .before .before .before .before .before .before .pre .1 .1)))
 
 same-length : tie.Need-same-length
 same-length c = c .before .before .before .before .before .up .given
@@ -94,35 +94,35 @@ same-length-2 c = c .before .before .before .down .given
 returns : tie.Need-returns
 returns c = none-found (c .before .before .before .before .before .before .before .before .crew-levels .ensures .stuck (no-found _ (c .if1 .taken)))
 
-slice-aggregate-moves-of-3 : tie.Need-slice-aggregate-moves-of-3
-slice-aggregate-moves-of-3 c = sym (c .before .before .before .before .before .before .before .before .before .before .before .before .before .before .before .before .before .before .before .before .before .before .before .before .before .before .before .before .before .moves-of .ensures .size)
+slice-aggregate-moves-listed-3 : tie.Need-slice-aggregate-moves-listed-3
+slice-aggregate-moves-listed-3 c = sym (c .before .before .before .before .before .before .before .before .before .before .before .before .before .before .before .before .before .before .before .before .before .before .before .before .before .before .before .before .before .moves-listed .ensures .size)
 
-moves-of-requires-3 : tie.Need-moves-of-requires-3
-moves-of-requires-3 c κs = (book-good (c .before .before .before .before .before .before .before .before .before .before .before .before .before .before .before .before .before .before .before .before .before .before .before .before .before .before .before .before .before .before .before .before .before .before .before .args .b) (c .before .before .before .before .before .before .before .before .before .before .before .before .before .before .before .before .before .before .before .before .before .before .before .before .before .before .before .before .before .before .before .before .before .before .before .pre .0) (simp length-map at (c .before .before .before .before .before .before .before .before .before .before .before .before .before .before .before .before .before .before .before .before .before .before .before .before .before .before .before .before .before .before .before .before .before .before .before .good .0 .1 .1 .1 .1 .0 .1 .1 .1 .0 .1 .0 .1)), c .before .before .before .before .before .before .before .before .before .before .before .before .before .before .before .before .before .before .before .before .before .before .before .before .before .before .before .before .before .moves-of .ensures .size)
+moves-listed-requires-3 : tie.Need-moves-listed-requires-3
+moves-listed-requires-3 c κs = (book-good (c .before .before .before .before .before .before .before .before .before .before .before .before .before .before .before .before .before .before .before .before .before .before .before .before .before .before .before .before .before .before .before .before .before .before .before .args .b) (c .before .before .before .before .before .before .before .before .before .before .before .before .before .before .before .before .before .before .before .before .before .before .before .before .before .before .before .before .before .before .before .before .before .before .before .pre .0) (simp length-map at (c .before .before .before .before .before .before .before .before .before .before .before .before .before .before .before .before .before .before .before .before .before .before .before .before .before .before .before .before .before .before .before .before .before .before .before .good .0 .1 .1 .1 .1 .0 .1 .1 .1 .0 .1 .0 .1)), c .before .before .before .before .before .before .before .before .before .before .before .before .before .before .before .before .before .before .before .before .before .before .before .before .before .before .before .before .before .moves-listed .ensures .size)
 
-slice-aggregate-moves-of-4 : tie.Need-slice-aggregate-moves-of-4
-slice-aggregate-moves-of-4 c = sym (c .before .before .before .before .before .before .before .before .before .before .before .before .before .before .before .before .before .before .before .before .before .before .before .before .before .before .before .before .before .moves-of2 .ensures .size)
+slice-aggregate-moves-listed-4 : tie.Need-slice-aggregate-moves-listed-4
+slice-aggregate-moves-listed-4 c = sym (c .before .before .before .before .before .before .before .before .before .before .before .before .before .before .before .before .before .before .before .before .before .before .before .before .before .before .before .before .before .moves-listed2 .ensures .size)
 
-moves-of-requires-4 : tie.Need-moves-of-requires-4
-moves-of-requires-4 c κs = (book-good (c .before .before .before .before .before .before .before .before .before .before .before .before .before .before .before .before .before .before .before .before .before .before .before .before .before .before .before .before .before .before .before .before .before .before .before .before .before .before .args .b) (c .before .before .before .before .before .before .before .before .before .before .before .before .before .before .before .before .before .before .before .before .before .before .before .before .before .before .before .before .before .before .before .before .before .before .before .before .before .before .pre .0) (simp length-map at (c .before .before .before .before .before .before .before .before .before .before .before .before .before .before .before .before .before .before .before .before .before .before .before .before .before .before .before .before .before .before .before .before .before .before .before .before .before .before .good .0 .1 .1 .1 .1 .0 .1 .1 .1 .0 .1 .0 .1)), c .before .before .before .before .before .before .before .before .before .before .before .before .before .before .before .before .before .before .before .before .before .before .before .before .before .before .before .before .before .moves-of2 .ensures .size)
+moves-listed-requires-4 : tie.Need-moves-listed-requires-4
+moves-listed-requires-4 c κs = (book-good (c .before .before .before .before .before .before .before .before .before .before .before .before .before .before .before .before .before .before .before .before .before .before .before .before .before .before .before .before .before .before .before .before .before .before .before .before .before .before .args .b) (c .before .before .before .before .before .before .before .before .before .before .before .before .before .before .before .before .before .before .before .before .before .before .before .before .before .before .before .before .before .before .before .before .before .before .before .before .before .before .pre .0) (simp length-map at (c .before .before .before .before .before .before .before .before .before .before .before .before .before .before .before .before .before .before .before .before .before .before .before .before .before .before .before .before .before .before .before .before .before .before .before .before .before .before .good .0 .1 .1 .1 .1 .0 .1 .1 .1 .0 .1 .0 .1)), c .before .before .before .before .before .before .before .before .before .before .before .before .before .before .before .before .before .before .before .before .before .before .before .before .before .before .before .before .before .moves-listed2 .ensures .size)
 
 mul-adds-2 : tie.Need-mul-adds-2
-mul-adds-2 c = omega (arith, c .before .before .before .before .moves-of3 .ensures .few)
+mul-adds-2 c = omega (arith, c .before .before .before .before .moves-listed3 .ensures .few)
 
 array-share-prefix-adds-2 : tie.Need-array-share-prefix-adds-2
-array-share-prefix-adds-2 c = moves-fit (c .before .before .before .before .moves-of3 .ensures)
+array-share-prefix-adds-2 c = moves-fit (c .before .before .before .before .moves-listed3 .ensures)
 
 slice-aggregate-person-level : tie.Need-slice-aggregate-person-level
-slice-aggregate-person-level c = sym (length-take-le _ _ (moves-fit (c .before .before .before .before .before .moves-of3 .ensures)))
+slice-aggregate-person-level c = sym (length-take-le _ _ (moves-fit (c .before .before .before .before .before .moves-listed3 .ensures)))
 
 mul-dels-2 : tie.Need-mul-dels-2
-mul-dels-2 c = omega (arith, c .before .before .moves-of4 .ensures .few)
+mul-dels-2 c = omega (arith, c .before .before .moves-listed4 .ensures .few)
 
 array-share-prefix-dels-2 : tie.Need-array-share-prefix-dels-2
-array-share-prefix-dels-2 c = moves-fit (c .before .before .moves-of4 .ensures)
+array-share-prefix-dels-2 c = moves-fit (c .before .before .moves-listed4 .ensures)
 
 slice-aggregate-person-level-2 : tie.Need-slice-aggregate-person-level-2
-slice-aggregate-person-level-2 c = sym (length-take-le _ _ (moves-fit (c .before .before .before .moves-of4 .ensures)))
+slice-aggregate-person-level-2 c = sym (length-take-le _ _ (moves-fit (c .before .before .before .moves-listed4 .ensures)))
 
 slice-aggregate-person-level-3 : tie.Need-slice-aggregate-person-level-3
 slice-aggregate-person-level-3 c = search needs
@@ -132,7 +132,7 @@ slice-aggregate-person-level-4 c = search needs
 
 person-level-requires : tie.Need-person-level-requires
 unfolding contentsOf
-person-level-requires c κs = ((c .before .before .before .before .before .before .before .before .before .before .before .before .before .before .before .before .before .before .before .before .before .before .before .before .before .before .before .before .before .before .before .before .before .before .before .before .before .before .before .before .before .before .before .before .before .before .pre .0, (side-moves (c .before .before .before .before .before .before .before .before .before .before .before .before .before .before .before .before .before .before .before .before .before .before .before .before .before .before .before .before .before .before .before .before .before .before .before .before .before .before .before .before .before .before .before .before .before .before .args .b) (c .before .before .before .before .before .before .before .before .before .before .before .before .before .before .before .before .before .before .before .before .before .before .before .before .before .before .before .before .before .before .before .before .before .before .before .before .before .before .before .before .before .before .before .before .before .before .pre .0) (simp length-map at (c .before .before .before .before .before .before .before .before .before .before .before .before .before .before .before .before .before .before .before .before .before .before .before .before .before .before .before .before .before .before .before .before .before .before .before .before .before .before .before .before .before .before .before .before .before .before .good .0 .1 .1 .1 .1 .0 .1 .1 .1 .0 .1 .0 .1)) (c .before .before .before .before .before .before .before .before .before .before .moves-of3 .ensures .moves) (c .before .before .before .before .before .before .before .moves-of4 .ensures .moves), c .before .before .before .before .before .before .before .before .before .before .before .before .before .before .before .before .before .before .table2 .given)), c .before .before .before .before .before .before .before .before .before .before .before .before .before .before .before .before .before .before .before .before .crew-levels .ensures .settled (was-found _ (c .before .before .before .before .before .before .before .before .before .before .before .before .if1 .left)))
+person-level-requires c κs = ((c .before .before .before .before .before .before .before .before .before .before .before .before .before .before .before .before .before .before .before .before .before .before .before .before .before .before .before .before .before .before .before .before .before .before .before .before .before .before .before .before .before .before .before .before .before .before .pre .0, (side-moves (c .before .before .before .before .before .before .before .before .before .before .before .before .before .before .before .before .before .before .before .before .before .before .before .before .before .before .before .before .before .before .before .before .before .before .before .before .before .before .before .before .before .before .before .before .before .before .args .b) (c .before .before .before .before .before .before .before .before .before .before .before .before .before .before .before .before .before .before .before .before .before .before .before .before .before .before .before .before .before .before .before .before .before .before .before .before .before .before .before .before .before .before .before .before .before .before .pre .0) (simp length-map at (c .before .before .before .before .before .before .before .before .before .before .before .before .before .before .before .before .before .before .before .before .before .before .before .before .before .before .before .before .before .before .before .before .before .before .before .before .before .before .before .before .before .before .before .before .before .before .good .0 .1 .1 .1 .1 .0 .1 .1 .1 .0 .1 .0 .1)) (c .before .before .before .before .before .before .before .before .before .before .moves-listed3 .ensures .moves) (c .before .before .before .before .before .before .before .moves-listed4 .ensures .moves), c .before .before .before .before .before .before .before .before .before .before .before .before .before .before .before .before .before .before .table2 .given)), c .before .before .before .before .before .before .before .before .before .before .before .before .before .before .before .before .before .before .before .before .crew-levels .ensures .settled (was-found _ (c .before .before .before .before .before .before .before .before .before .before .before .before .if1 .left)))
 
 same-length-3 : tie.Need-same-length-3
 same-length-3 c = c .before .before .before .before .before .up2 .given ∙ c .before .before .before .before .before .before .before .before .before .before .before .before .before .before .before .before .before .before .before .before .before .before .before .before .before .up .given
@@ -159,10 +159,10 @@ pub search-spec : {M : Type 1} → statement M
 search-spec =
     tie.close
     (tie.spec
-    slice-aggregate-moves-of
-    moves-of-requires
-    slice-aggregate-moves-of-2
-    moves-of-requires-2
+    slice-aggregate-moves-listed
+    moves-listed-requires
+    slice-aggregate-moves-listed-2
+    moves-listed-requires-2
     slice-aggregate-fill-reach
     slice-aggregate-fill-reach-2
     fill-reach-requires
@@ -182,10 +182,10 @@ search-spec =
     same-length
     same-length-2
     returns
-    slice-aggregate-moves-of-3
-    moves-of-requires-3
-    slice-aggregate-moves-of-4
-    moves-of-requires-4
+    slice-aggregate-moves-listed-3
+    moves-listed-requires-3
+    slice-aggregate-moves-listed-4
+    moves-listed-requires-4
     mul-adds-2
     array-share-prefix-adds-2
     slice-aggregate-person-level
