@@ -93,7 +93,7 @@ fn request_at(plan: &[u8], i: usize) -> Request
     requests::request_of(q)
 }
 
-// Carries the request out where it is ready and a rule before the n-th permits it: sets or clears its fact.
+// Carries the request out where it is ready and the rule found is one of the n: sets or clears its fact.
 fn carry_out(ready: bool, found: usize, n: usize, q: Request, ledger: &mut [u8]) -> bool
     ensures { λ r. ⌜ (r ≡ ready && ltb found n) × (now (ledger .exit) ≡ cond r (after (now (ledger .entry)) q) (now (ledger .entry))) ⌝ }
 {

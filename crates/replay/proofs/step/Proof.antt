@@ -1,6 +1,6 @@
 -- `replay::step` meets its contract: a walk of its MIR, by hand. The requests are lent on to `is_due` and `request_at`; the rules and the juniors to `first_permitting`, to which the ledger is lent to read for a lifetime of the call, after which it is back as it was; then the ledger goes to `carry_out` at its own lifetime. All that the proof knows of the four is that each meets its contract.
 -- Assumes nothing.
-use mathlib.Core.Path.{_≡_, refl, sym, ap, _∙_, subst}
+use mathlib.Core.Path.{_≡_, refl, sym, ap, subst}
 use Prim.Native.Nat.{ℕ, _+_, _*_, _<_, _≤_, _^_}
 use mathlib.Core.Bool.{Bool, cond, _&&_}
 use mathlib.Core.List.{List, [], _∷_}
