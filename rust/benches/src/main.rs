@@ -1,0 +1,137 @@
+//! The library and the reference side by side.
+//!
+//! `benches compare ROOT PLAN REFERENCE` measures the repository's books and the growing series, prints the tables, and
+//! writes docs/PERFORMANCE.md and docs/performance.svg below ROOT; PLAN and REFERENCE are the two programs that plan a book
+//! on standard input. `benches child TASK BOOK LIST` is what it runs under callgrind.
+
+#![forbid(unsafe_code)]
+
+mod agree;
+mod callgrind;
+mod calls;
+mod job;
+mod measure;
+mod plot;
+mod report;
+mod series;
+mod table;
+
+use std::fs;
+use std::path::{Path, PathBuf};
+use std::process::ExitCode;
+
+use callgrind::Task;
+use job::{Buffers, Job, Operation, Side};
+use report::{MeasuredSeries, Results};
+use table::{Cost, Measured, Row};
+
+/// The books whose functions are listed: typical, maximal, the longest, the largest plan.
+const PROFILED: [&str; 4] = ["typical-m1-yes-1", "maximal-m1-yes", "read-65536", "maxplan-8448"];
+const START: &str = "trivial";
+
+fn main() -> ExitCode {
+    let arguments: Vec<String> = std::env::args().skip(1).collect();
+    let arguments: Vec<&str> = arguments.iter().map(String::as_str).collect();
+    let done = match arguments[..] {
+        ["compare", root, plan, reference] => compare(Path::new(root), Path::new(plan), Path::new(reference)),
+        ["child", task, book, list] => child(task, book, list),
+        _ => Err("benches compare ROOT PLAN REFERENCE, or benches child TASK BOOK LIST".to_owned()),
+    };
+    match done {
+        Ok(()) => ExitCode::SUCCESS,
+        Err(why) => {
+            eprintln!("error: {why}");
+            ExitCode::FAILURE
+        }
+    }
+}
+
+fn read(path: impl AsRef<Path>) -> Result<Vec<u8>, String> {
+    fs::read(&path).map_err(|why| format!("{}: {why}", path.as_ref().display()))
+}
+
+fn child(task: &str, book: &str, list: &str) -> Result<(), String> {
+    let task = [Task::All, Task::Plan].into_iter().find(|known| known.name() == task).ok_or("no such task")?;
+    let job = Job::with_list(read(book)?, read(list)?).map_err(|refusal| refusal.to_string())?;
+    callgrind::child(task, &job);
+    Ok(())
+}
+
+fn compare(root: &Path, plan: &Path, reference: &Path) -> Result<(), String> {
+    let data = root.join("crates/plan_books/data");
+    let trivial = data.join(format!("{START}.book"));
+    let results = Results {
+        processes: [callgrind::process(plan, &trivial)?, callgrind::process(reference, &trivial)?],
+        books: books(&data)?,
+        profiles: profiles(&data)?,
+        series: growing()?,
+    };
+    write(root, &results)
+}
+
+/// The stored books that are accepted, the trivial one first.
+fn books(data: &Path) -> Result<Vec<Measured>, String> {
+    let entries = fs::read_dir(data).map_err(|why| format!("{}: {why}", data.display()))?;
+    let mut paths: Vec<PathBuf> = entries.filter_map(|entry| entry.ok().map(|entry| entry.path())).collect();
+    paths.sort_by_key(|path| (path.file_stem().is_none_or(|stem| stem != START), path.clone()));
+    let mut books = Vec::new();
+    for path in paths {
+        let name = path.file_stem().unwrap_or_default().to_string_lossy().into_owned();
+        // A refused book has nothing to measure but its reading.
+        if let Ok(job) = Job::new(read(&path)?) {
+            books.push(measured(name, &job)?);
+        }
+    }
+    Ok(books)
+}
+
+fn profiles(data: &Path) -> Result<Vec<(String, callgrind::Profile)>, String> {
+    let profile = |name: &str| {
+        let job = Job::new(read(data.join(format!("{name}.book")))?).map_err(|refusal| refusal.to_string())?;
+        Ok((name.to_owned(), callgrind::profile(Task::Plan, &job)?))
+    };
+    PROFILED.into_iter().map(profile).collect()
+}
+
+fn growing() -> Result<Vec<MeasuredSeries>, String> {
+    let mut all = Vec::new();
+    for series in series::all() {
+        let mut points = Vec::new();
+        for (number, job) in &series.points {
+            points.push((*number, measured(format!("{} {number}", series.title), job)?));
+        }
+        all.push(MeasuredSeries { title: series.title, unit: series.unit, plotted: series.plotted, points });
+    }
+    Ok(all)
+}
+
+/// Sees that both agree on a job, times it and counts it.
+fn measured(name: String, job: &Job) -> Result<Measured, String> {
+    let found = agree::check(job).map_err(|why| format!("{name}: {why}"))?;
+    eprintln!("{name}: {found:?}");
+    let profile = callgrind::profile(Task::All, job)?;
+    let mut buffers = Buffers::new();
+    let mut rows = [Row::default(); 5];
+    for operation in Operation::ALL {
+        let micros = measure::micros(operation, job, &mut buffers);
+        for side in Side::ALL {
+            let instructions = profile.of(side, operation)? as f64 / job.calls(operation) as f64;
+            rows[operation as usize].0[side as usize] = Cost { instructions, micros: micros[side as usize] };
+        }
+    }
+    let cleared = Cost { instructions: profile.cleared()? as f64, micros: measure::cleared_micros(job, &mut buffers) };
+    Ok(Measured { name, rows, cleared })
+}
+
+/// Prints the tables, and writes them and the plot into the documents.
+fn write(root: &Path, results: &Results) -> Result<(), String> {
+    let path = root.join("docs/PERFORMANCE.md");
+    let mut document = String::from_utf8(read(&path)?).map_err(|why| why.to_string())?;
+    for (name, text) in results.parts() {
+        println!("{name}\n\n{text}");
+        document = report::replace(&document, name, &text)?;
+    }
+    let put = |path: &Path, text: &str| fs::write(path, text).map_err(|why| format!("{}: {why}", path.display()));
+    put(&path, &document)?;
+    put(&root.join("docs/performance.svg"), &results.plot())
+}
