@@ -14,16 +14,21 @@ use crate::job::{Buffers, Job, Operation, Side};
 pub enum Task {
     /// Every operation by every side, once.
     All,
-    /// The library's plan alone.
-    Plan,
+    /// One operation by the library.
+    One(Operation),
 }
 
 impl Task {
     pub fn name(self) -> &'static str {
         match self {
             Task::All => "all",
-            Task::Plan => "plan",
+            Task::One(operation) => operation.name(),
         }
+    }
+
+    /// The task of a name.
+    pub fn named(name: &str) -> Option<Self> {
+        Operation::ALL.into_iter().map(Task::One).chain([Task::All]).find(|task| task.name() == name)
     }
 }
 
@@ -131,8 +136,8 @@ pub fn child(task: Task, job: &Job) {
 /// The part of the child that is counted.
 #[inline(never)]
 fn measured(task: Task, job: &Job, buffers: &mut Buffers) {
-    if task == Task::Plan {
-        calls::call(Operation::Plan, Side::Ours, job, buffers);
+    if let Task::One(operation) = task {
+        calls::call(operation, Side::Ours, job, buffers);
         return;
     }
     for side in Side::ALL {

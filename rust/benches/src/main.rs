@@ -22,12 +22,34 @@ use std::process::ExitCode;
 
 use callgrind::Task;
 use job::{Buffers, Job, Operation, Side};
-use report::{MeasuredSeries, Results};
+use report::{MeasuredSeries, Profiled, Results};
 use table::{Cost, Measured, Row};
 
-/// The books whose functions are listed: typical, maximal, the longest, the largest plan.
-const PROFILED: [&str; 4] = ["typical-m1-yes-1", "maximal-m1-yes", "read-65536", "maxplan-8448"];
+/// The calls whose functions are listed.
+const PROFILED: [(Operation, &str); 14] = [
+    (Operation::Plan, TYPICAL),
+    (Operation::Plan, MAXIMAL),
+    (Operation::Plan, LONGEST),
+    (Operation::Plan, LARGEST_PLAN),
+    (Operation::Plan, "sweep-128"),
+    (Operation::Plan, "rounds-60x32"),
+    (Operation::Open, TYPICAL),
+    (Operation::Request, TYPICAL),
+    (Operation::Show, TYPICAL),
+    (Operation::Show, LARGEST_PLAN),
+    (Operation::Show, "rounds-15x32"),
+    (Operation::Replay, TYPICAL),
+    (Operation::Replay, MAXIMAL),
+    (Operation::Replay, LARGEST_PLAN),
+];
+const TYPICAL: &str = "typical-m1-yes-1";
+const MAXIMAL: &str = "maximal-m1-yes";
+const LONGEST: &str = "read-65536";
+const LARGEST_PLAN: &str = "maxplan-8448";
+/// The book whose cost is the start-up.
 const START: &str = "trivial";
+/// The books whose calls are listed whole.
+const LISTED: [&str; 4] = [TYPICAL, MAXIMAL, LONGEST, LARGEST_PLAN];
 
 fn main() -> ExitCode {
     let arguments: Vec<String> = std::env::args().skip(1).collect();
@@ -51,7 +73,7 @@ fn read(path: impl AsRef<Path>) -> Result<Vec<u8>, String> {
 }
 
 fn child(task: &str, book: &str, list: &str) -> Result<(), String> {
-    let task = [Task::All, Task::Plan].into_iter().find(|known| known.name() == task).ok_or("no such task")?;
+    let task = Task::named(task).ok_or("no such task")?;
     let job = Job::with_list(read(book)?, read(list)?).map_err(|refusal| refusal.to_string())?;
     callgrind::child(task, &job);
     Ok(())
@@ -65,6 +87,7 @@ fn compare(root: &Path, plan: &Path, reference: &Path) -> Result<(), String> {
         books: books(&data)?,
         profiles: profiles(&data)?,
         series: growing()?,
+        listed: &LISTED,
     };
     write(root, &results)
 }
@@ -73,7 +96,7 @@ fn compare(root: &Path, plan: &Path, reference: &Path) -> Result<(), String> {
 fn books(data: &Path) -> Result<Vec<Measured>, String> {
     let entries = fs::read_dir(data).map_err(|why| format!("{}: {why}", data.display()))?;
     let mut paths: Vec<PathBuf> = entries.filter_map(|entry| entry.ok().map(|entry| entry.path())).collect();
-    paths.sort_by_key(|path| (path.file_stem().is_none_or(|stem| stem != START), path.clone()));
+    paths.sort_by_key(|path| (report::rank(&path.file_stem().unwrap_or_default().to_string_lossy()), path.clone()));
     let mut books = Vec::new();
     for path in paths {
         let name = path.file_stem().unwrap_or_default().to_string_lossy().into_owned();
@@ -85,10 +108,10 @@ fn books(data: &Path) -> Result<Vec<Measured>, String> {
     Ok(books)
 }
 
-fn profiles(data: &Path) -> Result<Vec<(String, callgrind::Profile)>, String> {
-    let profile = |name: &str| {
-        let job = Job::new(read(data.join(format!("{name}.book")))?).map_err(|refusal| refusal.to_string())?;
-        Ok((name.to_owned(), callgrind::profile(Task::Plan, &job)?))
+fn profiles(data: &Path) -> Result<Vec<Profiled>, String> {
+    let profile = |(operation, book): (Operation, &'static str)| {
+        let job = Job::new(read(data.join(format!("{book}.book")))?).map_err(|refusal| refusal.to_string())?;
+        Ok(Profiled { operation, book, profile: callgrind::profile(Task::One(operation), &job)? })
     };
     PROFILED.into_iter().map(profile).collect()
 }
@@ -100,7 +123,7 @@ fn growing() -> Result<Vec<MeasuredSeries>, String> {
         for (number, job) in &series.points {
             points.push((*number, measured(format!("{} {number}", series.title), job)?));
         }
-        all.push(MeasuredSeries { title: series.title, unit: series.unit, plotted: series.plotted, points });
+        all.push(MeasuredSeries { title: series.title, plotted: series.plotted, points });
     }
     Ok(all)
 }

@@ -6,8 +6,8 @@ use crate::calls;
 use crate::job::{Buffers, Job, Operation, Side};
 
 /// For one operation, all sides together.
-const BUDGET: Duration = Duration::from_millis(60);
-const LEAST_ROUNDS: usize = 5;
+const BUDGET: Duration = Duration::from_millis(80);
+const LEAST_ROUNDS: usize = 15;
 const MOST_ROUNDS: usize = 3_000;
 
 /// The least time of one call by each side, in microseconds.

@@ -1,4 +1,4 @@
-//! The plot: for each series the ratio, ours by the reference's, net of start-up, on a scale of powers of two.
+//! The plot: for each series the ratio, ours by the reference's, on a scale of powers of two.
 
 use std::fmt::Write as _;
 
@@ -10,20 +10,24 @@ pub struct Line {
 
 /// One series.
 pub struct Panel {
-    pub title: String,
-    pub unit: &'static str,
+    pub title: &'static str,
     pub numbers: Vec<usize>,
     pub lines: Vec<Line>,
 }
 
-const WIDTH: f64 = 960.0;
-const COLUMNS: usize = 3;
-const CELL: (f64, f64) = (310.0, 270.0);
-const LEFT: f64 = 20.0;
-const TOP: f64 = 92.0;
-/// Of a panel's axes within its cell.
-const INNER: (f64, f64) = (250.0, 180.0);
-const AXES: (f64, f64) = (44.0, 28.0);
+const COLUMNS: usize = 4;
+/// A panel with its margins.
+const CELL: (f64, f64) = (310.0, 216.0);
+/// A panel's axes.
+const INNER: (f64, f64) = (250.0, 160.0);
+/// Where they begin in the cell.
+const AXES: (f64, f64) = (46.0, 12.0);
+const LEFT: f64 = 12.0;
+const WIDTH: f64 = LEFT + CELL.0 * COLUMNS as f64;
+/// The title and the legend.
+const TOP: f64 = 84.0;
+/// A section's heading.
+const HEADING: f64 = 30.0;
 const AIM: f64 = 4.0;
 const TEXT: &str = "#222222";
 const GRID: &str = "#DDDDDD";
@@ -41,27 +45,39 @@ fn style(name: &str) -> (&'static str, &'static str) {
     STYLES.iter().find(|style| style.0 == name).map_or((TEXT, "none"), |style| (style.1, style.2))
 }
 
-/// The powers of two that all ratios lie between.
+/// The powers of two that all ratios of a section lie between.
 fn range(panels: &[Panel]) -> (i32, i32) {
     let ratios = panels.iter().flat_map(|panel| &panel.lines).flat_map(|line| &line.ratios).flatten();
     let (low, high) = ratios.fold((1.0_f64, AIM), |(low, high), &ratio| (low.min(ratio), high.max(ratio)));
     (low.max(1.0 / 64.0).log2().floor() as i32, high.log2().ceil() as i32)
 }
 
-/// The whole drawing.
-pub fn svg(title: &str, panels: &[Panel]) -> String {
-    let rows = panels.len().div_ceil(COLUMNS);
-    let height = TOP + CELL.1 * rows as f64;
+/// The whole drawing: sections of panels, each section with its heading.
+pub fn svg(title: &str, sections: &[(&str, Vec<Panel>)]) -> String {
+    let tall = |panels: &[Panel]| HEADING + CELL.1 * panels.len().div_ceil(COLUMNS) as f64;
+    let height = TOP + sections.iter().map(|(_, panels)| tall(panels)).sum::<f64>();
     let mut out = format!(
         "<svg xmlns=\"http://www.w3.org/2000/svg\" viewBox=\"0 0 {WIDTH} {height}\" width=\"{WIDTH}\" height=\"{height}\" \
          font-family=\"sans-serif\" font-size=\"12\" fill=\"{TEXT}\">\n\
          <rect width=\"{WIDTH}\" height=\"{height}\" fill=\"#FFFFFF\"/>\n"
     );
-    out += &text(LEFT, 28.0, "start", 16, title);
+    out += &text(LEFT, 28.0, "start", 17, title);
     out += &legend();
+    let mut top = TOP;
+    for (heading, panels) in sections {
+        out += &text(LEFT, top + 20.0, "start", 15, heading);
+        out += &section(panels, top + HEADING);
+        top += tall(panels);
+    }
+    out + "</svg>\n"
+}
+
+fn section(panels: &[Panel], top: f64) -> String {
+    let mut out = String::new();
     let range = range(panels);
     for (k, panel) in panels.iter().enumerate() {
-        let at = (LEFT + CELL.0 * (k % COLUMNS) as f64, TOP + CELL.1 * (k / COLUMNS) as f64);
+        let at = (LEFT + CELL.0 * (k % COLUMNS) as f64, top + CELL.1 * (k / COLUMNS) as f64);
+        // Writing to a string does not fail.
         let _ = writeln!(out, "<g transform=\"translate({:.1} {:.1})\">", at.0 + AXES.0, at.1 + AXES.1);
         out += &axes(panel, range);
         for line in &panel.lines {
@@ -69,7 +85,7 @@ pub fn svg(title: &str, panels: &[Panel]) -> String {
         }
         out += "</g>\n";
     }
-    out + "</svg>\n"
+    out
 }
 
 fn legend() -> String {
@@ -95,7 +111,7 @@ fn place_of(k: usize, points: usize) -> f64 {
 }
 
 fn axes(panel: &Panel, range: (i32, i32)) -> String {
-    let mut out = text(0.0, -10.0, "start", 13, &panel.title);
+    let mut out = String::new();
     let step = ((range.1 - range.0) / 8 + 1) as usize;
     for power in (range.0..=range.1).step_by(step) {
         let y = height_of(2.0_f64.powi(power), range);
@@ -112,7 +128,7 @@ fn axes(panel: &Panel, range: (i32, i32)) -> String {
         out += &stroke((x, INNER.1), (x, INNER.1 + 4.0), TEXT, "none", 1.0);
         out += &text(x, INNER.1 + 17.0, "middle", 11, &number.to_string());
     }
-    out + &text(INNER.0 / 2.0, INNER.1 + 34.0, "middle", 12, panel.unit)
+    out + &text(INNER.0 / 2.0, INNER.1 + 34.0, "middle", 12, panel.title)
 }
 
 fn curve(line: &Line, points: usize, range: (i32, i32)) -> String {
@@ -154,12 +170,12 @@ mod tests {
     fn panels() -> Vec<Panel> {
         let line = |name, ratios| Line { name, ratios };
         let lines = vec![line("open", vec![Some(0.5), Some(3.0)]), line("plan", vec![None, Some(900.0)])];
-        vec![Panel { title: "a < b & c".into(), unit: "rules", numbers: vec![32, 64], lines }]
+        vec![Panel { title: "a < b & c", numbers: vec![32, 64], lines }]
     }
 
     #[test]
     fn elements_are_closed_and_words_escaped() {
-        let drawing = svg("title", &panels());
+        let drawing = svg("title", &[("one", panels()), ("two", panels())]);
         assert!(drawing.starts_with("<svg ") && drawing.ends_with("</svg>\n"));
         assert!(drawing.contains("a &lt; b &amp; c"));
         for line in drawing.lines().filter(|line| line.starts_with("<text")) {

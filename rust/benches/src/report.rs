@@ -17,15 +17,30 @@ pub struct Results {
     /// The stored books, the trivial one first.
     pub books: Vec<Measured>,
     pub series: Vec<MeasuredSeries>,
-    /// The library's plan on some books.
-    pub profiles: Vec<(String, Profile)>,
+    /// Calls of the library whose functions are listed.
+    pub profiles: Vec<Profiled>,
+    /// The books whose calls are listed whole.
+    pub listed: &'static [&'static str],
     /// The whole processes on the trivial book: the program `plan`, then the reference's.
     pub processes: [u64; 2],
 }
 
+/// A call of the library by its functions.
+pub struct Profiled {
+    pub operation: Operation,
+    pub book: &'static str,
+    pub profile: Profile,
+}
+
+impl Profiled {
+    /// The instructions within a function itself, in percent of the call's.
+    fn share(&self, function: &str) -> f64 {
+        100.0 * self.profile.own.get(function).copied().unwrap_or(0) as f64 / self.profile.total() as f64
+    }
+}
+
 pub struct MeasuredSeries {
     pub title: &'static str,
-    pub unit: &'static str,
     pub plotted: &'static [Operation],
     pub points: Vec<(usize, Measured)>,
 }
@@ -43,12 +58,13 @@ impl Results {
     pub fn parts(&self) -> Vec<(&'static str, String)> {
         vec![
             ("start-up", self.start_up()),
-            ("net", self.ratios(|measured, operation| self.net(measured, operation))),
-            ("whole", self.ratios(|measured, operation| Some(measured.row(operation).whole()))),
+            ("net", self.ratios(false, |measured, operation| self.net(measured, operation))),
+            ("whole", self.ratios(true, |measured, operation| Some(measured.row(operation).whole()))),
             ("calls", self.calls()),
             ("series", self.growing()),
             ("aim", self.aim()),
-            ("functions", self.functions()),
+            ("functions", self.functions(|call| call.operation == Operation::Plan)),
+            ("other functions", self.functions(|call| call.operation != Operation::Plan)),
         ]
     }
 
@@ -86,29 +102,33 @@ impl Results {
         markdown(&head, &rows)
     }
 
-    /// A table of the stored books; those of a few lines are one row, from the least to the largest ratio.
-    fn ratios(&self, ratio: impl Fn(&Measured, Operation) -> Option<Ratio>) -> String {
+    /// A table of the stored books. Those of a few lines, if asked for, are one row with their largest ratios.
+    fn ratios(&self, small: bool, ratio: impl Fn(&Measured, Operation) -> Option<Ratio>) -> String {
         let cell = |ratio: Option<Ratio>| ratio.map_or("-".to_owned(), Ratio::cell);
-        let (small, large): (Vec<&Measured>, Vec<&Measured>) = self.books.iter().partition(|book| is_small(&book.name));
-        let mut rows = vec![[format!("{} books of a few lines", small.len())]
-            .into_iter()
-            .chain(Operation::ALL.map(|operation| {
-                let ratios = small.iter().filter_map(|book| ratio(book, operation));
+        let named = |name: String, cells: [String; 5]| [name].into_iter().chain(cells).collect::<Vec<String>>();
+        let mut rows = Vec::new();
+        let few = || self.books.iter().filter(|book| is_small(&book.name));
+        if small {
+            let largest = Operation::ALL.map(|operation| {
+                let ratios = few().filter_map(|book| ratio(book, operation));
                 cell(ratios.max_by(|a, b| a.instructions.total_cmp(&b.instructions)))
-            }))
-            .collect::<Vec<String>>()];
-        for book in large {
-            let cells = Operation::ALL.map(|operation| cell(ratio(book, operation)));
-            rows.push([book.name.clone()].into_iter().chain(cells).collect());
+            });
+            rows.push(named(format!("the largest of {} books of a few lines", few().count()), largest));
+        }
+        for book in self.large() {
+            rows.push(named(book.name.clone(), Operation::ALL.map(|operation| cell(ratio(book, operation)))));
         }
         markdown(&["book", "open", "request", "show", "replay", "plan"], &rows)
     }
 
+    fn large(&self) -> impl Iterator<Item = &Measured> {
+        self.books.iter().filter(|book| !is_small(&book.name))
+    }
+
     /// The whole calls of the books whose functions are listed.
     fn calls(&self) -> String {
-        let named = |book: &&Measured| self.profiles.iter().any(|(name, _)| *name == book.name);
         let mut rows = Vec::new();
-        for book in self.books.iter().filter(named) {
+        for book in self.books.iter().filter(|book| self.listed.contains(&book.name.as_str())) {
             for operation in Operation::ALL {
                 let row = book.row(operation);
                 let [ours, theirs, kept] = Side::ALL.map(|side| row.of(side));
@@ -151,7 +171,7 @@ impl Results {
                     let plotted = series.plotted.contains(&operation);
                     self.net(measured, operation).filter(|_| plotted).map_or("-".to_owned(), Ratio::cell)
                 });
-                let name = format!("{}: {} {}", series.title, thousands(*number as f64), series.unit);
+                let name = format!("{}: {}", series.title, thousands(*number as f64));
                 rows.push([name].into_iter().chain(cells).collect());
             }
         }
@@ -164,7 +184,7 @@ impl Results {
         for (measure, of) in [("instructions", instructions as fn(Ratio) -> f64), ("time", time)] {
             let nets = || {
                 let each = |book| Operation::ALL.map(|operation| (book, operation, self.net(book, operation)));
-                self.books.iter().flat_map(each).filter_map(|(book, op, net)| net.map(|net| (book, op, of(net))))
+                self.large().flat_map(each).filter_map(|(book, op, net)| net.map(|net| (book, op, of(net))))
             };
             let mut over: Vec<_> = nets().filter(|&(.., net)| net > AIM).collect();
             over.sort_by(|a, b| b.2.total_cmp(&a.2));
@@ -177,44 +197,46 @@ impl Results {
         text.trim_end().to_owned() + "\n"
     }
 
-    fn functions(&self) -> String {
-        let share = |profile: &Profile, name: &str| {
-            100.0 * profile.own.get(name).copied().unwrap_or(0) as f64 / profile.total() as f64
-        };
-        let all: BTreeSet<&String> = self.profiles.iter().flat_map(|(_, profile)| profile.own.keys()).collect();
-        let shares = |name: &str| self.profiles.iter().map(|(_, profile)| share(profile, name)).collect::<Vec<f64>>();
-        let mut listed: Vec<(&String, Vec<f64>)> = all.into_iter().map(|name| (name, shares(name))).collect();
+    /// The functions of some calls with their shares.
+    fn functions(&self, wanted: impl Fn(&Profiled) -> bool) -> String {
+        let calls: Vec<&Profiled> = self.profiles.iter().filter(|call| wanted(call)).collect();
+        let names: BTreeSet<&String> = calls.iter().flat_map(|call| call.profile.own.keys()).collect();
+        let shares = |name| calls.iter().map(|call| call.share(name)).collect::<Vec<f64>>();
+        let mut listed: Vec<(&String, Vec<f64>)> = names.into_iter().map(|name| (name, shares(name))).collect();
         listed.retain(|(_, shares)| shares.iter().any(|&share| share >= LISTED));
         listed.sort_by(|a, b| b.1.iter().sum::<f64>().total_cmp(&a.1.iter().sum()));
-        let mut rows: Vec<Vec<String>> = listed
-            .iter()
-            .map(|(name, shares)| {
-                let cells = shares.iter().map(|share| format!("{share:.1}"));
-                [format!("`{name}`")].into_iter().chain(cells).collect()
-            })
-            .collect();
-        let totals = self.profiles.iter().map(|(_, profile)| thousands(profile.total() as f64));
-        rows.push(["instructions of the call".to_owned()].into_iter().chain(totals).collect());
-        let names = self.profiles.iter().map(|(name, _)| name.as_str());
-        markdown(&["percent of plan, in the function itself"].into_iter().chain(names).collect::<Vec<_>>(), &rows)
+        let mut rows: Vec<Vec<String>> = Vec::new();
+        for (name, shares) in listed {
+            let cells = shares.iter().map(|share| format!("{share:.1}"));
+            rows.push([format!("`{name}`")].into_iter().chain(cells).collect());
+        }
+        let totals = calls.iter().map(|call| thousands(call.profile.total() as f64));
+        rows.push(["instructions".to_owned()].into_iter().chain(totals).collect());
+        let heads: Vec<String> = calls.iter().map(|call| format!("{} {}", call.operation.name(), call.book)).collect();
+        markdown(&["percent"].into_iter().chain(heads.iter().map(String::as_str)).collect::<Vec<_>>(), &rows)
     }
 
-    /// The plot of the series, by instructions.
+    /// The plot of the series.
     pub fn plot(&self) -> String {
+        plot::svg(
+            "The library's cost as a multiple of the reference's, each net of its start-up",
+            &[("By instructions", self.panels(instructions)), ("By wall time", self.panels(time))],
+        )
+    }
+
+    fn panels(&self, of: fn(Ratio) -> f64) -> Vec<Panel> {
         let panel = |series: &MeasuredSeries| {
             let line = |&operation: &Operation| Line {
                 name: operation.name(),
-                ratios: series.points.iter().map(|(_, m)| self.net(m, operation).map(instructions)).collect(),
+                ratios: series.points.iter().map(|(_, m)| self.net(m, operation).map(of)).collect(),
             };
             Panel {
-                title: series.title.to_owned(),
-                unit: series.unit,
+                title: series.title,
                 numbers: series.points.iter().map(|&(number, _)| number).collect(),
                 lines: series.plotted.iter().map(line).collect(),
             }
         };
-        let panels: Vec<Panel> = self.series.iter().map(panel).collect();
-        plot::svg("Instructions of the library by those of the reference, net of start-up", &panels)
+        self.series.iter().map(panel).collect()
     }
 }
 
@@ -226,11 +248,20 @@ fn time(ratio: Ratio) -> f64 {
     ratio.time
 }
 
-/// The books of a few lines: the examples D1 to D12, the pilot depot and the trivial book.
+/// The larger books in the order of the tables, by how their names begin.
+const LARGE: [&str; 8] = ["typical", "maximal", "dense", "read", "maxplan", "sweep", "rounds", "curve"];
+
+/// Whether a book is one of a few lines: the examples D1 to D12, the pilot depot, the trivial book.
 fn is_small(name: &str) -> bool {
-    name == "trivial"
-        || name.starts_with("pilot")
-        || name.strip_prefix('d').is_some_and(|rest| rest.starts_with(char::is_numeric))
+    !LARGE.iter().any(|start| name.starts_with(start))
+}
+
+/// A book's place among the others: the trivial one, the others of a few lines, the larger ones.
+pub fn rank(name: &str) -> usize {
+    match LARGE.iter().position(|start| name.starts_with(start)) {
+        Some(place) => place + 2,
+        None => usize::from(name != "trivial"),
+    }
 }
 
 /// Puts a text between `<!-- measured: NAME -->` and the next `<!-- end -->`.

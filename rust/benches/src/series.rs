@@ -72,9 +72,7 @@ impl Ladder {
     /// The book's characters.
     pub fn text(&self) -> Vec<u8> {
         let mut text = format!("01{:02X}{:02X}{:02X}{:02X}\n", self.persons, self.crews, self.attrs, self.values);
-        for (senior, junior) in self.edges.list() {
-            text += &format!("02{senior:02X}{junior:02X}\n");
-        }
+        text += &edges(self.edges);
         let mut rules: Vec<String> = (0..self.rungs()).flat_map(|k| self.rules(k)).collect();
         if self.falling {
             rules.reverse();
@@ -118,11 +116,37 @@ impl Ladder {
     }
 }
 
+/// A book whose planner loses two facts of a crew in each of so many rounds, at most 60, on each of 32 crews.
+///
+/// Of a crew, the values of attributes 0 to 3 must go again, those of 4 to 7 may stay. Each of the first is added after one
+/// of the second and the other way round; deleting one of the first needs the next of the second. The last of the first has
+/// no deletion, so it may never be added, nor what rests on it, and then the one before it cannot be deleted.
+fn rounds(count: u8) -> Vec<u8> {
+    let first = |k: u8| format!("{:02X}{:02X}", k / 16, k % 16);
+    let second = |k: u8| format!("{:02X}{:02X}", 4 + k / 16, k % 16);
+    let mut text = "0101200810\n".to_owned() + &edges(Edges::Chain(31));
+    for k in (0..count).rev() {
+        text += &format!("030300{}0101{}\n", second(k), first(k));
+        text += &match k.checked_sub(1) {
+            Some(before) => format!("030300{}0101{}\n", first(k), second(before)),
+            None => format!("030300{}00\n", first(k)),
+        };
+    }
+    for k in (0..count - 1).rev() {
+        text += &format!("030400{}0101{}\n", first(k), second(k + 1));
+    }
+    text += "0403001F00\n030100030F00\n05020000010400000001000002000003800080000000\n";
+    text.into_bytes()
+}
+
+fn edges(edges: Edges) -> String {
+    edges.list().into_iter().map(|(senior, junior)| format!("02{senior:02X}{junior:02X}\n")).collect()
+}
+
 /// Books that grow in one number.
 pub struct Series {
-    pub title: &'static str,
     /// What its number counts.
-    pub unit: &'static str,
+    pub title: &'static str,
     /// The operations worth plotting.
     pub plotted: &'static [Operation],
     pub points: Vec<(usize, Job)>,
@@ -159,6 +183,10 @@ fn with_climbs(requests: usize) -> Job {
     Job::with_list(MIDDLE.text(), MIDDLE.climbs(requests)).expect("a ladder is accepted")
 }
 
+fn with_rounds(count: u8) -> Job {
+    Job::new(rounds(count)).expect("the book is accepted")
+}
+
 fn points<N: Copy>(numbers: &[N], number: impl Fn(N) -> usize, job: impl Fn(N) -> Job) -> Vec<(usize, Job)> {
     numbers.iter().map(|&n| (number(n), job(n))).collect()
 }
@@ -167,25 +195,17 @@ fn points<N: Copy>(numbers: &[N], number: impl Fn(N) -> usize, job: impl Fn(N) -
 pub fn all() -> Vec<Series> {
     const RULES: [usize; 5] = [32, 64, 128, 256, 512];
     const ALL: &[Operation] = &Operation::ALL;
-    let series = |title, unit, plotted, points| Series { title, unit, plotted, points };
+    let series = |title, plotted, points| Series { title, plotted, points };
+    let pairs = |n: u8| usize::from(n) * usize::from(n - 1) / 2;
     vec![
-        series("rules", "rules", ALL, points(&RULES, |n| n, |n| with_rules(n, false))),
-        series("rules, falling", "rules", ALL, points(&RULES, |n| n, |n| with_rules(n, true))),
-        series("crews", "crews", ALL, points(&[1, 2, 4, 8, 16, 32], usize::from, with_crews)),
-        series("levels, chain", "edges", ALL, points(&[1, 3, 7, 15, 31], usize::from, |n| with_edges(Edges::Chain(n)))),
-        series(
-            "levels, dense",
-            "edges",
-            ALL,
-            points(&[2_u8, 4, 8, 16, 32], |n| usize::from(n) * usize::from(n - 1) / 2, |n| with_edges(Edges::Dense(n))),
-        ),
-        series("values", "values", ALL, points(&[1, 2, 4, 8, 16, 32, 64, 128], |n| n, with_values)),
-        series(
-            "replayed",
-            "requests",
-            &[Operation::Replay],
-            points(&[32, 64, 128, 256, 512, 1_024, 2_048, 4_096, 8_192], |n| n, with_climbs),
-        ),
+        series("rules, each after those it needs", ALL, points(&RULES, |n| n, |n| with_rules(n, false))),
+        series("rules, each before those it needs", ALL, points(&RULES, |n| n, |n| with_rules(n, true))),
+        series("crews in a chain", ALL, points(&[1, 2, 4, 8, 16, 32], usize::from, with_crews)),
+        series("edges of a chain", ALL, points(&[1, 3, 7, 15, 31], usize::from, |n| with_edges(Edges::Chain(n)))),
+        series("edges, dense", ALL, points(&[2, 4, 8, 16, 32], pairs, |n| with_edges(Edges::Dense(n)))),
+        series("values of 32 crews", ALL, points(&[1, 2, 4, 8, 16, 32, 64, 128], |n| n, with_values)),
+        series("requests replayed", &[Operation::Replay], points(&[32, 128, 512, 2_048, 8_192], |n| n, with_climbs)),
+        series("rounds of each level", ALL, points(&[4, 8, 15, 30, 60], usize::from, with_rounds)),
     ]
 }
 
