@@ -49,9 +49,9 @@ impl Profile {
         let (mut function, mut callee, mut call) = (String::new(), String::new(), false);
         for line in text.lines() {
             if let Some(name) = line.strip_prefix("fn=") {
-                function = name.to_owned();
+                function = plain(name);
             } else if let Some(name) = line.strip_prefix("cfn=") {
-                callee = name.to_owned();
+                callee = plain(name);
             } else if line.starts_with("calls=") {
                 call = true;
             } else if let Some(cost) = cost(line) {
@@ -72,8 +72,8 @@ impl Profile {
         self.calls_of(side.module(), operation.name())
     }
 
-    /// The instructions of planning with the buffer cleared first.
-    pub fn cleared(&self) -> Result<u64, String> {
+    /// The instructions of the library's plan with the caller's buffer cleared first.
+    pub fn cleared_plan(&self) -> Result<u64, String> {
         self.calls_of(Side::Ours.module(), "cleared_plan")
     }
 
@@ -81,6 +81,14 @@ impl Profile {
         let name = format!("benches::calls::{module}::{function}");
         self.called.get(&name).copied().ok_or(format!("callgrind has no calls of {name}"))
     }
+}
+
+/// A function's name without callgrind's mark of a call within itself, and the C library's copying and clearing without
+/// the processor that they are for.
+fn plain(name: &str) -> String {
+    let name = name.split('\'').next().unwrap_or(name);
+    let known = [("__memset", "memset"), ("__memcpy", "memcpy"), ("__memmove", "memcpy")];
+    known.iter().find(|(start, _)| name.starts_with(start)).map_or(name, |(_, plain)| plain).to_owned()
 }
 
 /// The cost in a line of a position and a cost.
@@ -178,6 +186,14 @@ impl Drop for Scratch {
 #[cfg(test)]
 mod tests {
     use super::*;
+
+    #[test]
+    fn plain_names() {
+        assert_eq!(
+            ["inherit::crew_tried'2", "__memset_avx2", "main"].map(plain),
+            ["inherit::crew_tried", "memset", "main"]
+        );
+    }
 
     #[test]
     fn own_cost_and_cost_of_calls() {

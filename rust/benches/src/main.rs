@@ -26,7 +26,8 @@ use report::{MeasuredSeries, Profiled, Results};
 use table::{Cost, Measured, Row};
 
 /// The calls whose functions are listed.
-const PROFILED: [(Operation, &str); 14] = [
+const PROFILED: [(Operation, &str); 15] = [
+    (Operation::Plan, START),
     (Operation::Plan, TYPICAL),
     (Operation::Plan, MAXIMAL),
     (Operation::Plan, LONGEST),
@@ -84,12 +85,21 @@ fn compare(root: &Path, plan: &Path, reference: &Path) -> Result<(), String> {
     let trivial = data.join(format!("{START}.book"));
     let results = Results {
         processes: [callgrind::process(plan, &trivial)?, callgrind::process(reference, &trivial)?],
+        clearing: clearing(read(&trivial)?)?,
         books: books(&data)?,
         profiles: profiles(&data)?,
         series: growing()?,
         listed: &LISTED,
     };
     write(root, &results)
+}
+
+/// What clearing the caller's buffer first adds to the library's plan of a book.
+fn clearing(text: Vec<u8>) -> Result<Cost, String> {
+    let job = Job::new(text).map_err(|refusal| refusal.to_string())?;
+    let profile = callgrind::profile(Task::All, &job)?;
+    let more = profile.cleared_plan()? as f64 - profile.of(Side::Ours, Operation::Plan)? as f64;
+    Ok(Cost { instructions: more, micros: measure::clearing_micros(&job, &mut Buffers::new()) })
 }
 
 /// The stored books that are accepted, the trivial one first.
@@ -142,8 +152,7 @@ fn measured(name: String, job: &Job) -> Result<Measured, String> {
             rows[operation as usize].0[side as usize] = Cost { instructions, micros: micros[side as usize] };
         }
     }
-    let cleared = Cost { instructions: profile.cleared()? as f64, micros: measure::cleared_micros(job, &mut buffers) };
-    Ok(Measured { name, rows, cleared })
+    Ok(Measured { name, rows })
 }
 
 /// Prints the tables, and writes them and the plot into the documents.

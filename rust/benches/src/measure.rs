@@ -6,9 +6,9 @@ use crate::calls;
 use crate::job::{Buffers, Job, Operation, Side};
 
 /// For one operation, all sides together.
-const BUDGET: Duration = Duration::from_millis(80);
-const LEAST_ROUNDS: usize = 15;
-const MOST_ROUNDS: usize = 3_000;
+const BUDGET: Duration = Duration::from_millis(150);
+const LEAST_ROUNDS: usize = 30;
+const MOST_ROUNDS: usize = 20_000;
 
 /// The least time of one call by each side, in microseconds.
 pub fn micros(operation: Operation, job: &Job, buffers: &mut Buffers) -> [f64; 3] {
@@ -21,11 +21,14 @@ pub fn micros(operation: Operation, job: &Job, buffers: &mut Buffers) -> [f64; 3
     least.map(|time| time.as_secs_f64() * 1e6 / job.calls(operation) as f64)
 }
 
-/// The least time of planning with the caller's buffer cleared first, in microseconds.
-pub fn cleared_micros(job: &Job, buffers: &mut Buffers) -> f64 {
-    let mut least = Duration::MAX;
-    rounds(|| least = timed(|| calls::cleared(job, buffers)).min(least));
-    least.as_secs_f64() * 1e6
+/// What clearing the caller's buffer first adds to the least time of the library's plan, in microseconds.
+pub fn clearing_micros(job: &Job, buffers: &mut Buffers) -> f64 {
+    let (mut plain, mut cleared) = (Duration::MAX, Duration::MAX);
+    rounds(|| {
+        plain = timed(|| calls::call(Operation::Plan, Side::Ours, job, buffers)).min(plain);
+        cleared = timed(|| calls::cleared(job, buffers)).min(cleared);
+    });
+    (cleared.as_secs_f64() - plain.as_secs_f64()) * 1e6
 }
 
 fn timed(call: impl FnOnce()) -> Duration {

@@ -112,8 +112,8 @@ fn place_of(k: usize, points: usize) -> f64 {
 
 fn axes(panel: &Panel, range: (i32, i32)) -> String {
     let mut out = String::new();
-    let step = ((range.1 - range.0) / 8 + 1) as usize;
-    for power in (range.0..=range.1).step_by(step) {
+    let step = (range.1 - range.0) / 8 + 1;
+    for power in (range.0..=range.1).filter(|power| power.rem_euclid(step) == 0) {
         let y = height_of(2.0_f64.powi(power), range);
         out += &stroke((0.0, y), (INNER.0, y), GRID, "none", 1.0);
         let label = if power < 0 { format!("1/{}", 1 << -power) } else { (1_u64 << power).to_string() };

@@ -5,7 +5,7 @@ use std::collections::BTreeSet;
 use crate::callgrind::Profile;
 use crate::job::{Operation, Side};
 use crate::plot::{self, Line, Panel};
-use crate::table::{markdown, short, thousands, Measured, Ratio, Row};
+use crate::table::{markdown, short, thousands, Cost, Measured, Ratio, Row};
 
 /// The ratio that is aimed at.
 const AIM: f64 = 4.0;
@@ -21,6 +21,8 @@ pub struct Results {
     pub profiles: Vec<Profiled>,
     /// The books whose calls are listed whole.
     pub listed: &'static [&'static str],
+    /// What clearing the caller's buffer first adds to the library's plan of the trivial book.
+    pub clearing: Cost,
     /// The whole processes on the trivial book: the program `plan`, then the reference's.
     pub processes: [u64; 2],
 }
@@ -84,18 +86,20 @@ impl Results {
             ]
         };
         let mut rows: Vec<Vec<String>> = Operation::ALL.into_iter().map(row).collect();
-        let (cleared, theirs) = (self.books[0].cleared, self.start(Operation::Plan).of(Side::Reference));
-        rows.push(vec![
-            "plan, the caller's buffer cleared first".to_owned(),
-            thousands(cleared.instructions),
-            thousands(theirs.instructions),
-            short(cleared.instructions / theirs.instructions),
-            format!("{:.2}", cleared.micros),
-            format!("{:.2}", theirs.micros),
-            short(cleared.micros / theirs.micros),
-        ]);
+        let Cost { instructions, micros } = self.clearing;
+        let clearing = [
+            "clearing the caller's plan buffer adds",
+            &thousands(instructions),
+            "",
+            "",
+            &format!("{micros:.2}"),
+            "",
+            "",
+        ];
+        rows.push(clearing.map(str::to_owned).to_vec());
         let [ours, theirs] = self.processes.map(|count| count as f64);
-        let process = ["process that plans", &thousands(ours), &thousands(theirs), &short(ours / theirs), "", "", ""];
+        let process =
+            ["the whole process that plans", &thousands(ours), &thousands(theirs), &short(ours / theirs), "", "", ""];
         rows.push(process.map(str::to_owned).to_vec());
         let head =
             ["the trivial book", "ours, instr.", "reference", "ratio", "ours, µs", "reference, µs", "ratio of time"];
@@ -189,7 +193,10 @@ impl Results {
             let mut over: Vec<_> = nets().filter(|&(.., net)| net > AIM).collect();
             over.sort_by(|a, b| b.2.total_cmp(&a.2));
             let all = nets().count();
-            text += &format!("By {measure}, {} of {all} are within {AIM} times.", all - over.len());
+            text += &format!(
+                "By {measure}, {} of the {all} ratios of the larger stored books are within {AIM} times.",
+                all - over.len()
+            );
             let list = over.iter().map(|(book, op, net)| format!("{} {} {}", book.name, op.name(), short(*net)));
             let list: Vec<String> = list.collect();
             text += &if list.is_empty() { "\n\n".to_owned() } else { format!(" Over: {}.\n\n", list.join(", ")) };

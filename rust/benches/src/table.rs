@@ -64,8 +64,6 @@ impl Row {
 pub struct Measured {
     pub name: String,
     pub rows: [Row; 5],
-    /// Planning with the caller's buffer cleared first.
-    pub cleared: Cost,
 }
 
 impl Measured {
