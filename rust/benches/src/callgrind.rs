@@ -118,8 +118,11 @@ pub fn process(program: &Path, book: &Path) -> Result<u64, String> {
     Ok(scratch.profile()?.total())
 }
 
+/// Callgrind with no environment but the search path: what stands there would move the stack, and copying takes a few
+/// instructions more or less by where things lie.
 fn valgrind(out: &Path) -> Command {
     let mut command = Command::new("valgrind");
+    command.env_clear().env("PATH", env::var_os("PATH").unwrap_or_default());
     command.args(["--tool=callgrind", "--compress-strings=no", "--compress-pos=no", "-q"]);
     command.arg(format!("--callgrind-out-file={}", out.display())).stdout(Stdio::null());
     command
@@ -161,7 +164,7 @@ struct Scratch(PathBuf);
 
 impl Scratch {
     fn new() -> Result<Self, String> {
-        let path = env::temp_dir().join(format!("benches-{}", process::id()));
+        let path = env::temp_dir().join(format!("benches-{:010}", process::id()));
         fs::create_dir_all(&path).map_err(|why| format!("{}: {why}", path.display()))?;
         Ok(Scratch(path))
     }
