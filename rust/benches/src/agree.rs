@@ -1,0 +1,85 @@
+//! Both implementations give the same answer to everything that is measured; only the choice of a plan is left open.
+
+use bixorgun::bytes::{self, Planned};
+use bixorgun::{Attr, Judgement, Person, LEDGER_SIZE, PLAN_MAX, REQUEST_SIZE};
+use reference::plan::Answer;
+use reference::replay::Verdict;
+use reference::{ledger, plan, replay};
+
+use crate::job::Job;
+
+/// What the planner answered.
+#[derive(Clone, Copy, Debug, PartialEq, Eq)]
+pub enum Found {
+    NoWay,
+    /// The counts of requests: ours, then the reference's.
+    Plans(usize, usize),
+}
+
+/// Runs the five operations of a job by both.
+pub fn check(job: &Job) -> Result<Found, String> {
+    open(job)?;
+    requests(job)?;
+    show(job)?;
+    let _ = judged(job, &job.list)?;
+    plans(job)
+}
+
+fn same<T: PartialEq + std::fmt::Debug>(what: &str, ours: T, theirs: T) -> Result<(), String> {
+    (ours == theirs).then_some(()).ok_or_else(|| format!("{what}: ours {ours:?}, the reference's {theirs:?}"))
+}
+
+fn open(job: &Job) -> Result<(), String> {
+    let (mut ours, mut theirs) = ([0x55; LEDGER_SIZE], [0xAA; LEDGER_SIZE]);
+    let answer = bytes::open(&job.text, &mut ours).map_err(|refusal| refusal.number());
+    same("open", answer, ledger::open(&job.text, &mut theirs).map_err(|refusal| refusal.number()))?;
+    same("open's ledger", ours, theirs)
+}
+
+fn requests(job: &Job) -> Result<(), String> {
+    let (mut ours, mut theirs) = (job.after, job.after);
+    for request in &job.run {
+        let answer = bytes::request(&job.text, &mut ours, request).map_err(|refusal| refusal.number());
+        let reference = ledger::request(&job.text, &mut theirs, request).map_err(|refusal| refusal.number());
+        same("request", answer, reference)?;
+        same("request's ledger", ours, theirs)?;
+    }
+    Ok(())
+}
+
+fn show(job: &Job) -> Result<(), String> {
+    let person = job.book.query.person.0;
+    let ours = bytes::show(&job.text, &job.after, Person(person)).map_err(|refusal| refusal.to_string())?;
+    let theirs = ledger::show(&job.text, &job.after, person).map_err(|refusal| refusal.to_string())?;
+    for (attr, set) in (0..).zip(theirs.sets) {
+        same("show", ours.values(Attr(attr)).bits(), set)?;
+    }
+    same("show's crews", ours.crews().bits(), theirs.crews)
+}
+
+/// What both say of a list of requests.
+fn judged(job: &Job, list: &[u8]) -> Result<Judgement, String> {
+    let ours = bytes::replay(&job.text, list).map_err(|refusal| refusal.to_string())?;
+    let theirs = match replay::replay(&job.text, list).map_err(|refusal| refusal.to_string())? {
+        Verdict::Reaches => Judgement::Reaches,
+        Verdict::StopsAt(k) => Judgement::Stops(k),
+        Verdict::EndsShort => Judgement::EndsShort,
+    };
+    same("replay", ours, theirs)?;
+    Ok(ours)
+}
+
+fn plans(job: &Job) -> Result<Found, String> {
+    let (mut ours, mut theirs) = (vec![0; PLAN_MAX], vec![0; PLAN_MAX]);
+    let planned = bytes::plan_into(&job.text, &mut ours).map_err(|refusal| refusal.to_string())?;
+    let answered = plan::plan(&job.text, &mut theirs).map_err(|refusal| refusal.to_string())?;
+    match (planned, answered) {
+        (Planned::NoWay, Answer::NoWay) => Ok(Found::NoWay),
+        (Planned::Plan(n), Answer::Plan(m)) => {
+            same("our plan", judged(job, &ours[..REQUEST_SIZE * n])?, Judgement::Reaches)?;
+            same("the reference's plan", judged(job, &theirs[..REQUEST_SIZE * m])?, Judgement::Reaches)?;
+            Ok(Found::Plans(n, m))
+        }
+        differing => Err(format!("plan: {differing:?}")),
+    }
+}
