@@ -4,6 +4,7 @@ ghost use mathlib.Core.Bool.{cond, _&&_};
 ghost use Prim.Native.Nat.{_+_, _*_, _/_, _≤_};
 ghost use lib.Dec.{eqb, ltb};
 ghost use lib.ListN.{length};
+ghost use Rattle.sets.specs.Sets.{subset};
 ghost use Rattle.facts.specs.Facts.{holds};
 ghost use Rattle.frames.specs.Book.{listed, contentsOf};
 ghost use Rattle.frames.specs.Fits.{Each, Short, Admitted};
@@ -13,7 +14,7 @@ ghost use Rattle.ledger.specs.Ledger.{after};
 ghost use Rattle.ledger.specs.Show.{setBelow};
 ghost use Rattle.replay.specs.Chains.{goes, run, fives};
 ghost use Rattle.replay.specs.Lent.{standing, fiveAt, due, ranTo};
-ghost use Rattle.replay.specs.Met.{wants, effectiveSet, metAtLeast, met};
+ghost use Rattle.replay.specs.Met.{wants, effectiveSet, met};
 ghost use Rattle.replay.specs.Replay.{refusalNumber, refusalLine, replayIn, replayed, runFor};
 use facts::Crew;
 use facts::Fact;
@@ -209,31 +210,20 @@ fn direct_crews(ledger: &[u8], p: Person, n: u8) -> u32
     set
 }
 
-// Mode 01: the person holds at least each named set.
-fn has_at_least(b: Book, ledger: &[u8]) -> bool
-    requires { ⌜ Admitted (contentsOf b) ⌝ }
-    ensures { λ r. ⌜ r ≡ metAtLeast (contentsOf b) (holds (now (ledger .entry))) ⌝ }
+// Whether the values held of an attribute are exactly a named set, or at least it.
+fn is_wanted(exactly: bool, set: u32, held: u32) -> bool
+    ensures { λ r. ⌜ r ≡ cond exactly (eqb held set) (subset set held) ⌝ }
 {
-    let z = b.sizes;
-    let juniors = b.juniors;
-    let query = b.query;
-    let n = query.q as usize;
-    let mut j: usize = 0;
-    while j < n {
-        let w = query.wants[j];
-        let held = ledger::value_set(z, ledger, &juniors, query.person, w.attr.0);
-        if !sets::is_subset(w.set, held) {
-            return false;
-        }
-        j += 1;
+    if exactly {
+        return held == set;
     }
-    true
+    sets::is_subset(set, held)
 }
 
-// Mode 02 of the values: the person holds exactly each named set.
-fn has_exactly(b: Book, ledger: &[u8]) -> bool
+// Whether the person holds each named set: exactly, or at least.
+fn has_wanted(b: Book, exactly: bool, ledger: &[u8]) -> bool
     requires { ⌜ Admitted (contentsOf b) ⌝ }
-    ensures { λ r. ⌜ r ≡ all (λ w. eqb (effectiveSet (contentsOf b) (holds (now (ledger .entry))) (w .attr .0)) (w .set)) (wants (contentsOf b)) ⌝ }
+    ensures { λ r. ⌜ r ≡ all (λ w. cond exactly (eqb (effectiveSet (contentsOf b) (holds (now (ledger .entry))) (w .attr .0)) (w .set)) (subset (w .set) (effectiveSet (contentsOf b) (holds (now (ledger .entry))) (w .attr .0)))) (wants (contentsOf b)) ⌝ }
 {
     let z = b.sizes;
     let juniors = b.juniors;
@@ -243,7 +233,7 @@ fn has_exactly(b: Book, ledger: &[u8]) -> bool
     while j < n {
         let w = query.wants[j];
         let held = ledger::value_set(z, ledger, &juniors, query.person, w.attr.0);
-        if held != w.set {
+        if !is_wanted(exactly, w.set, held) {
             return false;
         }
         j += 1;
@@ -258,14 +248,14 @@ pub fn is_met(b: Book, ledger: &[u8]) -> bool
 {
     let query = b.query;
     if query.mode == 1 {
-        return has_at_least(b, ledger);
+        return has_wanted(b, false, ledger);
     }
     let z = b.sizes;
     let crews = direct_crews(ledger, query.person, z.crews);
     if crews != query.crews {
         return false;
     }
-    has_exactly(b, ledger)
+    has_wanted(b, true, ledger)
 }
 
 fn replay_in(b: Book, plan: &[u8]) -> Replayed

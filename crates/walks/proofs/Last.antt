@@ -16,14 +16,13 @@ use ghost.Atoms.{Atoms, sem}
 use contract.Monad.{fact}
 use types.Kit.{Given, Item, Goal, Soaks, Seq, ‵, raw, mean, _⊛_, some, later, _$_, move, use1, split, pick, await}
 use denote.RattleType.{RattleType}
-use denote.Ref.{RefT}
 use denote.Slice.{sliceVal, MutSlice, Room, finally}
 use denote.Signature.{typeAt}
 use denote.Steps.{heard}
 use denote.Triple.Entry.{Res, alive}
 use denote.Triple.Spec.{tripleOf}
 use denote.Triple.Clauses.{Ended, Clauses, Lasts, atExit, lasts, ensured, closing}
-use Rattle.walks.proofs.Again.{LentAgain, lends-again, comes-back}
+use Rattle.walks.proofs.Again.{at-list, LentAgain, lends-again, comes-back}
 
 module _ {M : Type 1} {𝓤 : URA M} {H : Heap 𝓤} {A : Atoms 𝓤} {K : Type 0} {W : Given 𝓤 H A} {Γ : List (Item 𝓤)} {G : Goal 𝓤 H} where
   -- tok is the tokens, as the walk writes them
@@ -38,15 +37,12 @@ module _ {M : Type 1} {𝓤 : URA M} {H : Heap 𝓤} {A : Atoms 𝓤} {K : Type 
       split t $ move t (1 ∷ []) $ use1 W (raw (fact 𝓤 (φ r ws))) (say r ws) $ heard t (φ r ws) (λ e. move t (1 ∷ []) $ split t $ use1 W tok toks $ k r ws e)))
 
 module _ (R : RattleType) (κ κ′ : Lft) (q : Share) (γ : GName) (b o : ℕ) {M : Type 1} (𝓤 : URA M) (H : Heap 𝓤) (A : Atoms 𝓤) (W : Given 𝓤 H A) (ℓ ℓ′ : Lifetime) (m : ℕ) where
-  abbrev at-list : GName → List (R .Denot) → RefT (List (R .Denot))
-  at-list δ ys = record { ptr = (b, o); name = δ; now = ys }
-
-  pub lends-at : (ys : List (R .Denot)) → length ys ≡ m → ent 𝓤 (sep 𝓤 (sem 𝓤 H A (MutSlice ℓ κ R .own (at-list γ ys) (sliceVal (b, o) m ∷ []))) (A .lft κ q))
-      (H .⇛ (ex 𝓤 (λ (γ₁ : GName). sep 𝓤 (sem 𝓤 H A (MutSlice ℓ′ κ′ R .own (at-list γ₁ ys) (sliceVal (b, o) m ∷ []))) (sem 𝓤 H A (LentAgain R κ κ′ q γ b o γ₁ ys)))))
-  lends-at ys e = subst (λ (j : ℕ). ent 𝓤 (sep 𝓤 (sem 𝓤 H A (MutSlice ℓ κ R .own (at-list γ ys) (sliceVal (b, o) j ∷ []))) (A .lft κ q))
-      (H .⇛ (ex 𝓤 (λ (γ₁ : GName). sep 𝓤 (sem 𝓤 H A (MutSlice ℓ′ κ′ R .own (at-list γ₁ ys) (sliceVal (b, o) j ∷ []))) (sem 𝓤 H A (LentAgain R κ κ′ q γ b o γ₁ ys)))))) e (lends-again R κ κ′ q γ b o 𝓤 H A W ℓ ℓ′ ys)
+  pub lends-at : (ys : List (R .Denot)) → length ys ≡ m → ent 𝓤 (sep 𝓤 (sem 𝓤 H A (MutSlice ℓ κ R .own (at-list R b o γ ys) (sliceVal (b, o) m ∷ []))) (A .lft κ q))
+      (H .⇛ (ex 𝓤 (λ (γ₁ : GName). sep 𝓤 (sem 𝓤 H A (MutSlice ℓ′ κ′ R .own (at-list R b o γ₁ ys) (sliceVal (b, o) m ∷ []))) (sem 𝓤 H A (LentAgain R κ κ′ q γ b o γ₁ ys)))))
+  lends-at ys e = subst (λ (j : ℕ). ent 𝓤 (sep 𝓤 (sem 𝓤 H A (MutSlice ℓ κ R .own (at-list R b o γ ys) (sliceVal (b, o) j ∷ []))) (A .lft κ q))
+      (H .⇛ (ex 𝓤 (λ (γ₁ : GName). sep 𝓤 (sem 𝓤 H A (MutSlice ℓ′ κ′ R .own (at-list R b o γ₁ ys) (sliceVal (b, o) j ∷ []))) (sem 𝓤 H A (LentAgain R κ κ′ q γ b o γ₁ ys)))))) e (lends-again R κ κ′ q γ b o 𝓤 H A W ℓ ℓ′ ys)
 
   pub back-at : (ys : List (R .Denot)) → length ys ≡ m → (γ₁ : GName) (zs : List (R .Denot)) → Room R m → length zs ≡ length ys
-      → ent 𝓤 (sep 𝓤 (A .dead κ′) (sep 𝓤 (sem 𝓤 H A (LentAgain R κ κ′ q γ b o γ₁ ys)) (sem 𝓤 H A (finally R γ₁ zs)))) (H .⇛ (sep 𝓤 (sem 𝓤 H A (MutSlice ℓ κ R .own (at-list γ zs) (sliceVal (b, o) m ∷ []))) (A .lft κ q)))
-  back-at ys e γ₁ zs room l = subst (λ (j : ℕ). ent 𝓤 (sep 𝓤 (A .dead κ′) (sep 𝓤 (sem 𝓤 H A (LentAgain R κ κ′ q γ b o γ₁ ys)) (sem 𝓤 H A (finally R γ₁ zs)))) (H .⇛ (sep 𝓤 (sem 𝓤 H A (MutSlice ℓ κ R .own (at-list γ zs) (sliceVal (b, o) j ∷ []))) (A .lft κ q)))) e
+      → ent 𝓤 (sep 𝓤 (A .dead κ′) (sep 𝓤 (sem 𝓤 H A (LentAgain R κ κ′ q γ b o γ₁ ys)) (sem 𝓤 H A (finally R γ₁ zs)))) (H .⇛ (sep 𝓤 (sem 𝓤 H A (MutSlice ℓ κ R .own (at-list R b o γ zs) (sliceVal (b, o) m ∷ []))) (A .lft κ q)))
+  back-at ys e γ₁ zs room l = subst (λ (j : ℕ). ent 𝓤 (sep 𝓤 (A .dead κ′) (sep 𝓤 (sem 𝓤 H A (LentAgain R κ κ′ q γ b o γ₁ ys)) (sem 𝓤 H A (finally R γ₁ zs)))) (H .⇛ (sep 𝓤 (sem 𝓤 H A (MutSlice ℓ κ R .own (at-list R b o γ zs) (sliceVal (b, o) j ∷ []))) (A .lft κ q)))) e
       (comes-back R κ κ′ q γ b o 𝓤 H A W ℓ ℓ′ ys γ₁ zs (subst (Room R) (sym e) room) l)

@@ -21,15 +21,12 @@ use types.Share.{arr-parts}
 use denote.RattleType.{RattleType}
 use denote.Shadow.{pureL, pureI}
 use denote.Memory.{shares, partOf}
-use denote.Ref.{RefT}
 use denote.Slice.{sliceVal, MutSlice, ShrSlice, heres, Room, at-slice, codedHoleys}
 use denote.Lend.{Held, lends-shr-slice}
 use denote.Index.{opens-slice, closes-slice}
+use Rattle.walks.proofs.Again.{at-list}
 
 module _ (R : RattleType) (κ κ′ : Lft) (q : Share) (γ : GName) (b o : ℕ) where
-  abbrev at-list : GName → List (R .Denot) → RefT (List (R .Denot))
-  at-list δ ys = record { ptr = (b, o); name = δ; now = ys }
-
   abbrev Part : List (R .Denot) → Fml
   Part ys = arr-parts (shares R) (length ys) .part fullShare ys b o
 
@@ -40,20 +37,20 @@ module _ (R : RattleType) (κ κ′ : Lft) (q : Share) (γ : GName) (b o : ℕ) 
     abbrev vals : List Val
     vals = sliceVal (b, o) (length ys) ∷ []
 
-    pub lends-shared : ent 𝓤 (sep 𝓤 (sem 𝓤 H A (MutSlice ℓ κ R .own (at-list γ ys) vals)) (A .lft κ q))
-        (H .⇛ (ex 𝓤 (λ (γ₁ : GName). sep 𝓤 (sem 𝓤 H A (ShrSlice ℓ′ κ′ R .own (at-list γ₁ ys) vals)) (sem 𝓤 H A (LentShared ys)))))
+    pub lends-shared : ent 𝓤 (sep 𝓤 (sem 𝓤 H A (MutSlice ℓ κ R .own (at-list R b o γ ys) vals)) (A .lft κ q))
+        (H .⇛ (ex 𝓤 (λ (γ₁ : GName). sep 𝓤 (sem 𝓤 H A (ShrSlice ℓ′ κ′ R .own (at-list R b o γ₁ ys) vals)) (sem 𝓤 H A (LentShared ys)))))
     unfolding partOf
     lends-shared =
-        qed W (‵ (MutSlice ℓ κ R .own (at-list γ ys) vals) ∷ ‵ (flft κ q) ∷ []) ∵ updating ! $ fsplit ! $ pureL ! (at-slice R (at-list γ ys) vals) (λ p. fsplit ! $ opens-slice ! tt R ys b o $
+        qed W (‵ (MutSlice ℓ κ R .own (at-list R b o γ ys) vals) ∷ ‵ (flft κ q) ∷ []) ∵ updating ! $ fsplit ! $ pureL ! (at-slice R (at-list R b o γ ys) vals) (λ p. fsplit ! $ opens-slice ! tt R ys b o $
         feqI ! ℕ (length ys) (length ys) refl $ fjoin ! $
-        use1 W (later (some (λ (γ₁ : GName). ‵ (ShrSlice ℓ′ κ′ R .own (at-list γ₁ ys) vals) ⊛ ‵ (flent κ′ (Part ys))))) (lends-shr-slice 𝓤 H A W R ℓ′ κ′ fullShare ys b o (p .1)) $ await ! tt $ pick ! (λ γ₁. split ! $
+        use1 W (later (some (λ (γ₁ : GName). ‵ (ShrSlice ℓ′ κ′ R .own (at-list R b o γ₁ ys) vals) ⊛ ‵ (flent κ′ (Part ys))))) (lends-shr-slice 𝓤 H A W R ℓ′ κ′ fullShare ys b o (p .1)) $ await ! tt $ pick ! (λ γ₁. split ! $
         -- [the new slice; the lender's part at κ′; the open borrow at κ; obs γ; auth γ]
-        at-once ! $ show ! (λ (γ′ : GName). sep 𝓤 (sem 𝓤 H A (ShrSlice ℓ′ κ′ R .own (at-list γ′ ys) vals)) (sem 𝓤 H A (LentShared ys))) γ₁ $ frame ! $
+        at-once ! $ show ! (λ (γ′ : GName). sep 𝓤 (sem 𝓤 H A (ShrSlice ℓ′ κ′ R .own (at-list R b o γ′ ys) vals)) (sem 𝓤 H A (LentShared ys))) γ₁ $ frame ! $
         move ! (2 ∷ 3 ∷ []) $ fjoin ! $ move ! (2 ∷ 0 ∷ []) $ fjoin ! $ move ! (1 ∷ 0 ∷ []) $ fjoin ! $ done !))
 
-    pub back-shared : Room R (length ys) → ent 𝓤 (sep 𝓤 (A .dead κ′) (sem 𝓤 H A (LentShared ys))) (H .⇛ (sep 𝓤 (sem 𝓤 H A (MutSlice ℓ κ R .own (at-list γ ys) vals)) (A .lft κ q)))
+    pub back-shared : Room R (length ys) → ent 𝓤 (sep 𝓤 (A .dead κ′) (sem 𝓤 H A (LentShared ys))) (H .⇛ (sep 𝓤 (sem 𝓤 H A (MutSlice ℓ κ R .own (at-list R b o γ ys) vals)) (A .lft κ q)))
     unfolding partOf
     back-shared room =
         qed W (‵ (fdead κ′) ∷ ‵ (LentShared ys) ∷ []) ∵ updating ! $ move ! (1 ∷ []) $ fsplit ! $ move ! (2 ∷ 0 ∷ []) $ lent-back ! tt $ fsplit ! $ drop ! $
         move ! (1 ∷ []) $ fsplit ! $ move ! (1 ∷ []) $ fsplit ! $ move ! (3 ∷ 2 ∷ 0 ∷ 1 ∷ []) $ closes-slice ! tt R ys ys refl b o $ at-once ! $
-        fjoin ! $ pureI ! (at-slice R (at-list γ ys) vals) (tt, (tt, tt)) (refl, room) $ fjoin ! $ done !
+        fjoin ! $ pureI ! (at-slice R (at-list R b o γ ys) vals) (tt, (tt, tt)) (refl, room) $ fjoin ! $ done !

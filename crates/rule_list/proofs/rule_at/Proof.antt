@@ -1,7 +1,7 @@
 -- `rule_list::rule_at` meets its contract: a walk of its MIR, by hand. The place of `rules[i]` is i times the size of a rule past the slice's pointer; the slice is looked into, element i is taken out of the row, copied whole, and put back.
 -- The code has no check of the bound: it is the contract's to ask. That i times the size fits a usize follows from the slice's room.
 -- Assumes nothing.
-use mathlib.Core.Path.{_≡_, refl, sym}
+use mathlib.Core.Path.{refl, sym}
 use Prim.Native.Nat.{ℕ, _<_, _^_, _*_}
 use native.Mathlib.Omega.{arith}
 use mathlib.Core.List.{List, [], _∷_}

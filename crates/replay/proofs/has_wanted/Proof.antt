@@ -1,12 +1,13 @@
--- `replay::has_exactly` meets its contract: the invariant says that the named sets from j on decide; the measure is how many are left.
+-- `replay::has_wanted` meets its contract: the invariant says that the named sets from j on decide; the measure is how many are left.
 -- Assumes nothing.
 use mathlib.Core.Path.{_≡_, refl, sym, _∙_}
-use mathlib.Core.Bool.{Bool, true, false}
+use mathlib.Core.Bool.{Bool, true, false, cond}
 use mathlib.Core.List.{List}
 use Prim.Native.Nat.{ℕ, _≤_, _-_}
 use lib.Dec.{eqb}
 use lib.ListN.{length, getD, take, drop}
-use borrow.Author.Tests.{eq-eqb, ne-eqb}
+use borrow.Author.Tests.{not-true, not-false}
+use Rattle.sets.specs.Sets.{subset}
 use Rattle.facts.specs.Facts.{holds}
 use Rattle.gate.specs.declared.Sizes.{Sizes}
 use Rattle.frames.specs.declared.Want.{Want}
@@ -18,23 +19,24 @@ use Rattle.ledger.specs.Show.{valueSet}
 use Rattle.replay.specs.Met.{wants}
 use borrow.Author.Needs.{needs}
 use native.Mathlib.Omega.{arith}
-use Rattle.replay.proofs.has_exactly.Statement.{statement}
-use Rattle.replay.proofs.has_exactly.Tie as tie
+use Rattle.replay.proofs.has_wanted.Statement.{statement}
+use Rattle.replay.proofs.has_wanted.Tie as tie
 
 -- What stands past the end of the places.
 abbrev none : Want
 none = record { attr = record { 0 = 0 }; set = 0 }
 
 -- The test of one named set.
-abbrev test : List ℕ → Sizes → List ℕ → Query → Want → Bool
-test ledger z juniors query w = eqb (valueSet z juniors (holds ledger) (query .person) (w .attr .0)) (w .set)
+abbrev test : Bool → List ℕ → Sizes → List ℕ → Query → Want → Bool
+test exactly ledger z juniors query w =
+    cond exactly (eqb (valueSet z juniors (holds ledger) (query .person) (w .attr .0)) (w .set)) (subset (w .set) (valueSet z juniors (holds ledger) (query .person) (w .attr .0)))
 
 abbrev Inv-loop : tie.InvT-loop
-Inv-loop ledger z juniors query n j₀ j =
-    (j ≤ n) × (all (test ledger z juniors query) (take n (query .wants)) ≡ all (test ledger z juniors query) (drop j (take n (query .wants))))
+Inv-loop exactly ledger z juniors query n j₀ j =
+    (j ≤ n) × (all (test exactly ledger z juniors query) (take n (query .wants)) ≡ all (test exactly ledger z juniors query) (drop j (take n (query .wants))))
 
 abbrev μ-loop : tie.MeasureT-loop
-μ-loop ledger z juniors query n j₀ j = n - j
+μ-loop exactly ledger z juniors query n j₀ j = n - j
 
 cast-n : tie.Need-cast-n Inv-loop μ-loop
 cast-n c = search needs
@@ -57,17 +59,20 @@ value-set-requires : tie.Need-value-set-requires Inv-loop μ-loop
 unfolding contentsOf
 value-set-requires c κs = (c .before .before .before .before .before .before .before .before .before .pre .sized, c .before .before .before .before .before .before .before .before .before .pre .edge-room)
 
+is-wanted-requires : tie.Need-is-wanted-requires Inv-loop μ-loop
+is-wanted-requires c κs = search needs
+
 returns : tie.Need-returns Inv-loop μ-loop
 unfolding wants contentsOf
 returns c =
     let start = c .before .before .before .before .before .before .before .before .before .before .before .before in
     let b = start .args .b in
-    let P = test (start .args .ledger .now) (b .sizes) (b .juniors) (b .query) in
+    let P = test (start .args .exactly) (start .args .ledger .now) (b .sizes) (b .juniors) (b .query) in
     let n = b .query .q in
     let j = c .before .before .before .before .before .before .before .loop .j in
     let inv = c .before .before .before .before .before .before .before .loop .inv .1 in
     let room : n ≤ length (b .query .wants) = omega (arith, start .pre .query-in .few, start .pre .query-in .room) in
-    let failed : P (getD (b .query .wants) j none) ≡ false = rw (← c .before .before .value-set .ensures) (ne-eqb _ _ (c .if1 .taken)) in
+    let failed : P (getD (b .query .wants) j none) ≡ false = rw (← c .before .before .value-set .ensures) (sym (c .before .is-wanted .ensures) ∙ not-true _ (c .if1 .taken)) in
     sym (inv ∙ all-fail P (b .query .wants) n room j none (c .before .before .before .before .before .before .loop-test .taken) failed)
 
 add-j : tie.Need-add-j Inv-loop μ-loop
@@ -81,12 +86,12 @@ unfolding contentsOf
 loop-again c =
     let start = c .before .before .before .before .before .before .before .before .before .before .before .before in
     let b = start .args .b in
-    let P = test (start .args .ledger .now) (b .sizes) (b .juniors) (b .query) in
+    let P = test (start .args .exactly) (start .args .ledger .now) (b .sizes) (b .juniors) (b .query) in
     let n = b .query .q in
     let j = c .before .before .before .before .before .before .before .loop .j in
     let inv = c .before .before .before .before .before .before .before .loop .inv .1 in
     let room : n ≤ length (b .query .wants) = omega (arith, start .pre .query-in .few, start .pre .query-in .room) in
-    let passed : P (getD (b .query .wants) j none) ≡ true = rw (← c .before .before .value-set .ensures) (eq-eqb _ _ (c .if1 .left)) in
+    let passed : P (getD (b .query .wants) j none) ≡ true = rw (← c .before .before .value-set .ensures) (sym (c .before .is-wanted .ensures) ∙ not-false _ (c .if1 .left)) in
     (omega (arith, c .before .before .before .before .before .before .loop-test .taken), inv ∙ all-pass P (b .query .wants) n room j none (c .before .before .before .before .before .before .loop-test .taken) passed)
 
 returns-2 : tie.Need-returns-2 Inv-loop μ-loop
@@ -94,15 +99,15 @@ unfolding wants contentsOf
 returns-2 c =
     let start = c .before .before .before .before .before .before in
     let b = start .args .b in
-    let P = test (start .args .ledger .now) (b .sizes) (b .juniors) (b .query) in
+    let P = test (start .args .exactly) (start .args .ledger .now) (b .sizes) (b .juniors) (b .query) in
     let n = b .query .q in
     let j = c .before .loop .j in
     let inv = c .before .loop .inv .1 in
     let room : n ≤ length (b .query .wants) = omega (arith, start .pre .query-in .few, start .pre .query-in .room) in
     sym (inv ∙ all-out P (b .query .wants) n room j (omega (arith, c .loop-test .left)))
 
-pub has-exactly-spec : {M : Type 1} → statement M
-has-exactly-spec =
+pub has-wanted-spec : {M : Type 1} → statement M
+has-wanted-spec =
     tie.close
     (tie.spec
     Inv-loop
@@ -113,6 +118,7 @@ has-exactly-spec =
     element-copy-out-w
     slice-aggregate-value-set
     value-set-requires
+    is-wanted-requires
     returns
     add-j
     loop-less
