@@ -95,7 +95,7 @@ pub fn open(book: &[u8], ledger: &mut [u8]) -> Outcome
 }
 
 // Whether some rule permits the request in the ledger.
-pub fn is_allowed(b: Book, ledger: &[u8], q: requests::Request) -> bool
+fn is_allowed(b: Book, ledger: &[u8], q: requests::Request) -> bool
     requires { ⌜ Admitted (contentsOf b) ⌝ }
     ensures { λ r. ⌜ r ≡ allowed (contentsOf b) (now (ledger .entry)) q ⌝ }
 {
