@@ -260,10 +260,11 @@ fn search(b: Book, up: &mut [u8], down: &mut [u8]) -> Outcome
     let juniors = b.juniors;
     let roles = b.query.roles;
     let rules = b.rules;
+    let mut gains = [0u16; 7168];
+    let mut losses = [0u16; 7168];
     let mut adds = [0u16; 7168];
     let mut dels = [0u16; 7168];
-    let n = moves::moves_listed(rules, 3, 3, roles, &mut adds);
-    let m = moves::moves_listed(rules, 4, 4, roles, &mut dels);
+    let n = moves::moves_listed(rules, roles, &mut gains, &mut losses, &mut adds, &mut dels);
     let mut reach = [false; 5120];
     let mut rows = [false; 5120];
     let mut table = [false; 5280];
@@ -272,8 +273,8 @@ fn search(b: Book, up: &mut [u8], down: &mut [u8]) -> Outcome
     let r = crew_levels(
         b,
         &juniors,
-        &adds[..14 * n],
-        &dels[..14 * m],
+        &gains[..14 * n.gains],
+        &losses[..14 * n.losses],
         &reach,
         &mut rows,
         &mut table,
@@ -283,12 +284,10 @@ fn search(b: Book, up: &mut [u8], down: &mut [u8]) -> Outcome
     if !r.found {
         return stuck;
     }
-    let n = moves::moves_listed(rules, 1, 5, roles, &mut adds);
-    let m = moves::moves_listed(rules, 2, 6, roles, &mut dels);
     let p = person_level(
         b,
-        &adds[..14 * n],
-        &dels[..14 * m],
+        &adds[..14 * n.adds],
+        &dels[..14 * n.dels],
         &rows,
         &mut table,
         r.ups,
