@@ -15,7 +15,7 @@ ghost use Rattle.level.specs.Moves.{movesIn};
 ghost use Rattle.planner.specs.Count.{factCount};
 ghost use Rattle.planner.specs.Answer.{refusalNumber, refusalLine, Answered, PlanPromise};
 ghost use Rattle.planner.specs.Drive.{Driving, drafted};
-ghost use Rattle.planner.specs.Scan.{SideMoves, NoRun, AllAllowed, BlankTable, Scanned, Searched};
+ghost use Rattle.planner.specs.Scan.{SideMoves, AllAllowed, BlankTable, Scanned, Searched};
 use frames::Book;
 use gate::Sizes;
 use level::Outcome;

@@ -238,19 +238,19 @@ module _ {M : Type 1} (𝓤 : URA M) (H : Heap 𝓤) (A : Atoms 𝓤) (W : Given
           rewrite ! 38 (λ (k : ℕ). ‵ (fat fullShare by-value.rule-slice l₉ 0 (sliceVal (l₈, 0) k))) (sym (by-value.all-there rs is-rs (good .few))) refl $
           assigns ! (addr ! (from ! (fld ! refl (hop ! (look-in ! 49 (sub ! 0 refl (whole !))) (stop !))))) (from ! (stop !)) (init ! 26 refl (tt, tt)) $
           assigns ! (agg ! (and-then ! (load ! (from ! (stop !)) (look ! 26 refl)) (and-then ! (load ! (from ! (fld ! refl (stop !))) (look-in ! 49 (sub ! 1 refl (whole !)))) (no-more !)))) (from ! (stop !)) (init ! 24 refl (tt, (tt, (record { fits = x₁ .room .0 }, tt)))) $ move ! (2 ∷ 3 ∷ 4 ∷ 5 ∷ []) $
-          side (α ∷ []) l₈ γ 3 3 (lit< tt) (lit< tt) (named 0) x₁ C fm known (front-good rs (by-value.within rs is-rs (good .few)) good) (and-then ! (load ! (from ! (stop !)) (look ! 36 refl)) (and-then ! (lit ! tt) (and-then ! (lit ! tt) (and-then ! (load ! (from ! (stop !)) (look ! 49 refl)) (and-then ! (load ! (from ! (stop !)) (look ! 22 refl)) (no-more !)))))) (λ r₁ zs₁ h₁ e₁ k₁.
+          side (α ∷ []) l₈ γ 3 3 (lit< tt) (lit< tt) (named 0) x₁ C fm known good-front (and-then ! (load ! (from ! (stop !)) (look ! 36 refl)) (and-then ! (lit ! tt) (and-then ! (lit ! tt) (and-then ! (load ! (from ! (stop !)) (look ! 49 refl)) (and-then ! (load ! (from ! (stop !)) (look ! 22 refl)) (no-more !)))))) (λ r₁ zs₁ h₁ e₁ k₁.
           land ! (from ! (stop !)) (init ! 36 refl (tt, record { fits = h₁ })) $
           assigns ! (addr ! (from ! (fld ! refl (hop ! (look-in ! 47 (sub ! 0 refl (whole !))) (stop !))))) (from ! (stop !)) (init ! 22 refl (tt, tt)) $
           assigns ! (agg ! (and-then ! (load ! (from ! (stop !)) (look ! 22 refl)) (and-then ! (load ! (from ! (fld ! refl (stop !))) (look-in ! 47 (sub ! 1 refl (whole !)))) (no-more !)))) (from ! (stop !)) (init ! 20 refl (tt, (tt, (record { fits = x₂ .room .0 }, tt)))) $ move ! (0 ∷ 1 ∷ 6 ∷ 7 ∷ []) $
-          side (α ∷ []) l₈ γ 4 4 (lit< tt) (lit< tt) (named 1) x₂ C fm known (front-good rs (by-value.within rs is-rs (good .few)) good) (and-then ! (load ! (from ! (stop !)) (look ! 36 refl)) (and-then ! (lit ! tt) (and-then ! (lit ! tt) (and-then ! (load ! (from ! (stop !)) (look ! 49 refl)) (and-then ! (load ! (from ! (stop !)) (look ! 18 refl)) (no-more !)))))) (λ r₂ zs₂ h₂ e₂ k₂.
+          side (α ∷ []) l₈ γ 4 4 (lit< tt) (lit< tt) (named 1) x₂ C fm known good-front (and-then ! (load ! (from ! (stop !)) (look ! 36 refl)) (and-then ! (lit ! tt) (and-then ! (lit ! tt) (and-then ! (load ! (from ! (stop !)) (look ! 49 refl)) (and-then ! (load ! (from ! (stop !)) (look ! 18 refl)) (no-more !)))))) (λ r₂ zs₂ h₂ e₂ k₂.
           land ! (from ! (stop !)) (init ! 34 refl (tt, record { fits = h₂ })) $
           assigns ! (addr ! (from ! (fld ! refl (hop ! (look-in ! 45 (sub ! 0 refl (whole !))) (stop !))))) (from ! (stop !)) (init ! 18 refl (tt, tt)) $
           assigns ! (agg ! (and-then ! (load ! (from ! (stop !)) (look ! 18 refl)) (and-then ! (load ! (from ! (fld ! refl (stop !))) (look-in ! 45 (sub ! 1 refl (whole !)))) (no-more !)))) (from ! (stop !)) (init ! 16 refl (tt, (tt, (record { fits = x₃ .room .0 }, tt)))) $ move ! (0 ∷ 1 ∷ 8 ∷ 9 ∷ []) $
-          side (α ∷ []) l₈ γ 1 5 (lit< tt) (lit< tt) (named 2) x₃ C fm known (front-good rs (by-value.within rs is-rs (good .few)) good) (and-then ! (load ! (from ! (stop !)) (look ! 36 refl)) (and-then ! (lit ! tt) (and-then ! (lit ! tt) (and-then ! (load ! (from ! (stop !)) (look ! 49 refl)) (and-then ! (load ! (from ! (stop !)) (look ! 14 refl)) (no-more !)))))) (λ r₃ zs₃ h₃ e₃ k₃.
+          side (α ∷ []) l₈ γ 1 5 (lit< tt) (lit< tt) (named 2) x₃ C fm known good-front (and-then ! (load ! (from ! (stop !)) (look ! 36 refl)) (and-then ! (lit ! tt) (and-then ! (lit ! tt) (and-then ! (load ! (from ! (stop !)) (look ! 49 refl)) (and-then ! (load ! (from ! (stop !)) (look ! 14 refl)) (no-more !)))))) (λ r₃ zs₃ h₃ e₃ k₃.
           land ! (from ! (stop !)) (init ! 32 refl (tt, record { fits = h₃ })) $
           assigns ! (addr ! (from ! (fld ! refl (hop ! (look-in ! 43 (sub ! 0 refl (whole !))) (stop !))))) (from ! (stop !)) (init ! 14 refl (tt, tt)) $
           assigns ! (agg ! (and-then ! (load ! (from ! (stop !)) (look ! 14 refl)) (and-then ! (load ! (from ! (fld ! refl (stop !))) (look-in ! 43 (sub ! 1 refl (whole !)))) (no-more !)))) (from ! (stop !)) (init ! 12 refl (tt, (tt, (record { fits = x₄ .room .0 }, tt)))) $ move ! (0 ∷ 1 ∷ 10 ∷ 11 ∷ []) $
-          side (α ∷ []) l₈ γ 2 6 (lit< tt) (lit< tt) (named 3) x₄ C fm known (front-good rs (by-value.within rs is-rs (good .few)) good) (and-then ! (load ! (from ! (stop !)) (look ! 36 refl)) (and-then ! (lit ! tt) (and-then ! (lit ! tt) (and-then ! (load ! (from ! (stop !)) (look ! 49 refl)) (and-then ! (load ! (from ! (stop !)) (look ! 10 refl)) (no-more !)))))) (λ r₄ zs₄ h₄ e₄ k₄.
+          side (α ∷ []) l₈ γ 2 6 (lit< tt) (lit< tt) (named 3) x₄ C fm known good-front (and-then ! (load ! (from ! (stop !)) (look ! 36 refl)) (and-then ! (lit ! tt) (and-then ! (lit ! tt) (and-then ! (load ! (from ! (stop !)) (look ! 49 refl)) (and-then ! (load ! (from ! (stop !)) (look ! 10 refl)) (no-more !)))))) (λ r₄ zs₄ h₄ e₄ k₄.
           land ! (from ! (stop !)) (init ! 30 refl (tt, record { fits = h₄ })) $
           -- [the slice; its token; four times a buffer's token and its last list, the fourth first; the lender's part; the rest; _22; …]
           use0 W (raw (Counted 𝓤 H A mem run .pre (to-counted r₁ r₂ r₃ r₄))) (goes-counted r₁ r₂ r₃ r₄ h₁ h₂ h₃ h₄) $
@@ -264,6 +264,9 @@ module _ {M : Type 1} (𝓤 : URA M) (H : Heap 𝓤) (A : Atoms 𝓤) (W : Given
           move ! (53 ∷ 54 ∷ 51 ∷ 52 ∷ 49 ∷ 50 ∷ 47 ∷ 48 ∷ 45 ∷ 46 ∷ 43 ∷ 44 ∷ 41 ∷ 42 ∷ 39 ∷ 40 ∷ 0 ∷ 38 ∷ 36 ∷ 37 ∷ 34 ∷ 35 ∷ 32 ∷ 33 ∷ 30 ∷ 31 ∷ 28 ∷ 29 ∷ 26 ∷ 27 ∷ 24 ∷ 25 ∷ 22 ∷ 23 ∷ 20 ∷ 21 ∷ 18 ∷ 19 ∷ 16 ∷ 17 ∷ 14 ∷ 15 ∷ 12 ∷ 13 ∷ 10 ∷ 11 ∷ []) $ frees-all ! _ $ keep ! (0 ∷ 7 ∷ 8 ∷ 5 ∷ 6 ∷ 3 ∷ 4 ∷ 1 ∷ 2 ∷ []) $
           by ! (exits r w zs₁ zs₂ zs₃ zs₄ (subst (λ (t : Counts). Prepared rs ρ t zs₁ zs₂ zs₃ zs₄) (sym e) (record { crew-more = whole-of e₁; crew-less = whole-of e₂; more = whole-of e₃; less = whole-of e₄ })) k₁ k₂ k₃ k₄)))))))))))))))))))))))))))))))))
         where
+          good-front : GoodRules (ofList front)
+          good-front = front-good rs (by-value.within rs is-rs (good .few)) good
+
           whole-of : {one two r : ℕ} {zs : List ℕ} → Gathered (ofList front) one two ρ r zs → Gathered rs one two ρ r zs
           whole-of = front-gathered rs (by-value.within rs is-rs (good .few))
 
