@@ -4,7 +4,7 @@ ghost use Prim.Native.Nat.{_<_};
 ghost use lib.ListN.{length};
 ghost use Rattle.level.specs.Terms.{GoodRule};
 ghost use Rattle.level.specs.Chosen.{GoodRules, Gathered};
-ghost use Rattle.moves.specs.Listed.{ofList, Taken};
+ghost use Rattle.moves.specs.Listed.{ofList, Taken, Prepared};
 use frames::Rule;
 use frames::Rules;
 
@@ -34,12 +34,44 @@ pub fn moves_of(rules: &[Rule], one: u8, two: u8, roles: u32, ms: &mut [u16]) ->
     k
 }
 
-// The same of the list by value: its front is lent.
-pub fn moves_listed(rs: Rules, one: u8, two: u8, roles: u32, ms: &mut [u16]) -> usize
-    requires { ⌜ GoodRules rs × (length (now ms) ≡ 7168) ⌝ }
-    ensures { λ r. ⌜ Gathered rs one two roles r (now (ms .exit)) ⌝ }
+// How many moves each side has: additions and deletions, of the crews (`gains`, `losses`) and of the query's person (`adds`, `dels`).
+pub struct Counts {
+    pub gains: usize,
+    pub losses: usize,
+    pub adds: usize,
+    pub dels: usize,
+}
+
+// The counts of the four sides.
+fn counted(gains: usize, losses: usize, adds: usize, dels: usize) -> Counts
+    ensures { λ r. ⌜ r ≡ record { gains = gains; losses = losses; adds = adds; dels = dels } ⌝ }
+{
+    Counts {
+        gains,
+        losses,
+        adds,
+        dels,
+    }
+}
+
+// The moves of all four sides: the front of the list by value is lent once, to each in turn.
+pub fn moves_listed(
+    rs: Rules,
+    roles: u32,
+    gains: &mut [u16],
+    losses: &mut [u16],
+    adds: &mut [u16],
+    dels: &mut [u16],
+) -> Counts
+    requires { ⌜ GoodRules rs × ((length (now gains) ≡ 7168) × ((length (now losses) ≡ 7168) × ((length (now adds) ≡ 7168) × (length (now dels) ≡ 7168)))) ⌝ }
+    ensures { λ r. ⌜ Prepared rs roles r (now (gains .exit)) (now (losses .exit)) (now (adds .exit)) (now (dels .exit)) ⌝ }
 {
     let n = rs.count;
-    let rules = rs.rules;
-    moves_of(&rules[..n], one, two, roles, ms)
+    let list = rs.rules;
+    let rules = &list[..n];
+    let a = moves_of(rules, 3, 3, roles, gains);
+    let b = moves_of(rules, 4, 4, roles, losses);
+    let c = moves_of(rules, 1, 5, roles, adds);
+    let d = moves_of(rules, 2, 6, roles, dels);
+    counted(a, b, c, d)
 }

@@ -15,7 +15,7 @@ ghost use Rattle.level.specs.Moves.{movesIn};
 ghost use Rattle.planner.specs.Count.{factCount};
 ghost use Rattle.planner.specs.Answer.{refusalNumber, refusalLine, Answered, PlanPromise};
 ghost use Rattle.planner.specs.Drive.{Driving, drafted};
-ghost use Rattle.planner.specs.Scan.{SideMoves, NoRun, AllAllowed, BlankTable, Scanned, Searched};
+ghost use Rattle.planner.specs.Scan.{SideMoves, AllAllowed, BlankTable, Scanned, Searched};
 use frames::Book;
 use gate::Sizes;
 use level::Outcome;
@@ -246,24 +246,21 @@ fn person_level(
     )
 }
 
-// All levels: the requests of the best plan, or that no chain of requests ends clear of the forbidden facts.
-fn search(b: Book, up: &mut [u8], down: &mut [u8]) -> Outcome
-    requires { ⌜ Admitted (contentsOf b) ⌝ }
+// All levels, with the moves of the crews and of the person: the requests of the best plan, or that no chain of requests ends clear of the forbidden facts.
+fn all_levels(
+    b: Book,
+    gains: &[u16],
+    losses: &[u16],
+    adds: &[u16],
+    dels: &[u16],
+    up: &mut [u8],
+    down: &mut [u8],
+) -> Outcome
+    requires { ⌜ Admitted (contentsOf b) × (SideMoves b 3 3 4 4 (movesIn (now gains)) (movesIn (now losses)) × SideMoves b 1 5 2 6 (movesIn (now adds)) (movesIn (now dels))) ⌝ }
     requires { ⌜ (length (now up) ≡ 26400) × (length (now down) ≡ 26400) ⌝ }
     ensures { λ r. ⌜ Searched (contentsOf b) (now (up .exit)) (now (down .exit)) (r .found) (r .ups) (r .at) ⌝ }
 {
-    let stuck = Outcome {
-        found: false,
-        ups: 0,
-        at: 5280,
-    };
     let juniors = b.juniors;
-    let roles = b.query.roles;
-    let rules = b.rules;
-    let mut adds = [0u16; 7168];
-    let mut dels = [0u16; 7168];
-    let n = moves::moves_listed(rules, 3, 3, roles, &mut adds);
-    let m = moves::moves_listed(rules, 4, 4, roles, &mut dels);
     let mut reach = [false; 5120];
     let mut rows = [false; 5120];
     let mut table = [false; 5280];
@@ -272,8 +269,8 @@ fn search(b: Book, up: &mut [u8], down: &mut [u8]) -> Outcome
     let r = crew_levels(
         b,
         &juniors,
-        &adds[..14 * n],
-        &dels[..14 * m],
+        gains,
+        losses,
         &reach,
         &mut rows,
         &mut table,
@@ -281,29 +278,41 @@ fn search(b: Book, up: &mut [u8], down: &mut [u8]) -> Outcome
         down,
     );
     if !r.found {
-        return stuck;
+        return r;
     }
-    let n = moves::moves_listed(rules, 1, 5, roles, &mut adds);
-    let m = moves::moves_listed(rules, 2, 6, roles, &mut dels);
-    let p = person_level(
-        b,
-        &adds[..14 * n],
-        &dels[..14 * m],
-        &rows,
-        &mut table,
-        r.ups,
-        up,
-        r.at,
-        down,
-    );
+    let p = person_level(b, adds, dels, &rows, &mut table, r.ups, up, r.at, down);
     if !p.found {
-        return stuck;
+        return p;
     }
     Outcome {
         found: true,
         ups: r.ups + p.ups,
         at: p.at,
     }
+}
+
+// The moves out of the accepted rules, then all levels.
+fn search(b: Book, up: &mut [u8], down: &mut [u8]) -> Outcome
+    requires { ⌜ Admitted (contentsOf b) ⌝ }
+    requires { ⌜ (length (now up) ≡ 26400) × (length (now down) ≡ 26400) ⌝ }
+    ensures { λ r. ⌜ Searched (contentsOf b) (now (up .exit)) (now (down .exit)) (r .found) (r .ups) (r .at) ⌝ }
+{
+    let roles = b.query.roles;
+    let rules = b.rules;
+    let mut gains = [0u16; 7168];
+    let mut losses = [0u16; 7168];
+    let mut adds = [0u16; 7168];
+    let mut dels = [0u16; 7168];
+    let n = moves::moves_listed(rules, roles, &mut gains, &mut losses, &mut adds, &mut dels);
+    all_levels(
+        b,
+        &gains[..14 * n.gains],
+        &losses[..14 * n.losses],
+        &adds[..14 * n.adds],
+        &dels[..14 * n.dels],
+        up,
+        down,
+    )
 }
 
 // Whether the requests of two buffers, carried out from the starting facts, end with a ledger that meets the query.
