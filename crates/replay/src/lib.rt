@@ -1,6 +1,6 @@
 // Replay: what a list of requests does from a book's starting facts, and whether it reaches the query.
 ghost use mathlib.Core.Path.{_≡_};
-ghost use mathlib.Core.Bool.{cond, _&&_};
+ghost use mathlib.Core.Bool.{cond, not, _&&_, _||_};
 ghost use Prim.Native.Nat.{_+_, _*_, _/_, _≤_};
 ghost use lib.Dec.{eqb, ltb};
 ghost use lib.ListN.{length};
@@ -20,6 +20,7 @@ use facts::Crew;
 use facts::Fact;
 use facts::Person;
 use frames::Book;
+use frames::Query;
 use frames::Rule;
 use frames::Rules;
 use gate::Sizes;
@@ -241,21 +242,29 @@ fn has_wanted(b: Book, exactly: bool, ledger: &[u8]) -> bool
     true
 }
 
+// Whether the person is directly in exactly the listed crews, where the query asks it.
+fn is_listed(exactly: bool, query: Query, crews: u8, ledger: &[u8]) -> bool
+    requires { ⌜ crews ≤ 32 ⌝ }
+    ensures { λ r. ⌜ r ≡ not exactly || eqb (setBelow (λ c. holds (now (ledger .entry)) (Fact.Member (query .person) (record { 0 = c }))) crews) (query .crews) ⌝ }
+{
+    if !exactly {
+        return true;
+    }
+    direct_crews(ledger, query.person, crews) == query.crews
+}
+
 // Whether the query is met, by its mode.
 pub fn is_met(b: Book, ledger: &[u8]) -> bool
     requires { ⌜ Admitted (contentsOf b) ⌝ }
     ensures { λ r. ⌜ r ≡ met (contentsOf b) (holds (now (ledger .entry))) ⌝ }
 {
     let query = b.query;
-    if query.mode == 1 {
-        return has_wanted(b, false, ledger);
-    }
     let z = b.sizes;
-    let crews = direct_crews(ledger, query.person, z.crews);
-    if crews != query.crews {
+    let exactly = query.mode != 1;
+    if !is_listed(exactly, query, z.crews, ledger) {
         return false;
     }
-    has_wanted(b, true, ledger)
+    has_wanted(b, exactly, ledger)
 }
 
 fn replay_in(b: Book, plan: &[u8]) -> Replayed

@@ -1,40 +1,66 @@
 -- `replay::is_met` meets its contract: by the mode at least, or exactly, the direct crews first. Assumes nothing.
-use borrow.Author.Tests.{eq-eqb, ne-eqb}
-use Rattle.frames.specs.Book.{contentsOf}
-use Rattle.replay.specs.Met.{directCrews, metAtLeast, metExactly, met}
+use mathlib.Core.Path.{_≡_, refl, sym, _∙_}
+use mathlib.Core.Bool.{Bool, true, false, cond, not, _&&_, _||_, true≢false}
+use mathlib.Core.List.{List}
+use lib.Dec.{eqb}
+use borrow.Author.Tests.{not-true, not-false}
+use Rattle.sets.specs.Sets.{subset}
+use Rattle.facts.specs.Facts.{holds}
+use Rattle.facts.specs.declared.Fact.{Fact}
+use Rattle.frames.specs.declared.Want.{Want}
+use Rattle.frames.specs.Book.{Contents, contentsOf}
+use Rattle.rules.specs.Search.{all}
+use Rattle.replay.specs.Met.{wants, effectiveSet, directCrews, metAtLeast, metExactly, met}
 use borrow.Author.Needs.{needs}
 use Rattle.replay.proofs.is_met.Statement.{statement}
 use Rattle.replay.proofs.is_met.Tie as tie
 
+-- The tests of a query: its mode is 01, the direct crews are the listed ones, and of a named set.
+abbrev one : Contents → Bool
+one b = eqb (b .query .mode) 1
+
+abbrev crewed : Contents → (Fact → Bool) → Bool
+crewed b S = eqb (directCrews b S) (b .query .crews)
+
+abbrev exact : Contents → (Fact → Bool) → Want → Bool
+exact b S w = eqb (effectiveSet b S (w .attr .0)) (w .set)
+
+abbrev enough : Contents → (Fact → Bool) → Want → Bool
+enough b S w = subset (w .set) (effectiveSet b S (w .attr .0))
+
+-- m: the mode is 01; d: the direct crews are the listed ones.
+unlisted : (m d a e : Bool) → (not (not m) || d) ≡ false → false ≡ cond m a (d && e)
+unlisted true d a e z = absurd (true≢false z)
+unlisted false true a e z = absurd (true≢false z)
+unlisted false false a e _ = refl
+
+by-mode : (m d : Bool) (f g : Want → Bool) (ws : List Want) → (not (not m) || d) ≡ true → all (λ w. cond (not m) (f w) (g w)) ws ≡ cond m (all g ws) (d && all f ws)
+by-mode true d f g ws _ = refl
+by-mode false true f g ws _ = refl
+by-mode false false f g ws z = absurd (true≢false (sym z))
+
+is-listed-requires : tie.Need-is-listed-requires
+unfolding contentsOf
+is-listed-requires c κs = c .before .before .before .before .pre .sized .crews-most
+
+returns : tie.Need-returns
+unfolding met metExactly directCrews contentsOf
+returns c =
+    let start = c .before .before .before .before .before .before in
+    let b = contentsOf (start .args .b) in
+    let S = holds (start .args .ledger .now) in
+    unlisted (one b) (crewed b S) (metAtLeast b S) (all (exact b S) (wants b)) (sym (c .before .is-listed .ensures) ∙ not-true _ (c .if1 .taken))
+
 has-wanted-requires : tie.Need-has-wanted-requires
 has-wanted-requires c κs = search needs
 
-returns : tie.Need-returns
-unfolding met metAtLeast contentsOf
-returns c = rw (eq-eqb _ _ (c .before .if1 .taken)) (c .has-wanted .ensures)
-
-direct-crews-requires : tie.Need-direct-crews-requires
-unfolding contentsOf
-direct-crews-requires c κs = c .before .before .before .before .before .pre .sized .crews-most
-
 returns-2 : tie.Need-returns-2
-unfolding met metExactly directCrews contentsOf
-returns-2 c = rw (ne-eqb _ _ (c .before .before .before .before .if1 .left), ← c .before .before .direct-crews .ensures, ne-eqb _ _ (c .if2 .taken))
-
-has-wanted-requires-2 : tie.Need-has-wanted-requires-2
-has-wanted-requires-2 c κs = search needs
-
-returns-3 : tie.Need-returns-3
-unfolding met metExactly directCrews contentsOf
-returns-3 c = rw (ne-eqb _ _ (c .before .before .before .before .before .if1 .left), ← c .before .before .before .direct-crews .ensures, eq-eqb _ _ (c .before .if2 .left)) (c .has-wanted2 .ensures)
+unfolding met metAtLeast metExactly directCrews contentsOf
+returns-2 c =
+    let start = c .before .before .before .before .before .before .before in
+    let b = contentsOf (start .args .b) in
+    let S = holds (start .args .ledger .now) in
+    c .has-wanted .ensures ∙ by-mode (one b) (crewed b S) (exact b S) (enough b S) (wants b) (sym (c .before .before .is-listed .ensures) ∙ not-false _ (c .before .if1 .left))
 
 pub is-met-spec : {M : Type 1} → statement M
-is-met-spec =
-    tie.close
-    (tie.spec
-    has-wanted-requires
-    returns
-    direct-crews-requires
-    returns-2
-    has-wanted-requires-2
-    returns-3)
+is-met-spec = tie.close (tie.spec is-listed-requires returns has-wanted-requires returns-2)
