@@ -2,12 +2,11 @@
 //!
 //! "A ledger is 1,792 bytes."
 
-use std::fmt;
-
 use crate::book::{
     self, Attr, Book, Crew, Fact, Mode, Person, Query, Role, Sizes, Term, Value, Way, What, MOST_ATTRS, MOST_CREWS,
     MOST_PERSONS, ROLES,
 };
+use crate::refusals::numbered;
 
 /// "A ledger is 1,792 bytes."
 pub const LEDGER_BYTES: usize = 1_792;
@@ -291,35 +290,7 @@ pub enum Refusal {
     NotPermitted,
 }
 
-impl Refusal {
-    /// The refusal's number in the table.
-    #[must_use]
-    pub fn number(&self) -> u8 {
-        match self {
-            Refusal::Book(refusal) => refusal.number(),
-            Refusal::Ledger => 11,
-            Refusal::Request => 12,
-            Refusal::NotPermitted => 13,
-        }
-    }
-}
-
-impl From<book::Refusal> for Refusal {
-    fn from(refusal: book::Refusal) -> Self {
-        Refusal::Book(refusal)
-    }
-}
-
-impl fmt::Display for Refusal {
-    fn fmt(&self, f: &mut fmt::Formatter<'_>) -> fmt::Result {
-        match self {
-            Refusal::Book(refusal) => refusal.fmt(f),
-            other => write!(f, "refusal {}", other.number()),
-        }
-    }
-}
-
-impl std::error::Error for Refusal {}
+numbered!(Ledger = 11, Request = 12, NotPermitted = 13);
 
 /// "**open** writes the ledger of starting facts"; "11 for open (by length alone, the bytes there are not read)".
 ///

@@ -11,6 +11,8 @@
 #![forbid(unsafe_code)]
 #![warn(missing_docs)]
 
+mod refusals;
+
 pub mod book;
 pub mod gen;
 pub mod ledger;

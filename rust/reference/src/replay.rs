@@ -3,10 +3,9 @@
 //! "**replay** judges any list of requests from the starting facts: reaches, stops at request k (counted from 1: first
 //! ill-formed, outside the query's roles, or not permitted), or ends short of the query."
 
-use std::fmt;
-
 use crate::book::{self, Book};
 use crate::ledger::{Depot, Ledger, Request, REQUEST_BYTES};
+use crate::refusals::numbered;
 
 /// What replay says of a list.
 #[derive(Clone, Copy, Debug, PartialEq, Eq)]
@@ -28,33 +27,7 @@ pub enum Refusal {
     Length,
 }
 
-impl Refusal {
-    /// The refusal's number in the table.
-    #[must_use]
-    pub fn number(&self) -> u8 {
-        match self {
-            Refusal::Book(refusal) => refusal.number(),
-            Refusal::Length => 14,
-        }
-    }
-}
-
-impl From<book::Refusal> for Refusal {
-    fn from(refusal: book::Refusal) -> Self {
-        Refusal::Book(refusal)
-    }
-}
-
-impl fmt::Display for Refusal {
-    fn fmt(&self, f: &mut fmt::Formatter<'_>) -> fmt::Result {
-        match self {
-            Refusal::Book(refusal) => refusal.fmt(f),
-            Refusal::Length => write!(f, "refusal 14"),
-        }
-    }
-}
-
-impl std::error::Error for Refusal {}
+numbered!(Length = 14);
 
 /// Judges a list of requests from the starting facts.
 ///

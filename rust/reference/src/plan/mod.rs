@@ -4,11 +4,11 @@
 //! with sets of its own. They share the book, with the crews below each crew, and nothing of the ledger but how the
 //! numbers of a set are counted off. [`plan`] uses the second.
 
-use std::fmt;
 use std::fmt::Write as _;
 
 use crate::book;
 use crate::ledger::REQUEST_BYTES;
+use crate::refusals::numbered;
 
 pub mod closure;
 pub mod compare;
@@ -33,33 +33,7 @@ pub enum Refusal {
     Buffer,
 }
 
-impl Refusal {
-    /// The refusal's number in the table.
-    #[must_use]
-    pub fn number(&self) -> u8 {
-        match self {
-            Refusal::Book(refusal) => refusal.number(),
-            Refusal::Buffer => 10,
-        }
-    }
-}
-
-impl From<book::Refusal> for Refusal {
-    fn from(refusal: book::Refusal) -> Self {
-        Refusal::Book(refusal)
-    }
-}
-
-impl fmt::Display for Refusal {
-    fn fmt(&self, f: &mut fmt::Formatter<'_>) -> fmt::Result {
-        match self {
-            Refusal::Book(refusal) => refusal.fmt(f),
-            Refusal::Buffer => write!(f, "refusal 10"),
-        }
-    }
-}
-
-impl std::error::Error for Refusal {}
+numbered!(Buffer = 10);
 
 /// "A plan fills its front, five bytes a request, at most 2 × F requests; bytes behind it keep their content."
 ///

@@ -1,0 +1,36 @@
+//! What the refusals of the operations share: the table's number, its words, and a book's own refusals among them.
+
+/// Gives an enum `Refusal`, with the case `Book` for 1 to 9, its numbers for the other cases, and what follows from them.
+macro_rules! numbered {
+    ($($case:ident = $number:literal),+) => {
+        impl Refusal {
+            /// The refusal's number in the table.
+            #[must_use]
+            pub fn number(&self) -> u8 {
+                match self {
+                    Refusal::Book(refusal) => refusal.number(),
+                    $(Refusal::$case => $number,)+
+                }
+            }
+        }
+
+        impl From<$crate::book::Refusal> for Refusal {
+            fn from(refusal: $crate::book::Refusal) -> Self {
+                Refusal::Book(refusal)
+            }
+        }
+
+        impl std::fmt::Display for Refusal {
+            fn fmt(&self, f: &mut std::fmt::Formatter<'_>) -> std::fmt::Result {
+                match self {
+                    Refusal::Book(refusal) => refusal.fmt(f),
+                    other => write!(f, "refusal {}", other.number()),
+                }
+            }
+        }
+
+        impl std::error::Error for Refusal {}
+    };
+}
+
+pub(crate) use numbered;
