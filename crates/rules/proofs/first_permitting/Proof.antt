@@ -45,6 +45,8 @@ use denote.Triple.Entry.{Vals, onEntry}
 use denote.Triple.Spec.{Meets, tripleOf}
 use denote.Triple.Table.{entered, cited}
 use denote.Triple.Walked.{says, needs, Stays, walkOf, Walks, walked, walk-meets}
+use Rattle.rule_list.proofs.Call.{RuleAt}
+use Rattle.rule_list.proofs.Call as call
 use Rattle.walks.proofs.Walk.{drops, goes, leaves, returned, frees-all}
 use Rattle.facts.specs.declared.Fact.{Fact}
 use Rattle.facts.specs.Facts.{holds}
@@ -111,9 +113,6 @@ stayed = drops (first-permitting.ended .signature .params) (first-permitting.end
 
 module _ {M : Type 1} (𝓤 : URA M) (H : Heap 𝓤) (A : Atoms 𝓤) (mem : Memory → SProp 𝓤) (run : Routine → Fun 𝓤) where
   -- the contracts that the proof cites
-  abbrev RuleAt : Contract 𝓤
-  RuleAt = tripleOf 𝓤 H A rule-at.signature (rule-at.spec 𝓤 H A mem run)
-
   abbrev IsNamed : Contract 𝓤
   IsNamed = tripleOf 𝓤 H A is-named.signature (is-named.spec 𝓤 H A mem run)
 
@@ -125,7 +124,7 @@ module _ {M : Type 1} (𝓤 : URA M) (H : Heap 𝓤) (A : Atoms 𝓤) (mem : Mem
 
   -- that the callees meet them
   pub record Known (C : Calls 𝓤 H) : Type 1 where
-    pub at : Triple 𝓤 (C #rule_list·rule-at) RuleAt
+    pub at : Triple 𝓤 (C #rule_list·rule-at) (RuleAt 𝓤 H A mem run)
     pub named : Triple 𝓤 (C #rules·is-named) IsNamed
     pub count : Triple 𝓤 (C #rules·term-count) TermCount
     pub meets : Triple 𝓤 (C #rules·meets-term) MeetsTerm
@@ -204,17 +203,7 @@ module _ {M : Type 1} (𝓤 : URA M) (H : Heap 𝓤) (A : Atoms 𝓤) (W : Given
 
   -- ---- the calls: what each callee is passed, and what it asks
   abbrev to-at : ℕ → RuleAt 𝓤 H A mem run .Ghost
-  to-at i = (((κ₀, tt), (q₀, tt), tt, (s₀, (i, tt)), (list ∷ [], (vint w64 i ∷ [], tt))), tt)
-
-  asked-at : (i : ℕ) → i < 2 ^ 64 → i < n → ent 𝓤 (⋆ 𝓤 H A (Tok₀ ∷ ‵ Own₀ ∷ [])) (RuleAt 𝓤 H A mem run .pre (to-at i))
-  asked-at i gi l =
-      qed W (Tok₀ ∷ ‵ Own₀ ∷ []) ∵ says ! l $ frame ! $
-      nothing ! $ owned ! usize (Is usize) (uint-makes 𝓤 H A W w64) i _ (refl, gi) $ fjoin ! $ move ! (1 ∷ 0 ∷ []) $ fjoin ! $ done !
-
-  goes-at : (i : ℕ) → i < 2 ^ 64 → i < n → ent 𝓤 (⋆ 𝓤 H A (Tok₀ ∷ ‵ Own₀ ∷ [])) (sep 𝓤 (RuleAt 𝓤 H A mem run .pre (to-at i)) (sem 𝓤 H A Own₀))
-  goes-at i gi l =
-      qed W (Tok₀ ∷ ‵ Own₀ ∷ []) ∵ move ! (1 ∷ []) $ use1 W (‵ Own₀ ⊛ ‵ Own₀) (shr-slice-copy 𝓤 H A W (named 0) κ₀ T.the-row .twice s₀ (list ∷ [])) $ split ! $
-      move ! (2 ∷ 0 ∷ []) $ use2 W (raw (RuleAt 𝓤 H A mem run .pre (to-at i))) (asked-at i gi l) $ frame ! $ done !
+  to-at = call.to-at 𝓤 H A mem run W κ₀ q₀ s₀
 
   module _ (r : Rule) (u : Val) (is : Is T.the-row r (u ∷ [])) where
     abbrev to-named : IsNamed 𝓤 H A mem run .Ghost
@@ -387,7 +376,7 @@ module _ {M : Type 1} (𝓤 : URA M) (H : Heap 𝓤) (A : Atoms 𝓤) (W : Given
     turn i true e =
         assigns ! (bin ! (load ! (from ! (stop !)) (look ! 21 refl)) (load ! (from ! (stop !)) (look ! 25 refl)) tt) (from ! (stop !)) (init ! 11 refl (tt, tt)) $
         rewrite ! 11 (λ (z : Bool). ‵ (fat fullShare tyBool l₁₂ 0 (vbool z))) e refl $ stays ! (load ! (from ! (stop !)) (look ! 11 refl)) $
-        use2 W (raw (RuleAt 𝓤 H A mem run .pre (to-at (i .0))) ⊛ ‵ Own₀) (goes-at (i .0) fits small) $ split ! $
+        use2 W (raw (RuleAt 𝓤 H A mem run .pre (to-at (i .0))) ⊛ ‵ Own₀) (call.goes-at 𝓤 H A mem run W κ₀ q₀ s₀ (i .0) fits small) $ split ! $
         calls-at ! fm (RuleAt 𝓤 H A mem run) (known .at) (to-at (i .0)) (and-then ! (load ! (from ! (stop !)) (look ! 33 refl)) (and-then ! (load ! (from ! (stop !)) (look ! 21 refl)) (no-more !))) (λ u.
         returned ! tt rule-at.ended (rule-at.clauses 𝓤 H A mem run) (to-at (i .0)) u Tok₀ (id⊢ 𝓤 _) (λ r. r ≡ getD (now s₀) (i .0) noRule) (λ r ws. id⊢ 𝓤 _) (λ r er. move ! (1 ∷ []) $ facts ! T.the-row (Is T.the-row) (shows 𝓤 H A T.the-row) r (u ∷ []) (λ is.
         land ! (from ! (stop !)) (init ! 19 refl (LL.lawful T.the-type T′.the-laws 𝓤 H A W .typed r _ is .0)) $
