@@ -11,6 +11,8 @@ use crate::table::{markdown, short, thousands, Cost, Measured, Ratio, Row};
 const AIM: f64 = 4.0;
 /// A function is listed from this share of some book's instructions on, in percent.
 const LISTED: f64 = 2.0;
+/// So many of the stored books are listed as the dearest to plan.
+const DEAREST: usize = 6;
 
 /// Everything that was measured.
 pub struct Results {
@@ -65,6 +67,7 @@ impl Results {
             ("calls", self.calls()),
             ("series", self.growing()),
             ("aim", self.aim()),
+            ("dearest", self.dearest()),
             ("functions", self.functions(|call| call.operation == Operation::Plan)),
             ("other functions", self.functions(|call| call.operation != Operation::Plan)),
         ]
@@ -202,6 +205,19 @@ impl Results {
             text += &if list.is_empty() { "\n\n".to_owned() } else { format!(" Over: {}.\n\n", list.join(", ")) };
         }
         text.trim_end().to_owned() + "\n"
+    }
+
+    /// The stored books that are the dearest to plan.
+    fn dearest(&self) -> String {
+        let plan = |book: &Measured| book.row(Operation::Plan).of(Side::Ours);
+        let mut books: Vec<&Measured> = self.large().collect();
+        books.sort_by(|a, b| plan(b).instructions.total_cmp(&plan(a).instructions));
+        let row = |book: &&Measured| {
+            let Cost { instructions, micros } = plan(book);
+            vec![book.name.clone(), thousands(instructions), thousands(micros)]
+        };
+        let rows: Vec<Vec<String>> = books.iter().take(DEAREST).map(row).collect();
+        markdown(&["book", "plan, instr.", "µs"], &rows)
     }
 
     /// The functions of some calls with their shares.
