@@ -1,9 +1,8 @@
--- The sweep that puts deletions back goes round the moves as the other does; a deletion is tested with its own fact put in.
+-- The sweep that puts deletions back goes as the other does; a deletion is tested with its own fact put in.
 use mathlib.Core.Path.{_≡_, refl, sym, ap, subst, _∙_}
-use mathlib.Core.Logic.{⊎-elim}
 use mathlib.Core.Bool.{Bool, true, false, _||_}
 use mathlib.Core.List.{List}
-use Prim.Native.Nat.{ℕ, suc, _+_, _-_, _*_, _≤_, _<_}
+use Prim.Native.Nat.{ℕ, _+_, _-_, _≤_, _<_}
 use native.Mathlib.Omega.{arith}
 use lib.ListN.{length, getD}
 use Rattle.theory.specs.Facts.{put}
@@ -19,21 +18,22 @@ use Rattle.level.specs.World.{world}
 use Rattle.level.proofs.MoveLaws.{met-flags}
 use Rattle.level.specs.Notes.{askAt, asks, Noted}
 use Rattle.level.proofs.NoteLaws.{asks-length, asks-front}
-use Rattle.level.specs.Sweep.{Next}
-use Rattle.level.proofs.SweepLaws.{Window, window-all, window-none, window-next, all-three, first-of-three}
+use Rattle.level.proofs.TurnLaws.{Sweeping}
+use Rattle.level.proofs.SweepLaws.{listed-fine, all-three, first-of-three}
 use Rattle.level.specs.declared.Move.{Move}
 use Rattle.level.specs.BackSweep.{ClosedBack, ReadyBack, backsIn}
 
--- What the sweep keeps: the requests noted lead from `y` down to what of `x` is not forbidden.
-pub record KeptBack (ms : Moves) (p : ℕ) (T bad x y : List Bool) (end : ℕ) (out₀ out : List ℕ) (at i quiet : ℕ) : Type 0 where
+-- What the sweep keeps: the requests noted lead from `y` down to what of `x` is not forbidden, and those behind them stand.
+pub record KeptBack (ms : Moves) (p : ℕ) (T bad x y : List Bool) (end : ℕ) (out₀ out : List ℕ) (at : ℕ) : Type 0 where
   pub whole : Whole T y
   pub size : length out ≡ length out₀
   pub down : at ≤ end
   pub stands : (k : ℕ) → end ≤ k → askAt out k ≡ askAt out₀ k
   pub back : PutBack (world T ms ms p) (direct bad) (direct x) (direct y) (asks out at (end - at))
-  pub in-round : 0 < ms .count → i < ms .count
-  pub still : (j : ℕ) → j < ms .count → Window (ms .count) i quiet j → backsIn (moveAt ms j) T x y ≡ false
-  pub few : quiet ≤ ms .count
+
+-- Where it stands.
+abbrev pub Backing : (ms : Moves) (T x y : List Bool) (size tried i quiet : ℕ) → Type 0
+Backing ms T x y = Sweeping (ms .count) (λ j. backsIn (moveAt ms j) T x y)
 
 -- Flags with a fact put in meet a move where the direct facts with that fact do.
 pub flags-with : {T x : List Bool} {m : Move} → Whole T x → Fine m → flagsWith m T x ≡ met T (put (direct x) (m .fact) true) m
@@ -64,7 +64,7 @@ backs-none m x {T} {y} w f e u h =
     ∙ first-of-three (getD y (m .fact) false) (getD x (m .fact) false) (flagsWith m T y) e (sym (direct-low x (m .fact) (f .fact)) ∙ u) (flags-with w f ∙ h)
 
 -- The invariant before the first move.
-pub back-first : (ms : Moves) (p : ℕ) {T bad x y : List Bool} {size end : ℕ} (out : List ℕ) → ReadyBack T bad x y size end → KeptBack ms p T bad x y end out out end 0 0
+pub back-first : (ms : Moves) (p : ℕ) {T bad x y : List Bool} {size end : ℕ} (out : List ℕ) → ReadyBack T bad x y size end → KeptBack ms p T bad x y end out out end
 unfolding asks
 back-first ms p {T} {bad} {x} {y} {size} {end} out r =
     let e : end - end ≡ 0 = omega arith in
@@ -74,63 +74,42 @@ back-first ms p {T} {bad} {x} {y} {size} {end} out r =
       down = omega arith;
       stands = λ k l. refl;
       back = rw (e, r .starts) (back-none (world T ms ms p));
-      in-round = λ h. h;
-      still = λ j l w. absurd (window-none (ms .count) 0 j l w);
-      few = omega arith;
     }
 
-module _ {ms : Moves} {p : ℕ} {T bad x y : List Bool} {end : ℕ} {out₀ out : List ℕ} {at i quiet : ℕ} (k : KeptBack ms p T bad x y end out₀ out at i quiet) (sound : Sound ms) where
-  -- The move looked at is one of the list.
-  pub back-here : quiet < ms .count → i < ms .count
-  back-here q = k .in-round (omega arith)
-
-  -- The move looked at is fine.
-  pub back-fine : quiet < ms .count → Fine (moveAt ms i)
-  back-fine q = sound .fine i (back-here q)
+module _ {ms : Moves} {p : ℕ} {T bad x y : List Bool} {end : ℕ} {out₀ out : List ℕ} {at : ℕ} (k : KeptBack ms p T bad x y end out₀ out at) (sound : Sound ms) where
+  -- A move of the list that does not fire.
+  pub backs-not : {m : Move} {i : ℕ} {r : Bool} → i < ms .count → m ≡ moveAt ms i → r ≡ backsIn m T x y → r ≡ false → backsIn (moveAt ms i) T x y ≡ false
+  backs-not l same t h = rw same at (sym t ∙ h)
 
   -- Where a move fires there is room for its request.
-  pub back-left : quiet < ms .count → backsIn (moveAt ms i) T x y ≡ true → end < at + 160
-  back-left q e = omega (arith, back-room (world T ms ms p) (k .back) (back-fine q .fact) (backs-new (moveAt ms i) T x y (back-fine q) e), asks-length out at (end - at), k .down)
+  pub back-left : {m : Move} {i : ℕ} {r : Bool} → i < ms .count → m ≡ moveAt ms i → r ≡ backsIn m T x y → r ≡ true → end < at + 160
+  back-left {m} l same t h =
+      let e = sym t ∙ h in
+      let f = listed-fine sound l same in
+      omega (arith, back-room (world T ms ms p) (k .back) (f .fact) (backs-new m T x y f e), asks-length out at (end - at), k .down)
 
   -- A move that fires keeps the invariant.
-  pub back-add : {z : List Bool} {out′ : List ℕ} {r : ℕ} → 160 ≤ end → quiet < ms .count → backsIn (moveAt ms i) T x y ≡ true → Put T y (moveAt ms i .fact) z → Noted out (at - 1) (askOf p (moveAt ms i)) out′ → Next i (ms .count) r
-      → KeptBack ms p T bad x z end out₀ out′ (at - 1) r 0
-  back-add {z} {out′} {r} high q e pz w nx =
-      let f = back-fine q in
-      let m = moveAt ms i in
-      let left = back-left q e in
+  pub back-add : {m : Move} {i : ℕ} {r : Bool} {z : List Bool} {out′ : List ℕ} → 160 ≤ end → i < ms .count → m ≡ moveAt ms i → r ≡ backsIn m T x y → r ≡ true
+      → Put T y (m .fact) z → Noted out (at - 1) (askOf p m) out′ → KeptBack ms p T bad x z end out₀ out′ (at - 1)
+  back-add {m} {i} high l same t h pz w =
+      let e = sym t ∙ h in
+      let f = listed-fine sound l same in
+      let left = back-left l same t h in
       let n₁ : end - (at - 1) ≡ (end - at) + 1 = omega (arith, k .down) in
       let n₂ : (at - 1) + 1 ≡ at = omega arith in
       record {
         whole = put-whole (k .whole) pz (f .fact);
         size = w .size ∙ k .size;
         down = omega (arith, k .down);
-        stands = λ j l. w .there j (omega (arith, k .down)) ∙ k .stands j l;
+        stands = λ j g. w .there j (omega (arith, k .down)) ∙ k .stands j g;
         back = rw (n₁, asks-front (end - at) w, n₂, put-direct pz (f .fact))
             (back-more (world T ms ms p) (askOf p m) (backs-new m T x y f e) (backs-in m T x y f e)
-            (record { index = i; listed = back-here q; same = refl; holds = backs-met m x (k .whole) f e; known = f .fact }) (k .back));
-        in-round = λ _. nx .fits;
-        still = λ j l v. absurd (window-none (ms .count) r j l v);
-        few = omega arith;
+            (record { index = i; listed = l; same = ap (askOf p) same; holds = subst (λ (o : Move). met T (put (direct y) (m .fact) true) o ≡ true) same (backs-met m x (k .whole) f e); known = f .fact }) (k .back));
       }
 
-  -- A move that does not fire keeps the invariant.
-  pub back-skip : {r : ℕ} → quiet < ms .count → backsIn (moveAt ms i) T x y ≡ false → Next i (ms .count) r → KeptBack ms p T bad x y end out₀ out at r (quiet + 1)
-  back-skip {r} q e nx =
-      record {
-        whole = k .whole;
-        size = k .size;
-        down = k .down;
-        stands = k .stands;
-        back = k .back;
-        in-round = λ _. nx .fits;
-        still = λ j l v. ⊎-elim (λ (s : j ≡ i). rw s e) (k .still j l) (window-next quiet j nx (back-here q) l v);
-        few = omega arith;
-      }
-
-  -- When all moves are quiet the sweep is closed.
-  pub back-closed : ms .count ≤ quiet → ClosedBack ms p T bad x y end out₀ out at
-  back-closed h = record {
+  -- When no move fires the sweep is closed.
+  pub back-closed : ((j : ℕ) → j < ms .count → backsIn (moveAt ms j) T x y ≡ false) → ClosedBack ms p T bad x y end out₀ out at
+  back-closed still = record {
     whole = k .whole;
     size = k .size;
     down = k .down;
@@ -140,24 +119,8 @@ module _ {ms : Moves} {p : ℕ} {T bad x y : List Bool} {end : ℕ} {out₀ out 
     closed = record {
       good = λ f u e. k .back .from f (rw (u, e));
       back = λ q u m. subst (λ (a : Ask). direct y (a .fact) ≡ true) (sym (m .same))
-          (backs-none (moveAt ms (m .index)) x (k .whole) (sound .fine (m .index) (m .listed))
-          (k .still (m .index) (m .listed) (window-all (ms .count) i quiet (m .index) (k .in-round (omega (arith, m .listed))) h (m .listed)))
+          (backs-none (moveAt ms (m .index)) x (k .whole) (sound .fine (m .index) (m .listed)) (still (m .index) (m .listed))
           (subst (λ (a : Ask). direct x (a .fact) ≡ true) (m .same) u)
           (subst (λ (a : Ask). met T (put (direct y) (a .fact) true) (moveAt ms (m .index)) ≡ true) (m .same) (m .holds)));
     };
   }
-
--- The measure: how many requests may follow, and how many moves are not quiet.
-abbrev pub back-steps : ℕ → ℕ → ℕ → ℕ
-back-steps count at quiet = at * (count + 1) + (count - quiet)
-
--- A fact put back brings the end nearer.
-pub back-less : (count at quiet : ℕ) → 0 < at → quiet < count → back-steps count (at - 1) 0 < back-steps count at quiet
-back-less count at quiet h q = go (at - 1) at (omega arith)
-  where
-    go : (n m : ℕ) → m ≡ suc n → back-steps count n 0 < back-steps count m quiet
-    go n m e = rw e (omega arith)
-
--- A quiet move brings the end nearer.
-pub back-skip-less : (count at quiet : ℕ) → quiet < count → back-steps count at (quiet + 1) < back-steps count at quiet
-back-skip-less count at quiet h = omega arith

@@ -4,6 +4,7 @@ pub mod TermLaws
 pub mod RuleLaws
 pub mod ChosenLaws
 pub mod NoteLaws
+pub mod TurnLaws
 pub mod SweepLaws
 pub mod BackSweepLaws
 pub mod BuildLaws

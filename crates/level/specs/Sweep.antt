@@ -1,5 +1,6 @@
 -- What the sweep of the additions needs and leaves.
 use mathlib.Core.Path.{_≡_}
+use mathlib.Core.Logic.{_⊎_}
 use mathlib.Core.Bool.{Bool, false, not, _&&_}
 use mathlib.Core.List.{List}
 use Prim.Native.Nat.{ℕ, _+_, _*_, _≤_, _<_}
@@ -22,6 +23,13 @@ pub record Next (i n r : ℕ) : Type 0 where
   pub fits : r < n
   pub turn : i + 1 ≡ n → r ≡ 0
   pub step : (i + 1 ≡ n → ⊥) → r ≡ i + 1
+
+-- How a sweep of `n` moves that stands at `i`, with `quiet` moves before it quiet and `tried` of the 160 names tried, goes on at `i′`: from where it stands, or, by one name more, at any move, none quiet.
+pub record Turned (n tried i quiet tried′ i′ quiet′ : ℕ) : Type 0 where
+  pub fits : i′ < n
+  pub onward : tried ≤ tried′
+  pub names : tried′ ≤ 160
+  pub goes : ((i′ ≡ i) × (quiet′ ≡ quiet)) ⊎ ((tried < tried′) × (quiet′ ≡ 0))
 
 -- What a sweep needs: whole flags within what is allowed, and room for every fact.
 pub record Ready (T allowed x : List Bool) (size start : ℕ) : Type 0 where

@@ -11,7 +11,7 @@ ghost use Rattle.level.specs.Chosen.{chosenIn, Numbers, MovePut};
 ghost use Rattle.level.specs.Terms.{codeOf, GoodRule, MoveOf};
 ghost use Rattle.level.specs.Notes.{Noted};
 ghost use Rattle.level.specs.Build.{Blank, Built, Stripped, Copied, Lacks};
-ghost use Rattle.level.specs.Sweep.{firesIn, Next, Ready, Closed};
+ghost use Rattle.level.specs.Sweep.{firesIn, Next, Turned, Ready, Closed};
 ghost use Rattle.level.specs.BackSweep.{backsIn, ReadyBack, ClosedBack};
 ghost use Rattle.level.specs.Settle.{Sizes, Rounded, Result};
 
@@ -282,9 +282,41 @@ fn next(i: usize, n: usize) -> usize
     i + 1
 }
 
+// Where a sweep stands: how many of the names it has tried, the move that is next, and how many before that move are quiet.
+pub struct Turn {
+    pub tried: usize,
+    pub i: usize,
+    pub quiet: usize,
+}
+
+// Where the sweep goes on: at the move that the next name gives, none quiet before it; or, when no name is left, where it stands. A name that no move has ends the names.
+fn turn_at(names: &[u16], tried: usize, i: usize, quiet: usize, count: usize) -> Turn
+    requires { ⌜ (length (now names) ≡ 160) × ((tried ≤ 160) × (i < count)) ⌝ }
+    ensures { λ r. ⌜ Turned count tried i quiet (r .tried) (r .i) (r .quiet) ⌝ }
+{
+    if tried == 160 {
+        return Turn { tried, i, quiet };
+    }
+    let k = wide(names[tried]);
+    if k < count {
+        return Turn {
+            tried: tried + 1,
+            i: k,
+            quiet: 0,
+        };
+    }
+    Turn {
+        tried: 160,
+        i,
+        quiet,
+    }
+}
+
 // Adds to `x` what the moves can add within `allowed`, until nothing is left, and notes each request in `out` from request `start` on. Returns how many.
+// `added` names the moves that fired last time, in their order, by their numbers (512: none). They are tried first, and the moves that fire now are named in it.
 pub fn close(
     adds: &[u16],
+    added: &mut [u16],
     subject: u8,
     table: &[bool],
     allowed: &[bool],
@@ -294,17 +326,24 @@ pub fn close(
 ) -> usize
     requires { ⌜ Sound (movesIn (now adds)) ⌝ }
     requires { ⌜ Ready (now table) (now allowed) (now x) (length (now out)) start ⌝ }
+    requires { ⌜ length (now added) ≡ 160 ⌝ }
     ensures { λ r. ⌜ Closed (movesIn (now (adds .entry))) subject (now (table .entry)) (now (allowed .entry)) (now (x .entry)) (now (x .exit)) start (now (out .entry)) (now (out .exit)) r ⌝ }
 {
     let count = adds.len() / 14;
     let mut n: usize = 0;
     let mut quiet: usize = 0;
     let mut i: usize = 0;
+    let mut tried: usize = 0;
     while quiet < count {
+        let t = turn_at(added, tried, i, quiet, count);
+        tried = t.tried;
+        i = t.i;
+        quiet = t.quiet;
         let m = move_at(adds, i);
         if fires(m, allowed, x) {
             put(table, m.fact, x);
             note(m, subject, start + n, out);
+            added[n] = i as u16;
             n += 1;
             quiet = 0;
             i = next(i, count);
@@ -361,8 +400,10 @@ pub fn backs(m: Move, table: &[bool], x: &[bool], y: &[bool]) -> bool
 }
 
 // Puts back into `y` what of `x` the moves can delete, until nothing is left, and notes each request in `out`, downwards from request `end`. Returns where the notes begin.
+// `deleted` names the moves that were put back last time, as `added` does for `close`.
 pub fn back(
     dels: &[u16],
+    deleted: &mut [u16],
     subject: u8,
     table: &[bool],
     bad: &[bool],
@@ -373,16 +414,23 @@ pub fn back(
 ) -> usize
     requires { ⌜ Sound (movesIn (now dels)) ⌝ }
     requires { ⌜ ReadyBack (now table) (now bad) (now x) (now y) (length (now out)) end ⌝ }
+    requires { ⌜ length (now deleted) ≡ 160 ⌝ }
     ensures { λ r. ⌜ ClosedBack (movesIn (now (dels .entry))) subject (now (table .entry)) (now (bad .entry)) (now (x .entry)) (now (y .exit)) end (now (out .entry)) (now (out .exit)) r ⌝ }
 {
     let count = dels.len() / 14;
     let mut at = end;
     let mut quiet: usize = 0;
     let mut i: usize = 0;
+    let mut tried: usize = 0;
     while quiet < count {
+        let t = turn_at(deleted, tried, i, quiet, count);
+        tried = t.tried;
+        i = t.i;
+        quiet = t.quiet;
         let m = move_at(dels, i);
         if backs(m, table, x, y) {
             put(table, m.fact, y);
+            deleted[end - at] = i as u16;
             at -= 1;
             note(m, subject, at, out);
             quiet = 0;
@@ -487,6 +535,8 @@ pub struct Ends {
 pub fn round(
     adds: &[u16],
     dels: &[u16],
+    added: &mut [u16],
+    deleted: &mut [u16],
     subject: u8,
     table: &[bool],
     bad: &[bool],
@@ -503,13 +553,14 @@ pub fn round(
     requires { ⌜ Sound (movesIn (now adds)) × Sound (movesIn (now dels)) ⌝ }
     requires { ⌜ Sizes (now table) (now bad) (now s) (now u) (now x) (now y) (now d) start (now up) end (now down) ⌝ }
     requires { ⌜ (direct (now s) ⊆ direct (now u)) ⌝ }
+    requires { ⌜ (length (now added) ≡ 160) × (length (now deleted) ≡ 160) ⌝ }
     ensures { λ r. ⌜ Rounded (movesIn (now (adds .entry))) (movesIn (now (dels .entry))) subject (now (table .entry)) (now (bad .entry)) (now (s .entry)) (now (u .entry)) (now (x .exit)) (now (y .exit)) (now (d .exit)) start (now (up .entry)) (now (up .exit)) (r .ups) end (now (down .entry)) (now (down .exit)) (r .at) ⌝ }
 {
     build(table, s, x);
-    let n = close(adds, subject, table, u, x, start, up);
+    let n = close(adds, added, subject, table, u, x, start, up);
     strip(x, bad, d);
     build(table, d, y);
-    let at = back(dels, subject, table, bad, x, y, end, down);
+    let at = back(dels, deleted, subject, table, bad, x, y, end, down);
     Ends { ups: n, at }
 }
 
@@ -524,6 +575,8 @@ pub struct Outcome {
 pub fn settle(
     adds: &[u16],
     dels: &[u16],
+    added: &mut [u16],
+    deleted: &mut [u16],
     subject: u8,
     table: &[bool],
     bad: &[bool],
@@ -540,12 +593,15 @@ pub fn settle(
     requires { ⌜ Sound (movesIn (now adds)) × Sound (movesIn (now dels)) ⌝ }
     requires { ⌜ Sizes (now table) (now bad) (now s) (now u) (now x) (now y) (now d) start (now up) end (now down) ⌝ }
     requires { ⌜ (direct (now s) ⊆ direct (now u)) ⌝ }
+    requires { ⌜ (length (now added) ≡ 160) × (length (now deleted) ≡ 160) ⌝ }
     ensures { λ r. ⌜ Result (movesIn (now (adds .entry))) (movesIn (now (dels .entry))) subject (now (table .entry)) (now (bad .entry)) (now (s .entry)) (now (u .entry)) (now (x .exit)) start (now (up .entry)) (now (up .exit)) end (now (down .entry)) (now (down .exit)) (r .found) (r .ups) (r .at) ⌝ }
 {
     loop {
         let e = round(
             adds,
             dels,
+            added,
+            deleted,
             subject,
             table,
             bad,

@@ -1,64 +1,166 @@
--- The sweep that puts deletions back. Its invariant is `KeptBack`: the last `quiet` moves before `i` put nothing back. Assumes nothing.
-use mathlib.Core.Path.{sym, _∙_}
+-- The sweep that puts deletions back. Its invariant is `KeptBack`, with `Backing`: the last `quiet` moves before `i` put nothing back. Turns and measure are those of `close`; the notes go downwards from `end`.
+-- Assumes nothing.
+use mathlib.Core.Path.{_≡_, sym, _∙_}
+use Prim.Native.Nat.{_+_, _-_, _<_}
 use native.Mathlib.Omega.{arith}
+use lib.ListN.{length, length-set}
 use Rattle.level.specs.Moves.{movesIn}
-use Rattle.level.proofs.BackSweepLaws.{KeptBack, back-first, back-here, back-fine, back-left, back-add, back-skip, back-closed, back-steps, back-less, back-skip-less}
+use Rattle.level.proofs.TurnLaws.{sweeping-anew, turn-ready, turn-quiet, sweeping-quiet, sweeping-ended, steps-left, fired-less, quiet-less}
+use Rattle.level.proofs.SweepLaws.{listed-fine}
+use Rattle.level.proofs.BackSweepLaws.{KeptBack, Backing, backs-not, back-first, back-left, back-add, back-closed}
 use Rattle.level.proofs.back.Statement.{statement}
 use Rattle.level.proofs.back.Tie as tie
 
 abbrev Inv-loop : tie.InvT-loop
-Inv-loop dels subject table bad x y₀ end out₀ count at₀ quiet₀ i₀ y out at quiet i = KeptBack (movesIn dels) subject table bad x y end out₀ out at i quiet
+Inv-loop dels deleted₀ subject table bad x y₀ end out₀ count at₀ quiet₀ i₀ tried₀ deleted y out at quiet i tried =
+    KeptBack (movesIn dels) subject table bad x y end out₀ out at × Backing (movesIn dels) table x y (length deleted) tried i quiet
 
 abbrev μ-loop : tie.MeasureT-loop
-μ-loop dels subject table bad x y₀ end out₀ count at₀ quiet₀ i₀ y out at quiet i = back-steps count at quiet
+μ-loop dels deleted₀ subject table bad x y₀ end out₀ count at₀ quiet₀ i₀ tried₀ deleted y out at quiet i tried = steps-left count at tried quiet
+
+-- The loop and the start, before a turn; the turn before a move that is tested; the test before what is put in; what is put in before what is noted.
+abbrev at-loop : tie.After-turn-at Inv-loop μ-loop → tie.At-loop Inv-loop μ-loop
+at-loop c = c .before .before .before
+
+abbrev at-start : tie.At-loop Inv-loop μ-loop → tie.Start Inv-loop μ-loop
+at-start c = c .before .before .before .before .before .before .before .before
+
+abbrev at-turn : tie.After-backs Inv-loop μ-loop → tie.After-turn-at Inv-loop μ-loop
+at-turn c = c .before .before .before
+
+abbrev at-then : tie.After-slice-known4 Inv-loop μ-loop → tie.Then1 Inv-loop μ-loop
+at-then c = c .before .before .before .before
+
+abbrev at-put : tie.After-slice-known5 Inv-loop μ-loop → tie.After-slice-known4 Inv-loop μ-loop
+at-put c = c .before .before .before .before
+
+abbrev at-start-from-slice-known3 : tie.After-slice-known3 Inv-loop μ-loop → tie.Start Inv-loop μ-loop
+at-start-from-slice-known3 c = c .before .before .before .before .before .before .before
+
+abbrev after-move-at : tie.After-backs Inv-loop μ-loop → tie.After-move-at Inv-loop μ-loop
+after-move-at c = c .before .before
 
 loop-holds : tie.Need-loop-holds Inv-loop μ-loop
-loop-holds c = back-first (movesIn (c .before .before .before .before .before .before .args .dels .now)) (c .before .before .before .before .before .before .args .subject) (c .before .before .before .before .before .before .args .out .now) (c .before .before .before .before .before .before .pre .1)
+loop-holds c =
+    let s = at-start-from-slice-known3 c in (
+      back-first (movesIn (s .args .dels .now)) (s .args .subject) (s .args .out .now) (s .pre .1 .0),
+      sweeping-anew _
+          (s .pre .1 .1) (omega arith) (λ h. h),
+    )
+
+turn-at-requires : tie.Need-turn-at-requires Inv-loop μ-loop
+turn-at-requires c κs = turn-ready (c .before .before .loop .inv .1) (c .before .loop-test .taken)
 
 move-at-requires : tie.Need-move-at-requires Inv-loop μ-loop
-move-at-requires c κs = let i = back-here (c .before .loop .inv) (c .before .before .before .before .before .before .before .before .pre .0) (c .loop-test .taken) in (omega (arith, i, c .before .before .before .before .before .before .before .before .pre .0 .few), omega (arith, i, c .before .before .before .before .before .before .before .before .pre .0 .room))
+move-at-requires c κs =
+    let sound = at-start (at-loop c) .pre .0 in
+    (omega (arith, c .turn-at .ensures .fits, sound .few), omega (arith, c .turn-at .ensures .fits, sound .room))
 
 backs-requires : tie.Need-backs-requires Inv-loop μ-loop
-backs-requires c κs = rw (c .before .move-at .ensures) (back-fine (c .before .before .before .loop .inv) (c .before .before .before .before .before .before .before .before .before .before .pre .0) (c .before .before .loop-test .taken), (c .before .before .before .before .before .before .before .before .before .before .pre .1 .length-x, (c .before .before .before .loop .inv .whole .size, c .before .before .before .loop .inv .whole .rows)))
+backs-requires c κs =
+    let t = c .before .before in
+    let s = at-start (at-loop t) in
+    let w = at-loop t .loop .inv .0 .whole in
+    (listed-fine (s .pre .0) (t .turn-at .ensures .fits) (c .before .move-at .ensures), (s .pre .1 .0 .length-x, (w .size, w .rows)))
 
 put-requires : tie.Need-put-requires Inv-loop μ-loop
-put-requires c κs = rw (c .before .before .before .before .move-at .ensures) (back-fine (c .before .before .before .before .before .before .loop .inv) (c .before .before .before .before .before .before .before .before .before .before .before .before .before .pre .0) (c .before .before .before .before .before .loop-test .taken) .fact, (c .before .before .before .before .before .before .loop .inv .whole .size, c .before .before .before .before .before .before .loop .inv .whole .rows))
+put-requires c κs =
+    let t = at-turn (c .before .before) in
+    let w = at-loop t .loop .inv .0 .whole in (
+      listed-fine (at-start (at-loop t) .pre .0) (t .turn-at .ensures .fits)
+          (after-move-at (c .before .before) .move-at .ensures) .fact,
+      (w .size, w .rows),
+    )
+
+-- A move fires only where there is room for its request.
+room : (c : tie.Then1 Inv-loop μ-loop) → at-start (at-loop (at-turn (c .before))) .args .end < at-loop (at-turn (c .before)) .loop .at + 160
+room c =
+    let t = at-turn (c .before) in
+    back-left (at-loop t .loop .inv .0) (at-start (at-loop t) .pre .0) (t .turn-at .ensures .fits) (c .before .before .before .move-at .ensures)
+    (c .before .backs .ensures) (c .if1 .taken)
+
+cast-deleted : tie.Need-cast-deleted Inv-loop μ-loop
+cast-deleted c =
+    let t = at-turn (at-then c .before) in
+    omega (arith, t .turn-at .ensures .fits, at-start (at-loop t) .pre .0 .few)
+
+sub-deleted : tie.Need-sub-deleted Inv-loop μ-loop
+sub-deleted c = omega (arith, at-loop (at-turn (at-then c .before)) .loop .inv .0 .down)
+
+mul-deleted : tie.Need-mul-deleted Inv-loop μ-loop
+mul-deleted c = omega (arith, room (at-then c))
+
+slice-write-deleted : tie.Need-slice-write-deleted Inv-loop μ-loop
+slice-write-deleted c =
+    let h = at-then c in
+    omega (arith, room h, at-loop (at-turn (h .before)) .loop .inv .1 .named)
 
 sub-at : tie.Need-sub-at Inv-loop μ-loop
-sub-at c = omega (arith, back-left (c .before .before .before .before .before .before .before .before .before .loop .inv) (c .before .before .before .before .before .before .before .before .before .before .before .before .before .before .before .before .pre .0) (c .before .before .before .before .before .before .before .before .loop-test .taken) (rw (c .before .before .before .before .before .before .before .move-at .ensures) at (sym (c .before .before .before .before .before .backs .ensures) ∙ c .before .before .before .before .if1 .taken)), c .before .before .before .before .before .before .before .before .before .before .before .before .before .before .before .before .pre .1 .below)
+sub-at c = omega (arith, room (at-then c), at-start (at-loop (at-turn (at-then c .before))) .pre .1 .0 .below)
 
 note-requires : tie.Need-note-requires Inv-loop μ-loop
-note-requires c κs = rw (c .before .before .before .before .before .before .before .before .move-at .ensures) (back-fine (c .before .before .before .before .before .before .before .before .before .before .loop .inv) (c .before .before .before .before .before .before .before .before .before .before .before .before .before .before .before .before .before .pre .0) (c .before .before .before .before .before .before .before .before .before .loop-test .taken), omega (arith, back-left (c .before .before .before .before .before .before .before .before .before .before .loop .inv) (c .before .before .before .before .before .before .before .before .before .before .before .before .before .before .before .before .before .pre .0) (c .before .before .before .before .before .before .before .before .before .loop-test .taken) (rw (c .before .before .before .before .before .before .before .before .move-at .ensures) at (sym (c .before .before .before .before .before .before .backs .ensures) ∙ c .before .before .before .before .before .if1 .taken)), c .before .before .before .before .before .before .before .before .before .before .before .before .before .before .before .before .before .pre .1 .below, c .before .before .before .before .before .before .before .before .before .before .before .before .before .before .before .before .before .pre .1 .room, c .before .before .before .before .before .before .before .before .before .before .loop .inv .down, c .before .before .before .before .before .before .before .before .before .before .loop .inv .size))
+note-requires c κs =
+    let h = at-then (c .before) in
+    let t = at-turn (h .before) in
+    let k = at-loop t .loop .inv .0 in
+    let s = at-start (at-loop t) in (
+      listed-fine (s .pre .0) (t .turn-at .ensures .fits) (h .before .before .before .move-at .ensures),
+      omega (arith, room h, k .size, k .down, s .pre .1 .0 .below, s .pre .1 .0 .room),
+    )
 
 next-requires : tie.Need-next-requires Inv-loop μ-loop
-next-requires c κs = back-here (c .before .before .before .before .before .before .before .before .before .before .before .before .before .loop .inv) (c .before .before .before .before .before .before .before .before .before .before .before .before .before .before .before .before .before .before .before .before .pre .0) (c .before .before .before .before .before .before .before .before .before .before .before .before .loop-test .taken)
+next-requires c κs = at-turn (at-then (at-put c) .before) .turn-at .ensures .fits
 
 loop-less : tie.Need-loop-less Inv-loop μ-loop
-loop-less c = back-less _ _ _ (omega (arith, back-left (c .before .before .before .before .before .before .before .before .before .before .before .before .before .before .loop .inv) (c .before .before .before .before .before .before .before .before .before .before .before .before .before .before .before .before .before .before .before .before .before .pre .0) (c .before .before .before .before .before .before .before .before .before .before .before .before .before .loop-test .taken) (rw (c .before .before .before .before .before .before .before .before .before .before .before .before .move-at .ensures) at (sym (c .before .before .before .before .before .before .before .before .before .before .backs .ensures) ∙ c .before .before .before .before .before .before .before .before .before .if1 .taken)), c .before .before .before .before .before .before .before .before .before .before .before .before .before .before .before .before .before .before .before .before .before .pre .1 .below)) (c .before .before .before .before .before .before .before .before .before .before .before .before .before .loop-test .taken)
+loop-less c =
+    let h = at-then (at-put (c .before)) in
+    fired-less _ _ _ _ (omega (arith, room h, at-start (at-loop (at-turn (h .before))) .pre .1 .0 .below))
 
 loop-again : tie.Need-loop-again Inv-loop μ-loop
-loop-again c = back-add (c .before .before .before .before .before .before .before .before .before .before .before .before .before .before .loop .inv) (c .before .before .before .before .before .before .before .before .before .before .before .before .before .before .before .before .before .before .before .before .before .pre .0) (c .before .before .before .before .before .before .before .before .before .before .before .before .before .before .before .before .before .before .before .before .before .pre .1 .below) (c .before .before .before .before .before .before .before .before .before .before .before .before .before .loop-test .taken) (rw (c .before .before .before .before .before .before .before .before .before .before .before .before .move-at .ensures) at (sym (c .before .before .before .before .before .before .before .before .before .before .backs .ensures) ∙ c .before .before .before .before .before .before .before .before .before .if1 .taken)) (rw (c .before .before .before .before .before .before .before .before .before .before .before .before .move-at .ensures) at (c .before .before .before .before .before .before .before .put .ensures)) (rw (c .before .before .before .before .before .before .before .before .before .before .before .before .move-at .ensures) at (c .before .before .before .note .ensures)) (c .next .ensures)
+loop-again c =
+    let p = at-put (c .before) in
+    let h = at-then p in
+    let t = at-turn (h .before) in
+    let s = at-start (at-loop t) in
+    let inv = at-loop t .loop .inv in (
+      back-add (inv .0) (s .pre .0) (s .pre .1 .0 .below) (t .turn-at .ensures .fits) (h .before .before .before .move-at .ensures)
+          (h .before .backs .ensures) (h .if1 .taken) (p .before .before .put .ensures) (c .before .before .before .note .ensures),
+      sweeping-anew _ (simp length-set (inv .1 .named)) (t .turn-at .ensures .names) (λ _. c .next .ensures .fits),
+    )
 
 add-quiet : tie.Need-add-quiet Inv-loop μ-loop
-add-quiet c = omega arith
+add-quiet c =
+    let t = at-turn (c .before) in
+    omega (arith, turn-quiet (t .turn-at .ensures) (t .before .before .loop-test .taken), at-start (at-loop t) .pre .0 .few)
 
 next-requires-2 : tie.Need-next-requires-2 Inv-loop μ-loop
-next-requires-2 c κs = back-here (c .before .before .before .before .before .loop .inv) (c .before .before .before .before .before .before .before .before .before .before .before .before .pre .0) (c .before .before .before .before .loop-test .taken)
+next-requires-2 c κs = at-turn (c .before) .turn-at .ensures .fits
 
 loop-less-2 : tie.Need-loop-less-2 Inv-loop μ-loop
-loop-less-2 c = back-skip-less _ _ _ (c .before .before .before .before .before .loop-test .taken)
+loop-less-2 c =
+    let t = at-turn (c .before .before) in
+    quiet-less _ (t .turn-at .ensures) (t .before .before .loop-test .taken)
 
 loop-again-2 : tie.Need-loop-again-2 Inv-loop μ-loop
-loop-again-2 c = back-skip (c .before .before .before .before .before .before .loop .inv) (c .before .before .before .before .before .before .before .before .before .before .before .before .before .pre .0) (c .before .before .before .before .before .loop-test .taken) (rw (c .before .before .before .before .move-at .ensures) at (sym (c .before .before .backs .ensures) ∙ c .before .if1 .left)) (c .next2 .ensures)
+loop-again-2 c =
+    let t = at-turn (c .before .before) in
+    let inv = at-loop t .loop .inv in
+    let m = after-move-at (c .before .before) .move-at .ensures in
+    let still = backs-not (inv .0) (at-start (at-loop t) .pre .0) (t .turn-at .ensures .fits) m
+    (c .before .before .backs .ensures) (c .before .if1 .left) in
+    (inv .0, sweeping-quiet (inv .1) (t .turn-at .ensures) still (c .next2 .ensures))
 
 same-length : tie.Need-same-length Inv-loop μ-loop
-same-length c = c .before .loop .inv .whole .size ∙ sym (c .before .before .before .before .before .before .before .before .pre .1 .whole .size)
+same-length c = c .before .loop .inv .1 .named ∙ sym (at-start (c .before) .pre .1 .1)
 
 same-length-2 : tie.Need-same-length-2 Inv-loop μ-loop
-same-length-2 c = c .before .loop .inv .size
+same-length-2 c = c .before .loop .inv .0 .whole .size ∙ sym (at-start (c .before) .pre .1 .0 .whole .size)
+
+same-length-3 : tie.Need-same-length-3 Inv-loop μ-loop
+same-length-3 c = c .before .loop .inv .0 .size
 
 returns : tie.Need-returns Inv-loop μ-loop
-returns c = back-closed (c .before .loop .inv) (c .before .before .before .before .before .before .before .before .pre .0) (c .loop-test .left)
+returns c = back-closed (c .before .loop .inv .0) (at-start (c .before) .pre .0) (sweeping-ended (c .before .loop .inv .1) (c .loop-test .left))
 
 pub back-spec : {M : Type 1} → statement M
 back-spec =
@@ -67,9 +169,14 @@ back-spec =
     Inv-loop
     μ-loop
     loop-holds
+    turn-at-requires
     move-at-requires
     backs-requires
     put-requires
+    cast-deleted
+    sub-deleted
+    mul-deleted
+    slice-write-deleted
     sub-at
     note-requires
     next-requires
@@ -81,4 +188,5 @@ back-spec =
     loop-again-2
     same-length
     same-length-2
+    same-length-3
     returns)

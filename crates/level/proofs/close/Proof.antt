@@ -1,67 +1,161 @@
--- The sweep of the additions. Its invariant is `Kept`: the last `quiet` moves before `i` do not fire. Assumes nothing.
-use mathlib.Core.Path.{sym, _∙_}
+-- The sweep of the additions. Its invariant is `Kept`, with `Adding`: the last `quiet` moves before `i` do not fire. A turn may take it to a move that `added` names, of which nothing is claimed but that there
+-- are 160 names. The measure counts the additions that may follow, the names that are left and the moves that are not quiet. Assumes nothing.
+use mathlib.Core.Path.{_≡_, sym, _∙_}
+use Prim.Native.Nat.{_+_, _-_, _<_}
 use native.Mathlib.Omega.{arith}
+use lib.ListN.{length, length-set}
 use Rattle.level.specs.Moves.{movesIn}
-use Rattle.level.proofs.SweepLaws.{Kept, kept-first, here, fine-here, room-left, kept-add, kept-skip, kept-closed, steps-left, add-less, skip-less}
+use Rattle.level.proofs.TurnLaws.{sweeping-anew, turn-ready, turn-quiet, sweeping-quiet, sweeping-ended, steps-left, fired-less, quiet-less}
+use Rattle.level.proofs.SweepLaws.{Kept, Adding, fires-not, kept-first, listed-fine, room-left, kept-add, kept-closed}
 use Rattle.level.proofs.close.Statement.{statement}
 use Rattle.level.proofs.close.Tie as tie
 
 abbrev Inv-loop : tie.InvT-loop
-Inv-loop adds subject table allowed x₀ start out₀ count n₀ quiet₀ i₀ x out n quiet i = Kept (movesIn adds) subject table allowed x₀ x start out₀ out n i quiet
+Inv-loop adds added₀ subject table allowed x₀ start out₀ count n₀ quiet₀ i₀ tried₀ added x out n quiet i tried =
+    Kept (movesIn adds) subject table allowed x₀ x start out₀ out n × Adding (movesIn adds) allowed x (length added) tried i quiet
 
 abbrev μ-loop : tie.MeasureT-loop
-μ-loop adds subject table allowed x₀ start out₀ count n₀ quiet₀ i₀ x out n quiet i = steps-left count n quiet
+μ-loop adds added₀ subject table allowed x₀ start out₀ count n₀ quiet₀ i₀ tried₀ added x out n quiet i tried = steps-left count (160 - n) tried quiet
+
+-- The loop and the start, before a turn; the turn before a move that is tested; the test before what is put in; what is put in before what is noted.
+abbrev at-loop : tie.After-turn-at Inv-loop μ-loop → tie.At-loop Inv-loop μ-loop
+at-loop c = c .before .before .before
+
+abbrev at-start : tie.At-loop Inv-loop μ-loop → tie.Start Inv-loop μ-loop
+at-start c = c .before .before .before .before .before .before .before
+
+abbrev at-turn : tie.After-fires Inv-loop μ-loop → tie.After-turn-at Inv-loop μ-loop
+at-turn c = c .before .before .before
+
+abbrev at-then : tie.After-slice-known4 Inv-loop μ-loop → tie.Then1 Inv-loop μ-loop
+at-then c = c .before .before .before .before
+
+abbrev at-put : tie.After-slice-known5 Inv-loop μ-loop → tie.After-slice-known4 Inv-loop μ-loop
+at-put c = c .before .before .before .before
+
+abbrev at-start-from-slice-known3 : tie.After-slice-known3 Inv-loop μ-loop → tie.Start Inv-loop μ-loop
+at-start-from-slice-known3 c = c .before .before .before .before .before .before
+
+abbrev after-move-at : tie.After-fires Inv-loop μ-loop → tie.After-move-at Inv-loop μ-loop
+after-move-at c = c .before .before
 
 loop-holds : tie.Need-loop-holds Inv-loop μ-loop
-loop-holds c = kept-first (movesIn (c .before .before .before .before .before .args .adds .now)) (c .before .before .before .before .before .args .subject) (c .before .before .before .before .before .args .out .now) (c .before .before .before .before .before .pre .1)
+loop-holds c =
+    let s = at-start-from-slice-known3 c in (
+      kept-first (movesIn (s .args .adds .now)) (s .args .subject) (s .args .out .now) (s .pre .1 .0),
+      sweeping-anew _
+          (s .pre .1 .1) (omega arith) (λ h. h),
+    )
+
+turn-at-requires : tie.Need-turn-at-requires Inv-loop μ-loop
+turn-at-requires c κs = turn-ready (c .before .before .loop .inv .1) (c .before .loop-test .taken)
 
 move-at-requires : tie.Need-move-at-requires Inv-loop μ-loop
-move-at-requires c κs = let i = here (c .before .loop .inv) (c .before .before .before .before .before .before .before .pre .0) (c .loop-test .taken) in (omega (arith, i, c .before .before .before .before .before .before .before .pre .0 .few), omega (arith, i, c .before .before .before .before .before .before .before .pre .0 .room))
+move-at-requires c κs =
+    let sound = at-start (at-loop c) .pre .0 in
+    (omega (arith, c .turn-at .ensures .fits, sound .few), omega (arith, c .turn-at .ensures .fits, sound .room))
 
 fires-requires : tie.Need-fires-requires Inv-loop μ-loop
-fires-requires c κs = rw (c .before .move-at .ensures) (fine-here (c .before .before .before .loop .inv) (c .before .before .before .before .before .before .before .before .before .pre .0) (c .before .before .loop-test .taken), (c .before .before .before .loop .inv .whole .size, c .before .before .before .before .before .before .before .before .before .pre .1 .length-allowed))
+fires-requires c κs =
+    let t = c .before .before in
+    let s = at-start (at-loop t) in
+    (listed-fine (s .pre .0) (t .turn-at .ensures .fits) (c .before .move-at .ensures), (at-loop t .loop .inv .0 .whole .size, s .pre .1 .0 .length-allowed))
 
 put-requires : tie.Need-put-requires Inv-loop μ-loop
-put-requires c κs = rw (c .before .before .before .before .move-at .ensures) (fine-here (c .before .before .before .before .before .before .loop .inv) (c .before .before .before .before .before .before .before .before .before .before .before .before .pre .0) (c .before .before .before .before .before .loop-test .taken) .fact, (c .before .before .before .before .before .before .loop .inv .whole .size, c .before .before .before .before .before .before .loop .inv .whole .rows))
+put-requires c κs =
+    let t = at-turn (c .before .before) in
+    let w = at-loop t .loop .inv .0 .whole in (
+      listed-fine (at-start (at-loop t) .pre .0) (t .turn-at .ensures .fits)
+          (after-move-at (c .before .before) .move-at .ensures) .fact,
+      (w .size, w .rows),
+    )
+
+-- A move fires only where there is room for its request.
+room : (c : tie.Then1 Inv-loop μ-loop) → at-loop (at-turn (c .before)) .loop .n < 160
+room c =
+    let t = at-turn (c .before) in
+    room-left (at-loop t .loop .inv .0) (at-start (at-loop t) .pre .0) (t .turn-at .ensures .fits) (c .before .before .before .move-at .ensures)
+    (c .before .fires .ensures) (c .if1 .taken)
 
 add-note : tie.Need-add-note Inv-loop μ-loop
-add-note c = omega (arith, room-left (c .before .before .before .before .before .before .before .before .before .loop .inv) (c .before .before .before .before .before .before .before .before .before .before .before .before .before .before .before .pre .0) (c .before .before .before .before .before .before .before .before .loop-test .taken) (rw (c .before .before .before .before .before .before .before .move-at .ensures) at (sym (c .before .before .before .before .before .fires .ensures) ∙ c .before .before .before .before .if1 .taken)), c .before .before .before .before .before .before .before .before .before .before .before .before .before .before .before .pre .1 .room)
+add-note c =
+    let s = at-start (at-loop (at-turn (at-then c .before))) in
+    omega (arith, room (at-then c), s .pre .1 .0 .room, s .good .1 .1 .1 .1 .1 .1 .1 .0)
 
 note-requires : tie.Need-note-requires Inv-loop μ-loop
-note-requires c κs = rw (c .before .before .before .before .before .before .before .before .move-at .ensures) (fine-here (c .before .before .before .before .before .before .before .before .before .before .loop .inv) (c .before .before .before .before .before .before .before .before .before .before .before .before .before .before .before .before .pre .0) (c .before .before .before .before .before .before .before .before .before .loop-test .taken), omega (arith, room-left (c .before .before .before .before .before .before .before .before .before .before .loop .inv) (c .before .before .before .before .before .before .before .before .before .before .before .before .before .before .before .before .pre .0) (c .before .before .before .before .before .before .before .before .before .loop-test .taken) (rw (c .before .before .before .before .before .before .before .before .move-at .ensures) at (sym (c .before .before .before .before .before .before .fires .ensures) ∙ c .before .before .before .before .before .if1 .taken)), c .before .before .before .before .before .before .before .before .before .before .before .before .before .before .before .before .pre .1 .room, c .before .before .before .before .before .before .before .before .before .before .loop .inv .size))
+note-requires c κs =
+    let h = at-then (c .before) in
+    let t = at-turn (h .before) in
+    let k = at-loop t .loop .inv .0 in
+    let s = at-start (at-loop t) in
+    (listed-fine (s .pre .0) (t .turn-at .ensures .fits) (h .before .before .before .move-at .ensures), omega (arith, room h, k .size, s .pre .1 .0 .room))
+
+cast-added : tie.Need-cast-added Inv-loop μ-loop
+cast-added c =
+    let t = at-turn (at-then (at-put c) .before) in
+    omega (arith, t .turn-at .ensures .fits, at-start (at-loop t) .pre .0 .few)
+
+mul-added : tie.Need-mul-added Inv-loop μ-loop
+mul-added c = omega (arith, room (at-then (at-put c)))
+
+slice-write-added : tie.Need-slice-write-added Inv-loop μ-loop
+slice-write-added c =
+    let h = at-then (at-put c) in
+    omega (arith, room h, at-loop (at-turn (h .before)) .loop .inv .1 .named)
 
 add-n : tie.Need-add-n Inv-loop μ-loop
-add-n c = omega (arith, room-left (c .before .before .before .before .before .before .before .before .before .before .before .before .before .loop .inv) (c .before .before .before .before .before .before .before .before .before .before .before .before .before .before .before .before .before .before .before .pre .0) (c .before .before .before .before .before .before .before .before .before .before .before .before .loop-test .taken) (rw (c .before .before .before .before .before .before .before .before .before .before .before .move-at .ensures) at (sym (c .before .before .before .before .before .before .before .before .before .fires .ensures) ∙ c .before .before .before .before .before .before .before .before .if1 .taken)))
+add-n c = omega (arith, room (at-then (at-put c)))
 
 next-requires : tie.Need-next-requires Inv-loop μ-loop
-next-requires c κs = here (c .before .before .before .before .before .before .before .before .before .before .before .before .before .loop .inv) (c .before .before .before .before .before .before .before .before .before .before .before .before .before .before .before .before .before .before .before .pre .0) (c .before .before .before .before .before .before .before .before .before .before .before .before .loop-test .taken)
+next-requires c κs = at-turn (at-then (at-put c) .before) .turn-at .ensures .fits
 
 loop-less : tie.Need-loop-less Inv-loop μ-loop
-loop-less c = add-less _ _ _ (room-left (c .before .before .before .before .before .before .before .before .before .before .before .before .before .before .loop .inv) (c .before .before .before .before .before .before .before .before .before .before .before .before .before .before .before .before .before .before .before .before .pre .0) (c .before .before .before .before .before .before .before .before .before .before .before .before .before .loop-test .taken) (rw (c .before .before .before .before .before .before .before .before .before .before .before .before .move-at .ensures) at (sym (c .before .before .before .before .before .before .before .before .before .before .fires .ensures) ∙ c .before .before .before .before .before .before .before .before .before .if1 .taken))) (c .before .before .before .before .before .before .before .before .before .before .before .before .before .loop-test .taken)
+loop-less c = fired-less _ _ _ _ (omega (arith, room (at-then (at-put (c .before)))))
 
 loop-again : tie.Need-loop-again Inv-loop μ-loop
-loop-again c = kept-add (c .before .before .before .before .before .before .before .before .before .before .before .before .before .before .loop .inv) (c .before .before .before .before .before .before .before .before .before .before .before .before .before .before .before .before .before .before .before .before .pre .0) (c .before .before .before .before .before .before .before .before .before .before .before .before .before .loop-test .taken) (rw (c .before .before .before .before .before .before .before .before .before .before .before .before .move-at .ensures) at (sym (c .before .before .before .before .before .before .before .before .before .before .fires .ensures) ∙ c .before .before .before .before .before .before .before .before .before .if1 .taken)) (rw (c .before .before .before .before .before .before .before .before .before .before .before .before .move-at .ensures) at (c .before .before .before .before .before .before .before .put .ensures)) (rw (c .before .before .before .before .before .before .before .before .before .before .before .before .move-at .ensures) at (c .before .before .before .note .ensures)) (c .next .ensures)
+loop-again c =
+    let p = at-put (c .before) in
+    let h = at-then p in
+    let t = at-turn (h .before) in
+    let inv = at-loop t .loop .inv in (
+      kept-add (inv .0) (at-start (at-loop t) .pre .0) (t .turn-at .ensures .fits) (h .before .before .before .move-at .ensures)
+          (h .before .fires .ensures) (h .if1 .taken) (p .before .before .put .ensures) (c .before .before .before .note .ensures),
+      sweeping-anew _ (simp length-set (inv .1 .named)) (t .turn-at .ensures .names) (λ _. c .next .ensures .fits),
+    )
 
 add-quiet : tie.Need-add-quiet Inv-loop μ-loop
-add-quiet c = omega arith
+add-quiet c =
+    let t = at-turn (c .before) in
+    omega (arith, turn-quiet (t .turn-at .ensures) (t .before .before .loop-test .taken), at-start (at-loop t) .pre .0 .few)
 
 next-requires-2 : tie.Need-next-requires-2 Inv-loop μ-loop
-next-requires-2 c κs = here (c .before .before .before .before .before .loop .inv) (c .before .before .before .before .before .before .before .before .before .before .before .pre .0) (c .before .before .before .before .loop-test .taken)
+next-requires-2 c κs = at-turn (c .before) .turn-at .ensures .fits
 
 loop-less-2 : tie.Need-loop-less-2 Inv-loop μ-loop
-loop-less-2 c = skip-less _ _ _ (c .before .before .before .before .before .loop-test .taken)
+loop-less-2 c =
+    let t = at-turn (c .before .before) in
+    quiet-less _ (t .turn-at .ensures) (t .before .before .loop-test .taken)
 
 loop-again-2 : tie.Need-loop-again-2 Inv-loop μ-loop
-loop-again-2 c = kept-skip (c .before .before .before .before .before .before .loop .inv) (c .before .before .before .before .before .before .before .before .before .before .before .before .pre .0) (c .before .before .before .before .before .loop-test .taken) (rw (c .before .before .before .before .move-at .ensures) at (sym (c .before .before .fires .ensures) ∙ c .before .if1 .left)) (c .next2 .ensures)
+loop-again-2 c =
+    let t = at-turn (c .before .before) in
+    let inv = at-loop t .loop .inv in
+    let m = after-move-at (c .before .before) .move-at .ensures in
+    let still = fires-not (inv .0) (at-start (at-loop t) .pre .0) (t .turn-at .ensures .fits) m
+    (c .before .before .fires .ensures) (c .before .if1 .left) in
+    (inv .0, sweeping-quiet (inv .1) (t .turn-at .ensures) still (c .next2 .ensures))
 
 same-length : tie.Need-same-length Inv-loop μ-loop
-same-length c = c .before .loop .inv .whole .size ∙ sym (c .before .before .before .before .before .before .before .pre .1 .whole .size)
+same-length c = c .before .loop .inv .1 .named ∙ sym (at-start (c .before) .pre .1 .1)
 
 same-length-2 : tie.Need-same-length-2 Inv-loop μ-loop
-same-length-2 c = c .before .loop .inv .size
+same-length-2 c = c .before .loop .inv .0 .whole .size ∙ sym (at-start (c .before) .pre .1 .0 .whole .size)
+
+same-length-3 : tie.Need-same-length-3 Inv-loop μ-loop
+same-length-3 c = c .before .loop .inv .0 .size
 
 returns : tie.Need-returns Inv-loop μ-loop
-returns c = kept-closed (c .before .loop .inv) (c .before .before .before .before .before .before .before .pre .0) (c .loop-test .left)
+returns c = kept-closed (c .before .loop .inv .0) (at-start (c .before) .pre .0) (sweeping-ended (c .before .loop .inv .1) (c .loop-test .left))
 
 pub close-spec : {M : Type 1} → statement M
 close-spec =
@@ -70,11 +164,15 @@ close-spec =
     Inv-loop
     μ-loop
     loop-holds
+    turn-at-requires
     move-at-requires
     fires-requires
     put-requires
     add-note
     note-requires
+    cast-added
+    mul-added
+    slice-write-added
     add-n
     next-requires
     loop-less
@@ -85,4 +183,5 @@ close-spec =
     loop-again-2
     same-length
     same-length-2
+    same-length-3
     returns)

@@ -1,34 +1,61 @@
 -- A round: additions closed, forbidden facts left out, deletions closed backwards (`rounded`). Assumes nothing.
+use mathlib.Core.Path.{sym, _∙_}
 use Rattle.level.proofs.SettleLaws.{ready, ready-back, rounded}
 use borrow.Author.Needs.{needs}
 use Rattle.level.proofs.round.Statement.{statement}
 use Rattle.level.proofs.round.Tie as tie
 
+-- The places that the answers name, each seen from a later one.
+abbrev start : tie.After-build-arg → tie.Start
+start c = c .before .before .before .before .before .before .before .before .before .before .before .before .before .before
+
+abbrev after-build : tie.After-close-arg3 → tie.After-build
+after-build c = c .before .before .before .before .before
+
+abbrev after-close : tie.After-strip-arg2 → tie.After-close
+after-close c = c .before .before .before .before .before .before .before .before
+
+abbrev after-strip : tie.After-build-arg3 → tie.After-strip
+after-strip c = c .before .before .before .before
+
+abbrev after-build2 : tie.After-back-arg4 → tie.After-build2
+after-build2 c = c .before .before .before .before .before .before
+
+abbrev after-back : tie.After-slice-known16 → tie.After-back
+after-back c = c .before .before .before .before .before .before
+
 build-requires : tie.Need-build-requires
-build-requires c κs = search needs
+build-requires c κs = (start c .pre .1 .0 .size-x, (start c .pre .1 .0 .rows, start c .pre .1 .0 .size-s))
 
 close-requires : tie.Need-close-requires
 close-requires c κs =
-    let at-build = c .before .before .before .before in
-    let at-start = at-build .before .before .before .before .before .before .before .before .before .before .before .before .before in
-    (at-start .pre .0 .0, ready (at-start .pre .1 .0) (at-build .build .ensures) (at-start .pre .1 .1))
+    let at-start = start (after-build c .before) in (
+      at-start .pre .0 .0,
+      (ready (at-start .pre .1 .0) (after-build c .build .ensures) (at-start .pre .1 .1 .0), at-start .pre .1 .1 .1 .0),
+    )
 
 strip-requires : tie.Need-strip-requires
-strip-requires c κs = search needs
+strip-requires c κs =
+    let at-start = start (after-build (after-close c .before) .before) in
+    (after-close c .close .ensures .whole .size, (at-start .pre .1 .0 .size-bad, at-start .pre .1 .0 .size-d))
 
 build-requires-2 : tie.Need-build-requires-2
 build-requires-2 c κs =
-    let at-strip = c .before .before .before .before in
-    let at-start = at-strip .before .before .before .before .before .before .before .before .before .before .before .before .before .before .before .before .before .before .before .before .before .before .before .before .before in
-    (at-start .pre .1 .0 .size-y, (at-start .pre .1 .0 .rows, at-strip .strip .ensures .size))
+    let at-start = start (after-build (after-close (after-strip c .before) .before) .before) in
+    (at-start .pre .1 .0 .size-y, (at-start .pre .1 .0 .rows, after-strip c .strip .ensures .size))
 
 back-requires : tie.Need-back-requires
 back-requires c κs =
-    let at-build2 = c .before .before .before .before .before in
-    let at-strip = at-build2 .before .before .before .before .before in
-    let at-close = at-strip .before .before .before .before .before .before .before in
-    let at-start = at-close .before .before .before .before .before .before .before .before .before .before .before .before .before .before .before .before .before .before in
-    (at-start .pre .0 .1, ready-back (at-start .pre .1 .0) (at-close .close .ensures .whole) (at-strip .strip .ensures) (at-build2 .build2 .ensures))
+    let at-strip = after-strip (after-build2 c .before) in
+    let at-close = after-close (at-strip .before) in
+    let at-start = start (after-build (at-close .before) .before) in (
+      at-start .pre .0 .1,
+      (
+        ready-back (at-start .pre .1 .0) (at-close .close .ensures .whole) (at-strip .strip .ensures)
+            (after-build2 c .build2 .ensures),
+        at-start .pre .1 .1 .1 .1,
+      ),
+    )
 
 same-length : tie.Need-same-length
 same-length c = search needs
@@ -37,7 +64,9 @@ same-length-2 : tie.Need-same-length-2
 same-length-2 c = search needs
 
 same-length-3 : tie.Need-same-length-3
-same-length-3 c = search needs
+same-length-3 c =
+    let at-close = after-close (after-strip (after-build2 (after-back c .before) .before) .before) in
+    at-close .close .ensures .whole .size ∙ sym (start (after-build (at-close .before) .before) .pre .1 .0 .size-x)
 
 same-length-4 : tie.Need-same-length-4
 same-length-4 c = search needs
@@ -45,14 +74,19 @@ same-length-4 c = search needs
 same-length-5 : tie.Need-same-length-5
 same-length-5 c = search needs
 
+same-length-6 : tie.Need-same-length-6
+same-length-6 c = search needs
+
+same-length-7 : tie.Need-same-length-7
+same-length-7 c = search needs
+
 returns : tie.Need-returns
 returns c =
-    let at-back = c .before .before .before .before in
-    let at-strip = at-back .before .before .before .before .before .before .before .before .before .before .before in
-    let at-close = at-strip .before .before .before .before .before .before .before in
-    let at-build = at-close .before .before .before .before .before in
-    let at-start = at-build .before .before .before .before .before .before .before .before .before .before .before .before .before in
-    rounded (at-start .pre .1 .0) (at-build .build .ensures) (at-close .close .ensures) (at-strip .strip .ensures) (at-back .back .ensures)
+    let at-strip = after-strip (after-build2 (after-back c .before) .before) in
+    let at-close = after-close (at-strip .before) in
+    let at-build = after-build (at-close .before) in
+    rounded (start (at-build .before) .pre .1 .0) (at-build .build .ensures) (at-close .close .ensures)
+    (at-strip .strip .ensures) (after-back c .back .ensures)
 
 pub round-spec : {M : Type 1} → statement M
 round-spec =
@@ -68,4 +102,6 @@ round-spec =
     same-length-3
     same-length-4
     same-length-5
+    same-length-6
+    same-length-7
     returns)

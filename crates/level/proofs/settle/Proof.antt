@@ -1,6 +1,7 @@
 -- Rounds until the level is settled or a starting fact is lacking. The invariant is `Going`; the measure is how many facts are allowed. Assumes nothing.
 use native.Mathlib.Omega.{arith}
-use mathlib.Core.Path.{sym, _∙_}
+use mathlib.Core.Path.{_≡_, sym, _∙_}
+use lib.ListN.{length}
 use Rattle.theory.specs.Facts.{count}
 use Rattle.level.specs.Shown.{direct}
 use Rattle.level.specs.Moves.{movesIn}
@@ -9,91 +10,169 @@ use Rattle.level.proofs.settle.Statement.{statement}
 use Rattle.level.proofs.settle.Tie as tie
 
 abbrev Inv-loop : tie.InvT-loop
-Inv-loop adds dels subject table bad s u₀ x₀ y₀ d₀ start up₀ end down₀ u x y d up down = Going (movesIn adds) (movesIn dels) subject table bad s u₀ u x y d start up₀ up end down₀ down
+Inv-loop adds dels added₀ deleted₀ subject table bad s u₀ x₀ y₀ d₀ start up₀ end down₀ added deleted u x y d up down = Going (movesIn adds) (movesIn dels) subject table bad s u₀ u x y d start up₀ up end down₀ down × ((length added ≡ 160) × (length deleted ≡ 160))
 
 abbrev μ-loop : tie.MeasureT-loop
-μ-loop adds dels subject table bad s u₀ x₀ y₀ d₀ start up₀ end down₀ u x y d up down = count (direct u) 160
+μ-loop adds dels added₀ deleted₀ subject table bad s u₀ x₀ y₀ d₀ start up₀ end down₀ added deleted u x y d up down = count (direct u) 160
+
+-- The places that the answers name, each seen from a later one.
+abbrev start : tie.After-slice-known8 Inv-loop μ-loop → tie.Start Inv-loop μ-loop
+start c = c .before .before .before .before .before .before .before .before .before .before .before .before .before
+
+abbrev loop-head : tie.After-round-arg8 Inv-loop μ-loop → tie.At-loop Inv-loop μ-loop
+loop-head c = c .before .before .before .before .before .before .before .before
+
+abbrev after-deleted : tie.After-lacks-arg2 Inv-loop μ-loop → tie.After-deleted Inv-loop μ-loop
+after-deleted c = c .before .before .before .before .before .before .before .before .before .before .before .before .before
+
+abbrev after-round : tie.After-lacks Inv-loop μ-loop → tie.After-round Inv-loop μ-loop
+after-round c = after-deleted (c .before) .before .before .before
+
+abbrev after-added : tie.Then2 Inv-loop μ-loop → tie.After-added Inv-loop μ-loop
+after-added c = after-deleted (c .before .before .before .before .before) .before .before
+
+abbrev else1 : tie.After-lacks2 Inv-loop μ-loop → tie.Else1 Inv-loop μ-loop
+else1 c = c .before .before
+
+abbrev else2 : tie.After-slice-known16 Inv-loop μ-loop → tie.Else2 Inv-loop μ-loop
+else2 c = c .before .before .before .before .before
 
 loop-holds : tie.Need-loop-holds Inv-loop μ-loop
-loop-holds c =
-    let at-start = c .before .before .before .before .before .before .before .before .before .before .before in
-    going-first (movesIn (at-start .args .adds .now)) (movesIn (at-start .args .dels .now)) (at-start .args .subject) (at-start .pre .1 .0) (at-start .pre .1 .1)
+loop-holds c = (
+  going-first (movesIn (start c .args .adds .now)) (movesIn (start c .args .dels .now)) (start c .args .subject)
+      (start c .pre .1 .0) (start c .pre .1 .1 .0),
+  start c .pre .1 .1 .1,
+)
 
 round-requires : tie.Need-round-requires Inv-loop μ-loop
-round-requires c κs =
-    let at-loop = c .before .before .before .before .before .before in
-    let at-start = at-loop .before .before .before .before .before .before .before .before .before .before .before .before in
-    (at-start .pre .0, (at-loop .loop .inv .sizes, at-loop .loop .inv .within))
+round-requires c κs = (
+  start (loop-head c .before) .pre .0,
+  (loop-head c .loop .inv .0 .sizes, (loop-head c .loop .inv .0 .within, loop-head c .loop .inv .1)),
+)
 
 lacks-requires : tie.Need-lacks-requires Inv-loop μ-loop
-lacks-requires c κs =
-    let at-round = c .before .before .before .before .before .before .before .before .before .before .before .before in
-    (omega (arith, at-round .round .ensures .sizes .size-x), omega (arith, at-round .round .ensures .sizes .size-y))
+lacks-requires c κs = (
+  omega (arith, after-deleted c .before .before .before .round .ensures .sizes .size-x),
+  omega (arith, after-deleted c .before .before .before .round .ensures .sizes .size-y),
+)
 
 same-length : tie.Need-same-length Inv-loop μ-loop
 same-length c =
-    let at-loop = c .before .before .before .before .before .before .before .before .before .before .before .before .before .before .before .before .before .before .before .before .before in
-    let at-start = at-loop .before .before .before .before .before .before .before .before .before .before .before .before in
-    at-loop .loop .inv .sizes .size-u ∙ sym (at-start .pre .1 .0 .size-u)
+    let at-loop = loop-head (after-round (c .before) .before) in
+    (after-deleted (c .before .before) .before .before .added .given ∙ at-loop .loop .inv .1 .0) ∙ sym (start (at-loop .before) .pre .1 .1 .1 .0)
 
 same-length-2 : tie.Need-same-length-2 Inv-loop μ-loop
-same-length-2 c = c .before .before .before .before .before .before .before .before .before .before .before .before .before .before .round .ensures .sizes .size-x ∙ sym (c .before .before .before .before .before .before .before .before .before .before .before .before .before .before .before .before .before .before .before .before .before .before .before .before .before .before .before .before .before .before .before .before .before .pre .1 .0 .size-x)
+same-length-2 c =
+    let at-loop = loop-head (after-round (c .before) .before) in
+    (after-deleted (c .before .before) .deleted .given ∙ at-loop .loop .inv .1 .1) ∙ sym (start (at-loop .before) .pre .1 .1 .1 .1)
 
 same-length-3 : tie.Need-same-length-3 Inv-loop μ-loop
-same-length-3 c = c .before .before .before .before .before .before .before .before .before .before .before .before .before .before .round .ensures .sizes .size-y ∙ sym (c .before .before .before .before .before .before .before .before .before .before .before .before .before .before .before .before .before .before .before .before .before .before .before .before .before .before .before .before .before .before .before .before .before .pre .1 .0 .size-y)
+same-length-3 c =
+    let at-loop = loop-head (after-round (c .before) .before) in
+    at-loop .loop .inv .0 .sizes .size-u ∙ sym (start (at-loop .before) .pre .1 .0 .size-u)
 
 same-length-4 : tie.Need-same-length-4 Inv-loop μ-loop
-same-length-4 c = c .before .before .before .before .before .before .before .before .before .before .before .before .before .before .round .ensures .sizes .size-d ∙ sym (c .before .before .before .before .before .before .before .before .before .before .before .before .before .before .before .before .before .before .before .before .before .before .before .before .before .before .before .before .before .before .before .before .before .pre .1 .0 .size-d)
+same-length-4 c =
+    let at-round = after-round (c .before) in
+    at-round .round .ensures .sizes .size-x ∙ sym (start (loop-head (at-round .before) .before) .pre .1 .0 .size-x)
 
 same-length-5 : tie.Need-same-length-5 Inv-loop μ-loop
-same-length-5 c = c .before .before .before .before .before .before .before .before .before .before .before .before .before .before .round .ensures .length-up ∙ c .before .before .before .before .before .before .before .before .before .before .before .before .before .before .before .before .before .before .before .before .before .loop .inv .length-up
+same-length-5 c =
+    let at-round = after-round (c .before) in
+    at-round .round .ensures .sizes .size-y ∙ sym (start (loop-head (at-round .before) .before) .pre .1 .0 .size-y)
 
 same-length-6 : tie.Need-same-length-6 Inv-loop μ-loop
-same-length-6 c = c .before .before .before .before .before .before .before .before .before .before .before .before .before .before .round .ensures .length-down ∙ c .before .before .before .before .before .before .before .before .before .before .before .before .before .before .before .before .before .before .before .before .before .loop .inv .length-down
-
-returns : tie.Need-returns Inv-loop μ-loop
-returns c = result-found (settled (c .before .before .before .before .before .before .before .before .before .before .before .before .before .before .before .before .before .before .before .before .before .loop .inv) (c .before .before .before .before .before .before .before .before .before .before .before .before .before .before .round .ensures) (c .before .lacks .ensures) (c .if1 .taken))
-
-lacks-requires-2 : tie.Need-lacks-requires-2 Inv-loop μ-loop
-lacks-requires-2 c κs =
-    let at-round = c .before .before .before .before .before .before .before .before .before .before .before .before .before .before .before in
-    (omega (arith, at-round .round .ensures .sizes .size-s), omega (arith, at-round .round .ensures .sizes .size-y))
+same-length-6 c =
+    let at-round = after-round (c .before) in
+    at-round .round .ensures .sizes .size-d ∙ sym (start (loop-head (at-round .before) .before) .pre .1 .0 .size-d)
 
 same-length-7 : tie.Need-same-length-7 Inv-loop μ-loop
 same-length-7 c =
-    let at-loop = c .before .before .before .before .before .before .before .before .before .before .before .before .before .before .before .before .before .before .before .before .before .before .before .before in
-    let at-start = at-loop .before .before .before .before .before .before .before .before .before .before .before .before in
-    at-loop .loop .inv .sizes .size-u ∙ sym (at-start .pre .1 .0 .size-u)
+    let at-round = after-round (c .before) in
+    at-round .round .ensures .length-up ∙ loop-head (at-round .before) .loop .inv .0 .length-up
 
 same-length-8 : tie.Need-same-length-8 Inv-loop μ-loop
-same-length-8 c = c .before .before .before .before .before .before .before .before .before .before .before .before .before .before .before .before .before .round .ensures .sizes .size-x ∙ sym (c .before .before .before .before .before .before .before .before .before .before .before .before .before .before .before .before .before .before .before .before .before .before .before .before .before .before .before .before .before .before .before .before .before .before .before .before .pre .1 .0 .size-x)
+same-length-8 c =
+    let at-round = after-round (c .before) in
+    at-round .round .ensures .length-down ∙ loop-head (at-round .before) .loop .inv .0 .length-down
+
+returns : tie.Need-returns Inv-loop μ-loop
+returns c =
+    let at-round = after-round (c .before) in
+    result-found (settled (loop-head (at-round .before) .loop .inv .0) (at-round .round .ensures) (c .before .lacks .ensures)
+    (c .if1 .taken))
+
+lacks-requires-2 : tie.Need-lacks-requires-2 Inv-loop μ-loop
+lacks-requires-2 c κs =
+    let at-round = after-round (c .before .before) in
+    (omega (arith, at-round .round .ensures .sizes .size-s), omega (arith, at-round .round .ensures .sizes .size-y))
 
 same-length-9 : tie.Need-same-length-9 Inv-loop μ-loop
-same-length-9 c = c .before .before .before .before .before .before .before .before .before .before .before .before .before .before .before .before .before .round .ensures .sizes .size-y ∙ sym (c .before .before .before .before .before .before .before .before .before .before .before .before .before .before .before .before .before .before .before .before .before .before .before .before .before .before .before .before .before .before .before .before .before .before .before .before .pre .1 .0 .size-y)
+same-length-9 c =
+    let at-loop = loop-head (after-added c .before .before) in
+    (after-added c .added .given ∙ at-loop .loop .inv .1 .0) ∙ sym (start (at-loop .before) .pre .1 .1 .1 .0)
 
 same-length-10 : tie.Need-same-length-10 Inv-loop μ-loop
-same-length-10 c = c .before .before .before .before .before .before .before .before .before .before .before .before .before .before .before .before .before .round .ensures .sizes .size-d ∙ sym (c .before .before .before .before .before .before .before .before .before .before .before .before .before .before .before .before .before .before .before .before .before .before .before .before .before .before .before .before .before .before .before .before .before .before .before .before .pre .1 .0 .size-d)
+same-length-10 c =
+    let at-loop = loop-head (after-added c .before .before) in
+    (after-deleted (else1 (c .before) .before .before) .deleted .given ∙ at-loop .loop .inv .1 .1) ∙ sym (start (at-loop .before) .pre .1 .1 .1 .1)
 
 same-length-11 : tie.Need-same-length-11 Inv-loop μ-loop
-same-length-11 c = c .before .before .before .before .before .before .before .before .before .before .before .before .before .before .before .before .before .round .ensures .length-up ∙ c .before .before .before .before .before .before .before .before .before .before .before .before .before .before .before .before .before .before .before .before .before .before .before .before .loop .inv .length-up
+same-length-11 c =
+    let at-loop = loop-head (after-added c .before .before) in
+    at-loop .loop .inv .0 .sizes .size-u ∙ sym (start (at-loop .before) .pre .1 .0 .size-u)
 
 same-length-12 : tie.Need-same-length-12 Inv-loop μ-loop
-same-length-12 c = c .before .before .before .before .before .before .before .before .before .before .before .before .before .before .before .before .before .round .ensures .length-down ∙ c .before .before .before .before .before .before .before .before .before .before .before .before .before .before .before .before .before .before .before .before .before .before .before .before .loop .inv .length-down
+same-length-12 c =
+    after-added c .before .round .ensures .sizes .size-x ∙ sym (start (loop-head (after-added c .before .before) .before) .pre .1 .0 .size-x)
+
+same-length-13 : tie.Need-same-length-13 Inv-loop μ-loop
+same-length-13 c =
+    after-added c .before .round .ensures .sizes .size-y ∙ sym (start (loop-head (after-added c .before .before) .before) .pre .1 .0 .size-y)
+
+same-length-14 : tie.Need-same-length-14 Inv-loop μ-loop
+same-length-14 c =
+    after-added c .before .round .ensures .sizes .size-d ∙ sym (start (loop-head (after-added c .before .before) .before) .pre .1 .0 .size-d)
+
+same-length-15 : tie.Need-same-length-15 Inv-loop μ-loop
+same-length-15 c =
+    after-added c .before .round .ensures .length-up ∙ loop-head (after-added c .before .before) .loop .inv .0 .length-up
+
+same-length-16 : tie.Need-same-length-16 Inv-loop μ-loop
+same-length-16 c =
+    after-added c .before .round .ensures .length-down ∙ loop-head (after-added c .before .before) .loop .inv .0 .length-down
 
 returns-2 : tie.Need-returns-2 Inv-loop μ-loop
-returns-2 c = result-none _ _ _ _ _ _ _ _ _ (stuck (c .before .before .before .before .before .before .before .before .before .before .before .before .before .before .before .before .before .before .before .before .before .before .before .before .loop .inv) (c .before .before .before .before .before .before .before .before .before .before .before .before .before .before .before .before .before .round .ensures) (c .before .lacks2 .ensures) (c .if2 .taken))
+returns-2 c =
+    result-none _ _ _ _ _ _ _ _ _
+    (stuck (loop-head (after-added c .before .before) .loop .inv .0) (after-added c .before .round .ensures)
+    (c .before .lacks2 .ensures) (c .if2 .taken))
 
 keep-requires : tie.Need-keep-requires Inv-loop μ-loop
 keep-requires c κs =
-    let at-round = c .before .before .before .before .before .before .before .before .before .before .before .before .before .before .before .before .before .before .before in
-    let at-loop = at-round .before .before .before .before .before .before .before in
-    (at-round .round .ensures .sizes .size-y, at-loop .loop .inv .sizes .size-u)
+    let at-round = after-round (else1 (c .before .before .before) .before) in
+    (at-round .round .ensures .sizes .size-y, loop-head (at-round .before) .loop .inv .0 .sizes .size-u)
 
 loop-less : tie.Need-loop-less Inv-loop μ-loop
-loop-less c = smaller (c .before .before .before .before .before .before .before .before .before .before .before .before .before .before .before .before .before .before .before .before .before .before .before .before .before .before .before .before .before .loop .inv) (c .before .before .before .before .before .before .before .before .before .before .before .before .before .before .before .before .before .before .before .before .before .before .round .ensures) (c .before .before .before .before .before .before .before .before .before .lacks .ensures) (c .before .before .before .before .before .before .before .before .if1 .left) (c .before .before .keep .ensures)
+loop-less c =
+    let at-else1 = else1 (else2 c .before) in
+    let at-round = after-round (at-else1 .before) in
+    smaller (loop-head (at-round .before) .loop .inv .0) (at-round .round .ensures) (at-else1 .before .lacks .ensures)
+    (at-else1 .if1 .left) (c .before .before .keep .ensures)
 
 loop-again : tie.Need-loop-again Inv-loop μ-loop
-loop-again c = go-on (c .before .before .before .before .before .before .before .before .before .before .before .before .before .before .before .before .before .before .before .before .before .before .before .before .before .before .before .before .before .loop .inv) (c .before .before .before .before .before .before .before .before .before .before .before .before .before .before .before .before .before .before .before .before .before .before .round .ensures) (c .before .before .before .before .before .before .lacks2 .ensures) (c .before .before .before .before .before .if2 .left) (c .before .before .keep .ensures)
+loop-again c =
+    let at-else1 = else1 (else2 c .before) in
+    let at-round = after-round (at-else1 .before) in
+    let at-deleted = after-deleted (at-else1 .before .before) in
+    let at-loop = loop-head (at-round .before) in (
+      go-on (at-loop .loop .inv .0) (at-round .round .ensures) (else2 c .before .lacks2 .ensures) (else2 c .if2 .left)
+          (c .before .before .keep .ensures),
+      (
+        (at-deleted .before .before .added .given ∙ at-loop .loop .inv .1 .0),
+        (at-deleted .deleted .given ∙ at-loop .loop .inv .1 .1),
+      ),
+    )
 
 pub settle-spec : {M : Type 1} → statement M
 settle-spec =
@@ -110,14 +189,18 @@ settle-spec =
     same-length-4
     same-length-5
     same-length-6
-    returns
-    lacks-requires-2
     same-length-7
     same-length-8
+    returns
+    lacks-requires-2
     same-length-9
     same-length-10
     same-length-11
     same-length-12
+    same-length-13
+    same-length-14
+    same-length-15
+    same-length-16
     returns-2
     keep-requires
     loop-less
