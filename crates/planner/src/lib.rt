@@ -83,6 +83,8 @@ fn crew_level(
     k: u8,
     adds: &[u16],
     dels: &[u16],
+    added: &mut [u16],
+    deleted: &mut [u16],
     reach: &[bool],
     rows: &mut [bool],
     table: &mut [bool],
@@ -94,6 +96,7 @@ fn crew_level(
     requires { ⌜ Admitted (contentsOf b) × ((k < b .sizes .crews) × (SideMoves b 3 3 4 4 (movesIn (now adds)) (movesIn (now dels)) × ((length (now reach) ≡ 5120) × (Reaching (b .juniors) (now reach) × (now juniors ≡ b .juniors))))) ⌝ }
     requires { ⌜ BlankTable (now table) ⌝ }
     requires { ⌜ Driving (contentsOf b) k (now rows) ups (now up) at (now down) ⌝ }
+    requires { ⌜ (length (now added) ≡ 160) × (length (now deleted) ≡ 160) ⌝ }
     ensures { λ r. ⌜ Scanned (contentsOf b) (k + 1) (now (rows .exit)) (now (up .exit)) (now (down .exit)) (r .found) (ups + r .ups) (r .at) × BlankTable (now (table .exit)) ⌝ }
 {
     let below = flags::is_below_listed(b, reach, k);
@@ -112,6 +115,8 @@ fn crew_level(
     let r = level::settle(
         adds,
         dels,
+        added,
+        deleted,
         k,
         table,
         &bad,
@@ -145,12 +150,14 @@ fn fill_reach(juniors: &[u32], reach: &mut [bool])
     }
 }
 
-// The levels of the crews, in rising number.
+// The levels of the crews, in rising number. Each crew tries first what the one before it did: `added` and `deleted` name those moves.
 fn crew_levels(
     b: Book,
     juniors: &[u32],
     adds: &[u16],
     dels: &[u16],
+    added: &mut [u16],
+    deleted: &mut [u16],
     reach: &[bool],
     rows: &mut [bool],
     table: &mut [bool],
@@ -160,6 +167,7 @@ fn crew_levels(
     requires { ⌜ Admitted (contentsOf b) × (SideMoves b 3 3 4 4 (movesIn (now adds)) (movesIn (now dels)) × ((length (now reach) ≡ 5120) × (Reaching (b .juniors) (now reach) × (now juniors ≡ b .juniors)))) ⌝ }
     requires { ⌜ BlankTable (now table) ⌝ }
     requires { ⌜ Driving (contentsOf b) 0 (now rows) 0 (now up) 5280 (now down) ⌝ }
+    requires { ⌜ (length (now added) ≡ 160) × (length (now deleted) ≡ 160) ⌝ }
     ensures { λ r. ⌜ Scanned (contentsOf b) (b .sizes .crews) (now (rows .exit)) (now (up .exit)) (now (down .exit)) (r .found) (r .ups) (r .at) ⌝ }
 {
     let n = b.sizes.crews;
@@ -173,6 +181,8 @@ fn crew_levels(
             k,
             adds,
             dels,
+            added,
+            deleted,
             reach,
             rows,
             table,
@@ -223,6 +233,8 @@ fn person_level(
     let mut x = [false; 320];
     let mut y = [false; 320];
     let mut d = [false; 160];
+    let mut added = [512u16; 160];
+    let mut deleted = [512u16; 160];
     let q = b.query;
     flags::bad_flags(q, k, k, false, &mut bad);
     flags::start_flags(b, k, &mut s);
@@ -231,6 +243,8 @@ fn person_level(
     level::settle(
         adds,
         dels,
+        &mut added,
+        &mut deleted,
         person,
         table,
         &bad,
@@ -264,6 +278,8 @@ fn all_levels(
     let mut reach = [false; 5120];
     let mut rows = [false; 5120];
     let mut table = [false; 5280];
+    let mut added = [512u16; 160];
+    let mut deleted = [512u16; 160];
     fill_reach(&juniors, &mut reach);
     flags::first_rows(&mut rows);
     let r = crew_levels(
@@ -271,6 +287,8 @@ fn all_levels(
         &juniors,
         gains,
         losses,
+        &mut added,
+        &mut deleted,
         &reach,
         &mut rows,
         &mut table,

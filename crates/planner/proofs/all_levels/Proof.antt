@@ -16,6 +16,28 @@ use Rattle.planner.proofs.all_levels.Tie as tie
 none-found : {b : Contents} {up down : List ℕ} {found : Bool} {ups at : ℕ} → found ≡ false → NoRun b → Searched b up down found ups at
 none-found e never = record { written = λ f. absurd (true≢false (sym f ∙ e)); stuck = λ f. never }
 
+-- The places that the answers name, each seen from a later one.
+abbrev after-fill-reach : tie.After-crew-levels-arg2 → tie.After-fill-reach
+after-fill-reach c = c .before .before .before .before .before .before .before .before .before .before .before .before
+
+abbrev start : tie.After-crew-levels-arg2 → tie.Start
+start c = after-fill-reach c .before .before .before .before .before .before .before .before .before .before
+
+abbrev after-first-rows : tie.After-table → tie.After-first-rows
+after-first-rows c = c .before .before .before .before .before .before .before
+
+abbrev after-table2 : tie.After-struct-known → tie.After-table2
+after-table2 c = c .before .before .before .before .before
+
+abbrev after-crew-levels : tie.After-struct-known → tie.After-crew-levels
+after-crew-levels c = after-table2 c .before .before .before .before
+
+abbrev else1 : tie.After-table3 → tie.Else1
+else1 c = c .before .before
+
+abbrev after-person-level : tie.After-struct-known2 → tie.After-person-level
+after-person-level c = c .before .before .before .before .before .before
+
 slice-aggregate-fill-reach : tie.Need-slice-aggregate-fill-reach
 slice-aggregate-fill-reach c = search needs
 
@@ -43,9 +65,35 @@ slice-aggregate-crew-levels-3 c = search needs
 slice-aggregate-crew-levels-4 : tie.Need-slice-aggregate-crew-levels-4
 slice-aggregate-crew-levels-4 c = search needs
 
+slice-aggregate-crew-levels-5 : tie.Need-slice-aggregate-crew-levels-5
+slice-aggregate-crew-levels-5 c = search needs
+
+slice-aggregate-crew-levels-6 : tie.Need-slice-aggregate-crew-levels-6
+slice-aggregate-crew-levels-6 c = search needs
+
 crew-levels-requires : tie.Need-crew-levels-requires
 unfolding contentsOf
-crew-levels-requires c κs = ((c .before .before .before .before .before .before .before .before .before .before .before .before .before .before .before .before .before .before .before .before .pre .0 .0, (c .before .before .before .before .before .before .before .before .before .before .before .before .before .before .before .before .before .before .before .before .pre .0 .1 .0, (c .before .before .before .before .before .before .before .before .before .before .fill-reach .ensures .0, (c .before .before .before .before .before .before .before .before .before .before .fill-reach .ensures .1, refl)))), (record { size = refl; blank = λ j h. getD-replicate 5280 j false false (omega arith) }, drive-first (contentsOf (c .before .before .before .before .before .before .before .before .before .before .before .before .before .before .before .before .before .before .before .before .args .b)) (c .before .before .before .before .before .before .before .before .before .before .before .before .before .before .before .before .before .before .before .before .pre .0 .0) _ _ _ (c .before .before .before .before .before .before .before .first-rows .ensures) (c .before .before .before .before .before .before .before .before .before .before .before .before .before .before .before .before .before .before .before .before .pre .1 .0) (c .before .before .before .before .before .before .before .before .before .before .before .before .before .before .before .before .before .before .before .before .pre .1 .1)))
+crew-levels-requires c κs =
+    let at-first-rows = after-first-rows (c .before .before) in (
+      (
+        start c .pre .0 .0,
+        (
+          start c .pre .0 .1 .0,
+          (
+            at-first-rows .before .before .before .fill-reach .ensures .0,
+            (at-first-rows .before .before .before .fill-reach .ensures .1, refl),
+          ),
+        ),
+      ),
+      (
+        record { size = refl; blank = λ j h. getD-replicate 5280 j false false (omega arith) },
+        (
+          drive-first (contentsOf (start c .args .b)) (start c .pre .0 .0) _ _ _ (at-first-rows .first-rows .ensures)
+              (start c .pre .1 .0) (start c .pre .1 .1),
+          (refl, refl),
+        ),
+      ),
+    )
 
 same-length : tie.Need-same-length
 same-length c = search needs
@@ -54,7 +102,9 @@ same-length-2 : tie.Need-same-length-2
 same-length-2 c = search needs
 
 returns : tie.Need-returns
-returns c = none-found (no-found _ (c .if1 .taken)) (c .before .before .before .before .before .before .before .before .crew-levels .ensures .stuck (no-found _ (c .if1 .taken)))
+returns c =
+    none-found (no-found _ (c .if1 .taken))
+    (after-crew-levels (c .before) .crew-levels .ensures .stuck (no-found _ (c .if1 .taken)))
 
 slice-aggregate-person-level : tie.Need-slice-aggregate-person-level
 slice-aggregate-person-level c = search needs
@@ -64,7 +114,13 @@ slice-aggregate-person-level-2 c = search needs
 
 person-level-requires : tie.Need-person-level-requires
 unfolding contentsOf
-person-level-requires c κs = ((c .before .before .before .before .before .before .before .before .before .before .before .before .before .before .before .before .before .before .before .before .before .before .before .before .before .before .before .before .before .before .before .before .before .pre .0 .0, (c .before .before .before .before .before .before .before .before .before .before .before .before .before .before .before .before .before .before .before .before .before .before .before .before .before .before .before .before .before .before .before .before .before .pre .0 .1 .1, c .before .before .before .before .before .before .before .before .before .before .table2 .given)), c .before .before .before .before .before .before .before .before .before .before .before .before .crew-levels .ensures .settled (was-found _ (c .before .before .before .before .if1 .left)))
+person-level-requires c κs =
+    let at-else1 = else1 (c .before .before) in
+    let at-crew-levels = after-crew-levels (at-else1 .before) in
+    let at-start = start (at-crew-levels .before) in (
+      (at-start .pre .0 .0, (at-start .pre .0 .1 .1, after-table2 (at-else1 .before) .table2 .given)),
+      at-crew-levels .crew-levels .ensures .settled (was-found _ (at-else1 .if1 .left)),
+    )
 
 same-length-3 : tie.Need-same-length-3
 same-length-3 c = search needs
@@ -73,10 +129,17 @@ same-length-4 : tie.Need-same-length-4
 same-length-4 c = search needs
 
 returns-2 : tie.Need-returns-2
-returns-2 c = none-found (no-found _ (c .if2 .taken)) (c .before .before .before .before .before .before .before .person-level .ensures .stuck (no-found _ (c .if2 .taken)))
+returns-2 c =
+    none-found (no-found _ (c .if2 .taken))
+    (after-person-level (c .before) .person-level .ensures .stuck (no-found _ (c .if2 .taken)))
 
-add-t42 : tie.Need-add-t42
-add-t42 c = omega (arith, c .before .before .before .before .before .before .before .before .before .person-level .ensures .written (was-found _ (c .before .before .if2 .left)) .few-up)
+add-t48 : tie.Need-add-t48
+add-t48 c =
+    omega (
+      arith,
+      after-person-level (c .before .before .before) .person-level .ensures .written
+          (was-found _ (c .before .before .if2 .left)) .few-up,
+    )
 
 same-length-5 : tie.Need-same-length-5
 same-length-5 c = search needs
@@ -85,7 +148,12 @@ same-length-6 : tie.Need-same-length-6
 same-length-6 c = search needs
 
 returns-3 : tie.Need-returns-3
-returns-3 c = record { written = λ e. c .before .before .before .before .before .before .before .before .before .person-level .ensures .written (was-found _ (c .before .before .if2 .left)); stuck = λ e. absurd (true≢false e) }
+returns-3 c =
+    record {
+      written = λ e. after-person-level (c .before .before .before) .person-level .ensures .written
+          (was-found _ (c .before .before .if2 .left));
+      stuck = λ e. absurd (true≢false e);
+    }
 
 pub all-levels-spec : {M : Type 1} → statement M
 all-levels-spec =
@@ -100,6 +168,8 @@ all-levels-spec =
     slice-aggregate-crew-levels-2
     slice-aggregate-crew-levels-3
     slice-aggregate-crew-levels-4
+    slice-aggregate-crew-levels-5
+    slice-aggregate-crew-levels-6
     crew-levels-requires
     same-length
     same-length-2
@@ -110,7 +180,7 @@ all-levels-spec =
     same-length-3
     same-length-4
     returns-2
-    add-t42
+    add-t48
     same-length-5
     same-length-6
     returns-3)

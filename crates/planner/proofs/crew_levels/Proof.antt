@@ -3,6 +3,7 @@ use mathlib.Core.Path.{_≡_, sym, subst, _∙_}
 use mathlib.Core.Bool.{Bool, true, true≢false}
 use mathlib.Core.List.{List}
 use Prim.Native.Nat.{ℕ, _+_, _-_, _*_, _≤_, _<_}
+use lib.ListN.{length}
 use Rattle.frames.specs.Book.{Contents, contentsOf}
 use Rattle.planner.specs.Drive.{Driving}
 use Rattle.planner.specs.Scan.{BlankTable, Scanned}
@@ -23,60 +24,133 @@ scanned : {b : Contents} {k n : ℕ} {rows : List Bool} {ups at : ℕ} {up down 
 scanned {b} {k} {n} {rows} {ups} {at} {up} {down} d e = record { settled = λ f. subst (λ (i : ℕ). Driving b i rows ups up at down) e d; stuck = λ f. absurd (true≢false f) }
 
 abbrev Inv-loop : tie.InvT-loop
-Inv-loop b juniors adds dels reach rows₀ table₀ up₀ down₀ n ups₀ at₀ k₀ rows table up down ups at k = (k ≤ n) × (BlankTable table × Driving (contentsOf b) k rows ups up at down)
+Inv-loop b juniors adds dels added₀ deleted₀ reach rows₀ table₀ up₀ down₀ n ups₀ at₀ k₀ added deleted rows table up down ups at k =
+    (k ≤ n) × (BlankTable table × (Driving (contentsOf b) k rows ups up at down × ((length added ≡ 160) × (length deleted ≡ 160))))
 
 abbrev μ-loop : tie.MeasureT-loop
-μ-loop b juniors adds dels reach rows₀ table₀ up₀ down₀ n ups₀ at₀ k₀ rows table up down ups at k = n - k
+μ-loop b juniors adds dels added₀ deleted₀ reach rows₀ table₀ up₀ down₀ n ups₀ at₀ k₀ added deleted rows table up down ups at k = n - k
+
+-- The places that the answers name, each seen from a later one.
+abbrev start : tie.After-slice-known6 Inv-loop μ-loop → tie.Start Inv-loop μ-loop
+start c = c .before .before .before .before .before .before .before .before .before .before
+
+abbrev loop-turn : tie.After-crew-level-arg6 Inv-loop μ-loop → tie.In-loop Inv-loop μ-loop
+loop-turn c = c .before .before .before .before .before .before
+
+abbrev after-crew-level : tie.After-deleted Inv-loop μ-loop → tie.After-crew-level Inv-loop μ-loop
+after-crew-level c = c .before .before .before
+
+abbrev after-deleted : tie.After-struct-known Inv-loop μ-loop → tie.After-deleted Inv-loop μ-loop
+after-deleted c = c .before .before .before .before .before .before .before .before .before .before
+
+abbrev loop-head : tie.After-struct-known Inv-loop μ-loop → tie.At-loop Inv-loop μ-loop
+loop-head c = loop-turn (after-crew-level (after-deleted c) .before) .before
+
+abbrev after-up : tie.After-struct-known Inv-loop μ-loop → tie.After-up Inv-loop μ-loop
+after-up c = c .before .before .before .before
+
+abbrev after-rows : tie.Then1 Inv-loop μ-loop → tie.After-rows Inv-loop μ-loop
+after-rows c = c .before .before .before .before .before .before .before .before .before
 
 loop-holds : tie.Need-loop-holds Inv-loop μ-loop
-loop-holds c = (omega arith, c .before .before .before .before .before .before .before .before .pre .1)
+loop-holds c = (omega arith, start c .pre .1)
 
 crew-level-requires : tie.Need-crew-level-requires Inv-loop μ-loop
-crew-level-requires c κs = let pre = c .before .before .before .before .before .before .before .before .before .before .before .before .before .before .pre .0 in ((pre .0, (c .before .before .before .before .loop-test .taken, pre .1)), c .before .before .before .before .before .loop .inv .1)
+crew-level-requires c κs =
+    let pre = start (loop-turn c .before .before) .pre .0 in
+    ((pre .0, (loop-turn c .loop-test .taken, pre .1)), loop-turn c .before .loop .inv .1)
 
 same-length : tie.Need-same-length Inv-loop μ-loop
-same-length c = c .before .before .before .before .before .before .before .before .before .rows .given ∙ (c .before .before .before .before .before .before .before .before .before .before .before .before .before .before .before .before .loop .inv .1 .1 .rows-right .size ∙ sym (c .before .before .before .before .before .before .before .before .before .before .before .before .before .before .before .before .before .before .before .before .before .before .before .before .before .pre .1 .1 .rows-right .size))
+same-length c =
+    after-deleted (c .before) .before .before .added .given ∙
+    (loop-head (c .before) .loop .inv .1 .1 .1 .0 ∙ sym (start (loop-head (c .before) .before) .pre .1 .1 .1 .0))
 
 same-length-2 : tie.Need-same-length-2 Inv-loop μ-loop
-same-length-2 c = c .before .before .before .before .before .before .before .table .given ∙ (c .before .before .before .before .before .before .before .before .before .before .before .before .before .before .before .before .loop .inv .1 .0 .size ∙ sym (c .before .before .before .before .before .before .before .before .before .before .before .before .before .before .before .before .before .before .before .before .before .before .before .before .before .pre .1 .0 .size))
+same-length-2 c = after-deleted (c .before) .deleted .given ∙ (loop-head (c .before) .loop .inv .1 .1 .1 .1 ∙ sym (start (loop-head (c .before) .before) .pre .1 .1 .1 .1))
 
 same-length-3 : tie.Need-same-length-3 Inv-loop μ-loop
-same-length-3 c = c .before .before .before .before .before .up .given ∙ (c .before .before .before .before .before .before .before .before .before .before .before .before .before .before .before .before .loop .inv .1 .1 .size-up ∙ sym (c .before .before .before .before .before .before .before .before .before .before .before .before .before .before .before .before .before .before .before .before .before .before .before .before .before .pre .1 .1 .size-up))
+same-length-3 c =
+    after-rows c .rows .given ∙
+    (loop-head (c .before) .loop .inv .1 .1 .0 .rows-right .size ∙ sym (start (loop-head (c .before) .before) .pre .1 .1 .0 .rows-right .size))
 
 same-length-4 : tie.Need-same-length-4 Inv-loop μ-loop
-same-length-4 c = c .before .before .before .down .given ∙ (c .before .before .before .before .before .before .before .before .before .before .before .before .before .before .before .before .loop .inv .1 .1 .size-down ∙ sym (c .before .before .before .before .before .before .before .before .before .before .before .before .before .before .before .before .before .before .before .before .before .before .before .before .before .pre .1 .1 .size-down))
+same-length-4 c =
+    after-up (c .before) .before .before .table .given ∙
+    (loop-head (c .before) .loop .inv .1 .0 .size ∙ sym (start (loop-head (c .before) .before) .pre .1 .0 .size))
+
+same-length-5 : tie.Need-same-length-5 Inv-loop μ-loop
+same-length-5 c = after-up (c .before) .up .given ∙ (loop-head (c .before) .loop .inv .1 .1 .0 .size-up ∙ sym (start (loop-head (c .before) .before) .pre .1 .1 .0 .size-up))
+
+same-length-6 : tie.Need-same-length-6 Inv-loop μ-loop
+same-length-6 c =
+    c .before .before .before .down .given ∙
+    (loop-head (c .before) .loop .inv .1 .1 .0 .size-down ∙ sym (start (loop-head (c .before) .before) .pre .1 .1 .0 .size-down))
 
 returns : tie.Need-returns Inv-loop μ-loop
-returns c = record { settled = λ e. absurd (true≢false (sym e)); stuck = λ e. c .before .before .before .before .before .before .before .before .before .before .crew-level .ensures .0 .stuck (no-found _ (c .if1 .taken)) }
+returns c =
+    record {
+      settled = λ e. absurd (true≢false (sym e));
+      stuck = λ e. after-crew-level (after-deleted (c .before)) .crew-level .ensures .0 .stuck
+          (no-found _ (c .if1 .taken));
+    }
 
 add-ups : tie.Need-add-ups Inv-loop μ-loop
 unfolding contentsOf
-add-ups c = omega (arith, few (c .before .before .before .before .before .before .before .before .before .before .before .crew-level .ensures .0 .settled (was-found _ (c .before .if1 .left)) .few-up) (c .before .before .before .before .before .before .before .before .before .before .before .before .before .before .before .before .loop-test .taken) (c .before .before .before .before .before .before .before .before .before .before .before .before .before .before .before .before .before .before .before .before .before .before .before .before .before .before .pre .0 .0 .sized .crews-most))
+add-ups c =
+    let at-crew-level = after-crew-level (after-deleted (c .before .before)) in
+    let at-loop-turn = loop-turn (at-crew-level .before) in
+    omega (
+      arith,
+      few (at-crew-level .crew-level .ensures .0 .settled (was-found _ (c .before .if1 .left)) .few-up)
+          (at-loop-turn .loop-test .taken) (start (at-loop-turn .before .before) .pre .0 .0 .sized .crews-most),
+    )
 
 add-k : tie.Need-add-k Inv-loop μ-loop
 unfolding contentsOf
-add-k c = omega (arith, small (c .before .before .before .before .before .before .before .before .before .before .before .before .before .before .before .before .loop-test .taken) (c .before .before .before .before .before .before .before .before .before .before .before .before .before .before .before .before .before .before .before .before .before .before .before .before .before .before .pre .0 .0 .sized .crews-most))
+add-k c =
+    let at-crew-level = after-crew-level (after-deleted (c .before .before)) in
+    let at-loop-turn = loop-turn (at-crew-level .before) in
+    omega (arith, small (at-loop-turn .loop-test .taken) (start (at-loop-turn .before .before) .pre .0 .0 .sized .crews-most))
 
 loop-less : tie.Need-loop-less Inv-loop μ-loop
 loop-less c = search needs
 
 loop-again : tie.Need-loop-again Inv-loop μ-loop
-loop-again c = (omega (arith, c .before .before .before .before .before .before .before .before .before .before .before .before .before .before .before .before .loop-test .taken), (c .before .before .before .before .before .before .before .before .before .before .before .crew-level .ensures .1, c .before .before .before .before .before .before .before .before .before .before .before .crew-level .ensures .0 .settled (was-found _ (c .before .if1 .left))))
-
-same-length-5 : tie.Need-same-length-5 Inv-loop μ-loop
-same-length-5 c = c .before .loop .inv .1 .1 .rows-right .size ∙ sym (c .before .before .before .before .before .before .before .before .before .before .pre .1 .1 .rows-right .size)
-
-same-length-6 : tie.Need-same-length-6 Inv-loop μ-loop
-same-length-6 c = c .before .loop .inv .1 .0 .size ∙ sym (c .before .before .before .before .before .before .before .before .before .before .pre .1 .0 .size)
+loop-again c =
+    let at-deleted = after-deleted (c .before .before) in
+    let at-crew-level = after-crew-level at-deleted in
+    let at-loop-turn = loop-turn (at-crew-level .before) in
+    let names = at-loop-turn .before .loop .inv .1 .1 .1 in (
+      omega (arith, at-loop-turn .loop-test .taken),
+      (
+        at-crew-level .crew-level .ensures .1,
+        (
+          at-crew-level .crew-level .ensures .0 .settled (was-found _ (c .before .if1 .left)),
+          (at-deleted .before .before .added .given ∙ names .0, at-deleted .deleted .given ∙ names .1),
+        ),
+      ),
+    )
 
 same-length-7 : tie.Need-same-length-7 Inv-loop μ-loop
-same-length-7 c = c .before .loop .inv .1 .1 .size-up ∙ sym (c .before .before .before .before .before .before .before .before .before .before .pre .1 .1 .size-up)
+same-length-7 c = c .before .loop .inv .1 .1 .1 .0 ∙ sym (start (c .before .before) .pre .1 .1 .1 .0)
 
 same-length-8 : tie.Need-same-length-8 Inv-loop μ-loop
-same-length-8 c = c .before .loop .inv .1 .1 .size-down ∙ sym (c .before .before .before .before .before .before .before .before .before .before .pre .1 .1 .size-down)
+same-length-8 c = c .before .loop .inv .1 .1 .1 .1 ∙ sym (start (c .before .before) .pre .1 .1 .1 .1)
+
+same-length-9 : tie.Need-same-length-9 Inv-loop μ-loop
+same-length-9 c = c .before .loop .inv .1 .1 .0 .rows-right .size ∙ sym (start (c .before .before) .pre .1 .1 .0 .rows-right .size)
+
+same-length-10 : tie.Need-same-length-10 Inv-loop μ-loop
+same-length-10 c = c .before .loop .inv .1 .0 .size ∙ sym (start (c .before .before) .pre .1 .0 .size)
+
+same-length-11 : tie.Need-same-length-11 Inv-loop μ-loop
+same-length-11 c = c .before .loop .inv .1 .1 .0 .size-up ∙ sym (start (c .before .before) .pre .1 .1 .0 .size-up)
+
+same-length-12 : tie.Need-same-length-12 Inv-loop μ-loop
+same-length-12 c = c .before .loop .inv .1 .1 .0 .size-down ∙ sym (start (c .before .before) .pre .1 .1 .0 .size-down)
 
 returns-2 : tie.Need-returns-2 Inv-loop μ-loop
-returns-2 c = scanned (c .before .loop .inv .1 .1) (omega (arith, c .before .loop .inv .0, c .loop-test .left))
+returns-2 c = scanned (c .before .loop .inv .1 .1 .0) (omega (arith, c .before .loop .inv .0, c .loop-test .left))
 
 pub crew-levels-spec : {M : Type 1} → statement M
 crew-levels-spec =
@@ -90,13 +164,17 @@ crew-levels-spec =
     same-length-2
     same-length-3
     same-length-4
+    same-length-5
+    same-length-6
     returns
     add-ups
     add-k
     loop-less
     loop-again
-    same-length-5
-    same-length-6
     same-length-7
     same-length-8
+    same-length-9
+    same-length-10
+    same-length-11
+    same-length-12
     returns-2)

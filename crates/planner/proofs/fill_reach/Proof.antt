@@ -15,6 +15,16 @@ Inv-loop juniors reach₀ x table₀ k₀ reach table k = (k ≤ 32) × (ReachSo
 abbrev μ-loop : tie.MeasureT-loop
 μ-loop juniors reach₀ x table₀ k₀ reach table k = 32 - k
 
+-- The places that the answers name, each seen from a later one.
+abbrev start : tie.At-loop Inv-loop μ-loop → tie.Start Inv-loop μ-loop
+start c = c .before .before .before .before .before .before .before
+
+abbrev loop-turn : tie.After-crew-table Inv-loop μ-loop → tie.In-loop Inv-loop μ-loop
+loop-turn c = c .before .before .before
+
+abbrev after-crew-table : tie.After-fill-row-arg Inv-loop μ-loop → tie.After-crew-table Inv-loop μ-loop
+after-crew-table c = c .before .before .before .before
+
 first-rows-requires : tie.Need-first-rows-requires Inv-loop μ-loop
 first-rows-requires c κs = c .before .before .before .pre .1
 
@@ -25,7 +35,13 @@ slice-aggregate-crew-table : tie.Need-slice-aggregate-crew-table Inv-loop μ-loo
 slice-aggregate-crew-table c = sym (c .before .before .before .loop .inv .1 .1)
 
 crew-table-requires : tie.Need-crew-table-requires Inv-loop μ-loop
-crew-table-requires c κs = (c .before .before .loop-test .taken, (c .before .before .before .before .before .before .before .before .before .before .pre .0, (c .before .before .before .loop .inv .1 .0 .size, c .before .before .before .loop .inv .1 .1)))
+crew-table-requires c κs = (
+  c .before .before .loop-test .taken,
+  (
+    start (c .before .before .before) .pre .0,
+    (c .before .before .before .loop .inv .1 .0 .size, c .before .before .before .loop .inv .1 .1),
+  ),
+)
 
 slice-aggregate-fill-row : tie.Need-slice-aggregate-fill-row Inv-loop μ-loop
 slice-aggregate-fill-row c = sym (c .before .before .crew-table .ensures .size)
@@ -34,7 +50,11 @@ slice-aggregate-fill-row-2 : tie.Need-slice-aggregate-fill-row-2 Inv-loop μ-loo
 slice-aggregate-fill-row-2 c = search needs
 
 fill-row-requires : tie.Need-fill-row-requires Inv-loop μ-loop
-fill-row-requires c κs = (c .before .before .before .before .before .before .before .loop-test .taken, (refl, (c .before .before .before .before .crew-table .ensures .size, c .before .before .before .before .before .before .before .before .loop .inv .1 .0 .size)))
+fill-row-requires c κs =
+    let at-loop-turn = loop-turn (after-crew-table c) in (
+      at-loop-turn .loop-test .taken,
+      (refl, (after-crew-table c .crew-table .ensures .size, at-loop-turn .before .loop .inv .1 .0 .size)),
+    )
 
 add-k : tie.Need-add-k Inv-loop μ-loop
 add-k c = search needs
@@ -43,10 +63,20 @@ loop-less : tie.Need-loop-less Inv-loop μ-loop
 loop-less c = search needs
 
 loop-again : tie.Need-loop-again Inv-loop μ-loop
-loop-again c = (omega (arith, c .before .before .before .before .before .before .before .before .before .before .loop-test .taken), (reach-next (c .before .before .before .before .before .before .before .before .before .before .before .loop .inv .1 .0) (filled-row (c .before .before .before .before .before .before .before .before .before .before .before .loop .inv .1 .0 .size) (c .before .before .before .before .before .before .before .crew-table .ensures) (c .before .before .fill-row .ensures)), c .before .before .before .before .before .before .before .crew-table .ensures .size))
+loop-again c =
+    let at-crew-table = after-crew-table (c .before .before .before) in
+    let at-loop-turn = loop-turn at-crew-table in (
+      omega (arith, at-loop-turn .loop-test .taken),
+      (
+        reach-next (at-loop-turn .before .loop .inv .1 .0)
+            (filled-row (at-loop-turn .before .loop .inv .1 .0 .size) (at-crew-table .crew-table .ensures)
+            (c .before .before .fill-row .ensures)),
+        at-crew-table .crew-table .ensures .size,
+      ),
+    )
 
 same-length : tie.Need-same-length Inv-loop μ-loop
-same-length c = c .before .loop .inv .1 .0 .size ∙ sym (c .before .before .before .before .before .before .before .before .pre .1)
+same-length c = c .before .loop .inv .1 .0 .size ∙ sym (start (c .before) .pre .1)
 
 returns : tie.Need-returns Inv-loop μ-loop
 returns c = (c .before .loop .inv .1 .0 .size, reach-all (c .before .loop .inv .1 .0) (omega (arith, c .loop-test .left)))

@@ -10,19 +10,35 @@ use borrow.Author.Needs.{needs}
 use Rattle.planner.proofs.person_level.Statement.{statement}
 use Rattle.planner.proofs.person_level.Tie as tie
 
+-- The places that the answers name, each seen from a later one.
+abbrev entry : tie.After-bad → tie.Start
+entry c = c .before .before .before .before .before .before .before .before
+
+abbrev after-bad-flags : tie.After-allow-all → tie.After-bad-flags
+after-bad-flags c = c .before .before .before .before .before .before
+
+abbrev after-start-flags : tie.After-allow-all → tie.After-start-flags
+after-start-flags c = c .before .before .before
+
+abbrev after-person-table : tie.After-settle-arg3 → tie.After-person-table
+after-person-table c = c .before .before .before .before .before .before .before .before .before .before .before .before .before
+
+abbrev after-settle : tie.After-down → tie.After-settle
+after-settle c = c .before .before .before .before .before .before .before .before .before
+
 slice-aggregate-bad-flags : tie.Need-slice-aggregate-bad-flags
 slice-aggregate-bad-flags c = search needs
 
 bad-flags-requires : tie.Need-bad-flags-requires
 unfolding contentsOf
-bad-flags-requires c κs = (small-wants (c .before .before .before .before .before .before .before .before .pre .0 .0), refl)
+bad-flags-requires c κs = (small-wants (entry c .pre .0 .0), refl)
 
 slice-aggregate-start-flags : tie.Need-slice-aggregate-start-flags
 slice-aggregate-start-flags c = search needs
 
 start-flags-requires : tie.Need-start-flags-requires
 unfolding contentsOf
-start-flags-requires c κs = (c .before .before .before .before .before .before .before .before .before .before .before .pre .0 .0, (omega arith, refl))
+start-flags-requires c κs = (entry (c .before .before .before) .pre .0 .0, (omega arith, refl))
 
 slice-aggregate-allow-all : tie.Need-slice-aggregate-allow-all
 slice-aggregate-allow-all c = search needs
@@ -31,7 +47,9 @@ allow-all-requires : tie.Need-allow-all-requires
 allow-all-requires c κs = search needs
 
 person-table-requires : tie.Need-person-table-requires
-person-table-requires c κs = (c .before .before .before .before .before .before .before .before .before .before .before .before .before .before .before .before .before .pre .1 .rows-right .size, c .before .before .before .before .before .before .before .before .before .before .before .before .before .before .before .before .before .pre .0 .1 .1)
+person-table-requires c κs =
+    let at-start = entry (after-bad-flags (c .before .before) .before) in
+    (at-start .pre .1 .rows-right .size, at-start .pre .0 .1 .1)
 
 slice-aggregate-settle : tie.Need-slice-aggregate-settle
 slice-aggregate-settle c = search needs
@@ -51,19 +69,26 @@ slice-aggregate-settle-5 c = search needs
 slice-aggregate-settle-6 : tie.Need-slice-aggregate-settle-6
 slice-aggregate-settle-6 c = search needs
 
+slice-aggregate-settle-7 : tie.Need-slice-aggregate-settle-7
+slice-aggregate-settle-7 c = search needs
+
+slice-aggregate-settle-8 : tie.Need-slice-aggregate-settle-8
+slice-aggregate-settle-8 c = search needs
+
 settle-requires : tie.Need-settle-requires
 unfolding contentsOf
 settle-requires c κs =
-    let pre = c .before .before .before .before .before .before .before .before .before .before .before .before .before .before .before .before .before .before .before .before .before .before .before .before .before .before .before .before .before .pre in
+    let at-bad-flags = after-bad-flags (after-person-table c .before .before .before) in
+    let pre = entry (at-bad-flags .before) .pre in
     let drive = pre .1 in
     let low = pre .0 .0 .sized .crews-most in (
       (pre .0 .1 .0 .sound-adds, pre .0 .1 .0 .sound-dels),
       (
         record {
-          rows = c .before .before .before .before .before .before .before .before .before .before .before .person-table .ensures .size;
-          size-bad = c .before .before .before .before .before .before .before .before .before .before .before .before .before .before .before .before .before .before .before .before .bad-flags .ensures .size;
-          size-s = c .before .before .before .before .before .before .before .before .before .before .before .before .before .before .before .before .before .start-flags .ensures .size;
-          size-u = c .before .before .before .before .before .before .before .before .before .before .before .before .before .before .allow-all .ensures .size;
+          rows = after-person-table c .person-table .ensures .size;
+          size-bad = at-bad-flags .bad-flags .ensures .size;
+          size-s = after-start-flags (after-person-table c .before .before .before) .start-flags .ensures .size;
+          size-u = after-person-table c .before .before .before .allow-all .ensures .size;
           size-x = refl;
           size-y = refl;
           size-d = refl;
@@ -71,7 +96,7 @@ settle-requires c κs =
           below = room-below (drive .few-down) low;
           room-down = room-down (drive .most-down) (drive .size-down);
         },
-        starts-allowed _ (c .before .before .before .before .before .before .before .before .before .before .before .before .before .before .allow-all .ensures),
+        (starts-allowed _ (after-person-table c .before .before .before .allow-all .ensures), (refl, refl)),
       ),
     )
 
@@ -87,11 +112,18 @@ same-length-3 c = search needs
 returns : tie.Need-returns
 unfolding contentsOf
 returns c =
-    let start = c .before .before .before .before .before .before .before .before .before .before .before .before .before .before .before .before .before .before .before .before .before .before .before .before .before .before .before .before .before .before .before .before .before .before .before .before .before .before in
+    let at-settle = after-settle (c .before) in
+    let at-person-table = after-person-table (at-settle .before) in
+    let at-bad-flags = after-bad-flags (at-person-table .before .before .before) in
+    let start = entry (at-bad-flags .before) in
     let pre = start .pre in
     let drive = pre .1 in
-    let bads = bad-all (contentsOf (start .args .b)) (small-wants (pre .0 .0)) (start .args .b .sizes .crews) false (omega arith) (λ h. absurd (omega arith)) refl (c .before .before .before .before .before .before .before .before .before .before .before .before .before .before .before .before .before .before .before .before .before .before .before .before .before .before .before .before .before .bad-flags .ensures) in
-    person-searched (start .args .b) (pre .0 .0) (pre .0 .1 .0) drive (c .before .before .before .before .before .before .before .before .before .before .before .before .before .before .before .before .before .before .before .before .person-table .ensures) bads (c .before .before .before .before .before .before .before .before .before .before .before .before .before .before .before .before .before .before .before .before .before .before .before .before .before .before .start-flags .ensures) (c .before .before .before .before .before .before .before .before .before .before .before .before .before .before .before .before .before .before .before .before .before .before .before .allow-all .ensures) (c .before .before .before .before .before .before .before .before .settle .ensures) (c .before .before .before .up .given ∙ drive .size-up) (c .before .down .given ∙ drive .size-down)
+    let bads = bad-all (contentsOf (start .args .b)) (small-wants (pre .0 .0)) (start .args .b .sizes .crews) false (omega arith)
+    (λ h. absurd (omega arith)) refl (at-bad-flags .bad-flags .ensures) in
+    person-searched (start .args .b) (pre .0 .0) (pre .0 .1 .0) drive (at-person-table .person-table .ensures) bads
+    (after-start-flags (at-person-table .before .before .before) .start-flags .ensures)
+    (at-person-table .before .before .before .allow-all .ensures) (at-settle .settle .ensures)
+    (c .before .before .before .up .given ∙ drive .size-up) (c .before .down .given ∙ drive .size-down)
 
 pub person-level-spec : {M : Type 1} → statement M
 person-level-spec =
@@ -110,6 +142,8 @@ person-level-spec =
     slice-aggregate-settle-4
     slice-aggregate-settle-5
     slice-aggregate-settle-6
+    slice-aggregate-settle-7
+    slice-aggregate-settle-8
     settle-requires
     same-length
     same-length-2

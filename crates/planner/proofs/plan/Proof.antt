@@ -5,6 +5,16 @@ use borrow.Author.Needs.{needs}
 use Rattle.planner.proofs.plan.Statement.{statement}
 use Rattle.planner.proofs.plan.Tie as tie
 
+-- The places that the answers name, each seen from a later one.
+abbrev start : tie.After-read → tie.Start
+start c = c .before .before .before
+
+abbrev after-read : tie.After-b → tie.After-read
+after-read c = c .before .before .before
+
+abbrev after-enum-told : tie.After-out → tie.After-enum-told
+after-enum-told c = c .before .before .before .before
+
 read-requires : tie.Need-read-requires
 read-requires c κs = search needs
 
@@ -12,19 +22,31 @@ enum-known-outcome : tie.Need-enum-known-outcome
 enum-known-outcome c = search needs
 
 returns : tie.Need-returns
-returns c = promise-refused (c .before .before .before .before .before .before .args .book .now) _ (read-refused (c .before .before .before .before .before .before .args .book .now) (c .before .before .before .read .result) (c .before .before .before .read .ensures) (c .before .outcome .given .0 .0) (c .before .outcome .given .1))
+returns c =
+    let at-start = start (c .before .before .before) in
+    promise-refused (at-start .args .book .now) _
+    (read-refused (at-start .args .book .now) (c .before .before .before .read .result)
+    (c .before .before .before .read .ensures) (c .before .outcome .given .0 .0) (c .before .outcome .given .1))
 
 enum-told : tie.Need-enum-told
 enum-told c = search needs
 
 plan-in-requires : tie.Need-plan-in-requires
-plan-in-requires c κs = read-sound (c .before .before .before .before .before .before .before .args .book .now) (c .before .before .before .before .read .result) (c .before .before .before .before .read .ensures) (c .before .before .enum-told .given .1)
+plan-in-requires c κs =
+    let at-read = after-read (c .before) in
+    read-sound (start at-read .args .book .now) (at-read .read .result) (at-read .read .ensures)
+    (c .before .before .enum-told .given .1)
 
 same-length : tie.Need-same-length
 same-length c = c .before .out .given
 
 returns-2 : tie.Need-returns-2
-returns-2 c = promise-accepted (c .before .before .before .before .before .before .before .before .before .before .args .book .now) _ _ _ (read-accepted (c .before .before .before .before .before .before .before .before .before .before .args .book .now) (c .before .before .before .before .before .before .before .read .result) (c .before .before .before .before .before .before .before .read .ensures) (c .before .before .before .before .before .enum-told .given .1)) (c .before .before .plan-in .ensures)
+returns-2 c =
+    let at-enum-told = after-enum-told (c .before) in
+    let at-start = start (at-enum-told .before .before) in
+    promise-accepted (at-start .args .book .now) _ _ _
+    (read-accepted (at-start .args .book .now) (at-enum-told .before .before .read .result)
+    (at-enum-told .before .before .read .ensures) (at-enum-told .enum-told .given .1)) (c .before .before .plan-in .ensures)
 
 pub plan-spec : {M : Type 1} → statement M
 plan-spec =
