@@ -2,7 +2,7 @@
 use mathlib.Core.Path.{_≡_, refl, ap, sym, subst, _∙_}
 use mathlib.Core.Bool.{Bool, true, false, cond}
 use mathlib.Core.List.{List, _∷_}
-use mathlib.Core.Logic.{_⊎_, ⊎-elim, dite}
+use mathlib.Core.Logic.{_⊎_, ⊎-elim, inl, inr, dite}
 use Prim.Native.Nat.{ℕ, _+_, _-_, _*_, _≤_, _<_}
 use native.Mathlib.Decide.{decLt}
 use native.Mathlib.Numerals.{add-one}
@@ -45,7 +45,7 @@ pub record Held (book : List ℕ) (k : Known) (q : Query) (m fs : List ℕ) (rs 
   pub left : walk nothing 1 (lines book) ≡ walk (held k q m fs rs) l (lines (drop i book))
 
 -- The rules' array after a frame x: a rule is stored behind the others.
-abbrev pub Stored : Known → List Rule → List ℕ → List Rule → Type 0
+abbrev Stored : Known → List Rule → List ℕ → List Rule → Type 0
 Stored k rs x rs′ = ((byteAt x 0 ≡ 3) × (rs′ ≡ set rs (k .count) (ruleOf x))) ⊎ ((byteAt x 0 ≡ 3 → ⊥) × (rs′ ≡ rs))
 
 juniors-length : (m x : List ℕ) → length (juniorsAfter m x) ≡ length m
@@ -69,6 +69,24 @@ crews-kept k x e h = by-kind (eqb (byteAt x 0) 1) refl
 -- A passed edge's junior is one of 32 crews.
 pub junior-small : (k : Known) (x : List ℕ) → verdict k x ≡ Good → k .sizes .crews ≤ 32 → byteAt x 0 ≡ 2 → byteAt x 2 < 32
 junior-small k x e h is = let p = edge-passed k x e is in omega (arith, p .0, p .1)
+
+-- What a frame of another kind leaves as it was.
+module _ (x : List ℕ) where
+  known-kept : (k : Known) → (byteAt x 0 ≡ 1 → ⊥) → (byteAt x 0 ≡ 3 → ⊥) → (byteAt x 0 ≡ 5 → ⊥) → k ≡ knownAfter k x
+  unfolding knownAfter
+  known-kept k one three five = rw (ne-eqb _ _ one, ne-eqb _ _ three, ne-eqb _ _ five) refl
+
+  query-kept : (q : Query) → (byteAt x 0 ≡ 5 → ⊥) → q ≡ queryAfter q x
+  unfolding queryAfter
+  query-kept q five = rw (ne-eqb _ _ five) refl
+
+  juniors-kept : (m : List ℕ) → (byteAt x 0 ≡ 2 → ⊥) → m ≡ juniorsAfter m x
+  unfolding juniorsAfter
+  juniors-kept m two = rw (ne-eqb _ _ two) refl
+
+  facts-kept : (fs : List ℕ) → (byteAt x 0 ≡ 4 → ⊥) → fs ≡ factsAfter fs x
+  unfolding factsAfter
+  facts-kept fs four = rw (ne-eqb _ _ four) refl
 
 -- What entering a frame does to the rules and to their count.
 module _ (k : Known) (rs : List Rule) (x : List ℕ) (rs′ : List Rule) (room : length rs ≡ 512) where
@@ -124,7 +142,7 @@ module _ (book : List ℕ) (k : Known) (q : Query) (m fs : List ℕ) (rs : List 
       line-bad f v =
           sym (inv .left ∙ (ap (walk (held k q m fs rs) l) (line-ended book i e is h) ∙ walk-bad (held k q m fs rs) l _ _ f well (ap (verdict k) (sym xs) ∙ v)))
 
-      pub line-good : (k′ : Known) (q′ : Query) (m′ fs′ : List ℕ) (rs′ : List Rule)
+      line-good : (k′ : Known) (q′ : Query) (m′ fs′ : List ℕ) (rs′ : List Rule)
           → verdict k x ≡ Good
           → k′ ≡ knownAfter k x → q′ ≡ queryAfter q x → m′ ≡ juniorsAfter m x → fs′ ≡ factsAfter fs x → Stored k rs x rs′
           → Held book k′ q′ m′ fs′ rs′ (e + 1) (l + 1)
@@ -146,6 +164,26 @@ module _ (book : List ℕ) (k : Known) (q : Query) (m fs : List ℕ) (rs : List 
                 ∙ ap (λ (w : List ℕ). walk (enter (held k q m fs rs) w) (l + 1) (lines (drop (e + 1) book))) (sym xs)
                 ∙ rw (ek, eq, em, ef, rules .0) refl;
           }
+
+      -- The same by the frame's kind: only what its kind enters has changed.
+      module _ (good : verdict k x ≡ Good) where
+        pub fact-good : (fs′ : List ℕ) → byteAt x 0 ≡ 4 → fs′ ≡ factsAfter fs x → Held book k q m fs′ rs (e + 1) (l + 1)
+        fact-good fs′ kind ef =
+            line-good k q m fs′ rs good (known-kept x k (λ z. omega arith) (λ z. omega arith) (λ z. omega arith)) (query-kept x q (λ z. omega arith))
+            (juniors-kept x m (λ z. omega arith)) ef (inr ((λ z. omega arith), refl))
+
+        pub rule-good : (k′ : Known) (rs′ : List Rule) → byteAt x 0 ≡ 3 → k′ ≡ knownAfter k x → rs′ ≡ set rs (k .count) (ruleOf x) → Held book k′ q m fs rs′ (e + 1) (l + 1)
+        rule-good k′ rs′ kind ek er =
+            line-good k′ q m fs rs′ good ek (query-kept x q (λ z. omega arith)) (juniors-kept x m (λ z. omega arith)) (facts-kept x fs (λ z. omega arith)) (inl (kind, er))
+
+        pub edge-good : (m′ : List ℕ) → byteAt x 0 ≡ 2 → m′ ≡ juniorsAfter m x → Held book k q m′ fs rs (e + 1) (l + 1)
+        edge-good m′ kind em =
+            line-good k q m′ fs rs good (known-kept x k (λ z. omega arith) (λ z. omega arith) (λ z. omega arith)) (query-kept x q (λ z. omega arith)) em
+            (facts-kept x fs (λ z. omega arith)) (inr ((λ z. omega arith), refl))
+
+        pub other-good : (k′ : Known) (q′ : Query) → (byteAt x 0 ≡ 4 → ⊥) → (byteAt x 0 ≡ 3 → ⊥) → (byteAt x 0 ≡ 2 → ⊥) → k′ ≡ knownAfter k x → q′ ≡ queryAfter q x
+            → Held book k′ q′ m fs rs (e + 1) (l + 1)
+        other-good k′ q′ four three two ek eq = line-good k′ q′ m fs rs good ek eq (juniors-kept x m two) (facts-kept x fs four) (inr (three, refl))
 
   -- No frame was read of the line at i: it is unended or malformed.
   pub unread-bad : (before : List ℕ) (r : Read) (after : List ℕ) → FrameRead book (record { at = i; line = l }) before r after → i < length book → r .frame ≡ NoFrame → refused (BadLine Malformed l) ≡ walk nothing 1 (lines book)

@@ -371,9 +371,11 @@ fn read_lines(book: &[u8]) -> Reading
     let none = no_rule();
     let mut rules = [none; 512];
     let mut frame = [0u8; 32768];
+    let mut digits = [0u8; 256];
+    lines::fill_digits(&mut digits);
     let mut cursor = lines::opening_line();
     while cursor.at < book.len() {
-        let read = reader::read_frame(book, cursor, &mut frame);
+        let read = reader::read_frame(book, cursor, &digits, &mut frame);
         let decoded = read.frame;
         let lines::Frame::Bytes(n) = decoded else {
             return turned_back(Refusal::BadLine(gate::Fault::Malformed, cursor.line));
@@ -383,16 +385,24 @@ fn read_lines(book: &[u8]) -> Reading
         if let gate::Verdict::Bad(f) = verdict {
             return turned_back(Refusal::BadLine(f, cursor.line));
         }
-        enter_edge(&mut juniors, x);
-        enter_fact(&mut facts, x);
-        query = query_after(query, x);
+        cursor = read.next;
         let kind = lines::byte_at(x, 0);
+        if kind == 4 {
+            enter_fact(&mut facts, x);
+            continue;
+        }
         if kind == 3 {
             let i = known.count;
             rules[i] = rule_of(x);
+            known = known_after(known, x);
+            continue;
         }
+        if kind == 2 {
+            enter_edge(&mut juniors, x);
+            continue;
+        }
+        query = query_after(query, x);
         known = known_after(known, x);
-        cursor = read.next;
     }
     if !known.asked {
         return turned_back(Refusal::BadLine(gate::Fault::Misplaced, cursor.line));

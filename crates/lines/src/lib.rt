@@ -2,8 +2,8 @@
 ghost use mathlib.Core.Path.{_≡_};
 ghost use Prim.Native.Nat.{_+_, _*_, _<_, _≤_};
 ghost use lib.ListN.{length, drop};
-ghost use Rattle.lines.specs.Digits.{digit, character, byteAt, Decoded};
-ghost use Rattle.lines.specs.Lines.{toEnd, opening, following};
+ghost use Rattle.lines.specs.Digits.{digit, character, byteAt, Decoded, Tabled, Begun};
+ghost use Rattle.lines.specs.Lines.{toEnd, firstLine, isEnd, opening, following};
 
 // A place in a book: the character at which a line starts, and the line's number.
 pub struct Cursor {
@@ -34,6 +34,25 @@ pub fn digit_of(c: u8) -> u8
         b'F' => 15,
         _ => 16,
     }
+}
+
+// The values of all characters as a table, so that a character's value is one look-up.
+pub fn fill_digits(table: &mut [u8; 256])
+    requires { ⌜ length (now table) ≡ 256 ⌝ }
+    ensures { λ _. ⌜ Tabled (now (table .exit)) ⌝ }
+{
+    let mut c: usize = 0;
+    while c < 256 {
+        table[c] = digit_of(c as u8);
+        c += 1;
+    }
+}
+
+// A character as a place in the table.
+fn wide(c: u8) -> usize
+    ensures { λ r. ⌜ (r ≡ c) × (r < 256) ⌝ }
+{
+    c as usize
 }
 
 // The same table the other way: the character of each value.
@@ -96,6 +115,43 @@ pub fn decode(x: &[u8], frame: &mut [u8]) -> Frame
         k += 1;
     }
     Frame::Bytes(k)
+}
+
+// Writes the bytes of the first line of `x` to the front of `frame`, until a character is no digit or 64 are written. Returns how many.
+pub fn decode_front(x: &[u8], digits: &[u8], frame: &mut [u8]) -> usize
+    requires { ⌜ Tabled (now digits) × ((length (now x) ≤ 65536) × (64 ≤ length (now frame))) ⌝ }
+    ensures { λ k. ⌜ Begun (firstLine (now (x .entry))) (now (frame .entry)) k (now (frame .exit)) ⌝ }
+{
+    let mut k: usize = 0;
+    while k < 64 {
+        if x.len() < 2 * k + 2 {
+            return k;
+        }
+        let high = digits[wide(x[2 * k])];
+        let low = digits[wide(x[2 * k + 1])];
+        if high >= 16 {
+            return k;
+        }
+        if low >= 16 {
+            return k;
+        }
+        frame[k] = high * 16 + low;
+        k += 1;
+    }
+    k
+}
+
+// Whether 0A stands at place n of `x`, behind a character at least.
+pub fn is_end(x: &[u8], n: usize) -> bool
+    ensures { λ r. ⌜ r ≡ isEnd (now (x .entry)) n ⌝ }
+{
+    if n == 0 {
+        return false;
+    }
+    if x.len() <= n {
+        return false;
+    }
+    x[n] == b'\n'
 }
 
 // Byte k of a frame; 0 past its end.

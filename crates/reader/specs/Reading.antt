@@ -18,11 +18,11 @@ lineEnd book at = at + toEnd (drop at book)
 abbrev pub lineOf : List ℕ → ℕ → ℕ → List ℕ
 lineOf book at end = take (end - at) (drop at book)
 
--- "each line ended by byte 0A": an unended line is malformed, and nothing is written; an ended one writes its frame to the
--- buffer's front, unless it is malformed.
+-- "each line ended by byte 0A": an unended line is malformed; an ended one writes its frame to the buffer's front, unless it is
+-- malformed. What a malformed line leaves in the buffer is not said.
 pub record LineRead (book : List ℕ) (at : ℕ) (before : List ℕ) (line : Line) (after : List ℕ) : Type 0 where
   pub ends : line .end ≡ lineEnd book at
-  pub unended : length book ≤ line .end → (line .frame ≡ Malformed) × (after ≡ before)
+  pub unended : length book ≤ line .end → (line .frame ≡ Malformed) × (length after ≡ length before)
   pub ended : line .end < length book → Decoded (lineOf book at (line .end)) (line .frame) before after
 
 -- The same at a cursor, with the cursor of the line behind it.

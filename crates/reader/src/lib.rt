@@ -2,6 +2,7 @@
 ghost use mathlib.Core.Path.{_≡_};
 ghost use Prim.Native.Nat.{_+_, _≤_};
 ghost use lib.ListN.{length};
+ghost use Rattle.lines.specs.Digits.{Tabled};
 ghost use Rattle.reader.specs.Reading.{LineRead, FrameRead};
 use lines::Cursor;
 
@@ -17,8 +18,8 @@ pub struct Read {
     pub next: Cursor,
 }
 
-// The line that starts at `at`; its frame is written to the front of `frame`.
-fn line_at(book: &[u8], at: usize, frame: &mut [u8]) -> Line
+// The line that starts at `at`, by two passes: its end is found, then an ended line is decoded.
+fn any_line_at(book: &[u8], at: usize, frame: &mut [u8]) -> Line
     requires { ⌜ (at ≤ length (now book)) × ((length (now book) ≤ 65536) × (32768 ≤ length (now frame))) ⌝ }
     ensures { λ l. ⌜ LineRead (now (book .entry)) at (now (frame .entry)) l (now (frame .exit)) ⌝ }
 {
@@ -35,6 +36,23 @@ fn line_at(book: &[u8], at: usize, frame: &mut [u8]) -> Line
         frame: decoded,
         end,
     }
+}
+
+// The line that starts at `at`; its frame is written to the front of `frame`. One pass serves an ended line of up to 64 bytes.
+fn line_at<'a>(book: &'a [u8], at: usize, digits: &'a [u8], frame: &mut [u8]) -> Line
+    requires { ⌜ (at ≤ length (now book)) × ((length (now book) ≤ 65536) × ((32768 ≤ length (now frame)) × Tabled (now digits))) ⌝ }
+    ensures { λ l. ⌜ LineRead (now (book .entry)) at (now (frame .entry)) l (now (frame .exit)) ⌝ }
+{
+    let x = &book[at..];
+    let k = lines::decode_front(x, digits, frame);
+    let n = 2 * k;
+    if lines::is_end(x, n) {
+        return Line {
+            frame: lines::Frame::Bytes(k),
+            end: at + n,
+        };
+    }
+    any_line_at(book, at, frame)
 }
 
 // A line's frame, with the cursor of the line behind it.
@@ -74,11 +92,11 @@ pub fn place<'a>(r: Reader<'a>) -> Cursor
 }
 
 // The line there; its frame is written to the front of `frame`.
-pub fn current<'a>(r: Reader<'a>, frame: &mut [u8]) -> Line
-    requires { ⌜ (r .at ≤ length (now (r .book))) × ((length (now (r .book)) ≤ 65536) × (32768 ≤ length (now frame))) ⌝ }
+pub fn current<'a>(r: Reader<'a>, digits: &'a [u8], frame: &mut [u8]) -> Line
+    requires { ⌜ (r .at ≤ length (now (r .book))) × ((length (now (r .book)) ≤ 65536) × ((32768 ≤ length (now frame)) × Tabled (now digits))) ⌝ }
     ensures { λ l. ⌜ LineRead (now (r .entry .book)) (r .entry .at) (now (frame .entry)) l (now (frame .exit)) ⌝ }
 {
-    line_at(r.book, r.at, frame)
+    line_at(r.book, r.at, digits, frame)
 }
 
 // The reader behind the line that ends at `end`.
@@ -91,12 +109,12 @@ pub fn next<'a>(r: Reader<'a>, end: usize) -> Reader<'a>
 }
 
 // The frame at a cursor, and the cursor of the line behind it: plain parameters, so that no caller needs a walk.
-pub fn read_frame(book: &[u8], c: Cursor, frame: &mut [u8]) -> Read
-    requires { ⌜ (c .at ≤ length (now book)) × ((length (now book) ≤ 65536) × ((32768 ≤ length (now frame)) × (c .line ≤ 65536))) ⌝ }
+pub fn read_frame<'a>(book: &'a [u8], c: Cursor, digits: &'a [u8], frame: &mut [u8]) -> Read
+    requires { ⌜ (c .at ≤ length (now book)) × ((length (now book) ≤ 65536) × ((32768 ≤ length (now frame)) × (Tabled (now digits) × (c .line ≤ 65536)))) ⌝ }
     ensures { λ r. ⌜ FrameRead (now (book .entry)) c (now (frame .entry)) r (now (frame .exit)) ⌝ }
 {
     let r = new(book, c);
-    let line = current(r, frame);
+    let line = current(r, digits, frame);
     let q = next(r, line.end);
     let behind = place(q);
     read_of(line, behind)

@@ -25,10 +25,10 @@ loop-holds : tie.Need-loop-holds Inv-loop μ-loop
 loop-holds c = decode-none _ _ (c .before .if1 .left) (c .if2 .left)
 
 mul-loop : tie.Need-mul-loop Inv-loop μ-loop
-mul-loop c = omega (arith, c .loop .inv .within, c .before .before .before .before .before .pre .0)
+mul-loop c = omega (arith, c .loop .inv .begun .within, c .before .before .before .before .before .pre .0)
 
 mul-digit-of : tie.Need-mul-digit-of Inv-loop μ-loop
-mul-digit-of c = omega (arith, c .before .loop .inv .within, c .before .before .before .before .before .before .pre .0)
+mul-digit-of c = omega (arith, c .before .loop .inv .begun .within, c .before .before .before .before .before .before .pre .0)
 
 shared-slice-read-digit-of : tie.Need-shared-slice-read-digit-of Inv-loop μ-loop
 shared-slice-read-digit-of c = search needs
@@ -49,13 +49,13 @@ digit-of-requires-2 : tie.Need-digit-of-requires-2 Inv-loop μ-loop
 digit-of-requires-2 c κs = search needs
 
 same-length : tie.Need-same-length Inv-loop μ-loop
-same-length c = c .before .before .before .before .before .before .loop .inv .size
+same-length c = c .before .before .before .before .before .before .loop .inv .begun .size
 
 returns-3 : tie.Need-returns-3 Inv-loop μ-loop
 returns-3 c = decode-high _ _ _ _ (c .before .before .before .before .before .before .loop .inv) (c .before .before .before .before .before .loop-test .taken) _ (c .before .before .before .digit-of .ensures) (c .if3 .taken)
 
 same-length-2 : tie.Need-same-length-2 Inv-loop μ-loop
-same-length-2 c = c .before .before .before .before .before .before .before .loop .inv .size
+same-length-2 c = c .before .before .before .before .before .before .before .loop .inv .begun .size
 
 returns-4 : tie.Need-returns-4 Inv-loop μ-loop
 returns-4 c = decode-low _ _ _ _ (c .before .before .before .before .before .before .before .loop .inv) (c .before .before .before .before .before .before .loop-test .taken) _ (c .before .before .before .before .digit-of .ensures) (c .before .if3 .left) _ (c .before .before .digit-of2 .ensures) (c .if4 .taken)
@@ -67,7 +67,7 @@ add-frame : tie.Need-add-frame Inv-loop μ-loop
 add-frame c = search needs
 
 slice-write-frame : tie.Need-slice-write-frame Inv-loop μ-loop
-slice-write-frame c = omega (arith, c .before .before .before .before .before .before .loop-test .taken, c .before .before .before .before .before .before .before .loop .inv .size, c .before .before .before .before .before .before .before .before .before .before .before .before .pre .1)
+slice-write-frame c = omega (arith, c .before .before .before .before .before .before .loop-test .taken, c .before .before .before .before .before .before .before .loop .inv .begun .size, c .before .before .before .before .before .before .before .before .before .before .before .before .pre .1)
 
 add-k : tie.Need-add-k Inv-loop μ-loop
 add-k c = search needs
@@ -76,13 +76,13 @@ loop-less : tie.Need-loop-less Inv-loop μ-loop
 loop-less c = search needs
 
 loop-again : tie.Need-loop-again Inv-loop μ-loop
-loop-again c = decode-more _ _ _ _ (c .before .before .before .before .before .before .before .loop .inv) (c .before .before .before .before .before .before .loop-test .taken) _ (c .before .before .before .before .digit-of .ensures) (c .before .if3 .left) _ (c .before .before .digit-of2 .ensures) (c .if4 .left) (omega (arith, c .before .before .before .before .before .before .loop-test .taken, c .before .before .before .before .before .before .before .loop .inv .size, c .before .before .before .before .before .before .before .before .before .before .before .before .pre .1))
+loop-again c = decode-more _ _ _ _ (c .before .before .before .before .before .before .before .loop .inv) (c .before .before .before .before .before .before .loop-test .taken) _ (c .before .before .before .before .digit-of .ensures) (c .before .if3 .left) _ (c .before .before .digit-of2 .ensures) (c .if4 .left) (omega (arith, c .before .before .before .before .before .before .loop-test .taken, c .before .before .before .before .before .before .before .loop .inv .begun .size, c .before .before .before .before .before .before .before .before .before .before .before .before .pre .1))
 
 same-length-3 : tie.Need-same-length-3 Inv-loop μ-loop
-same-length-3 c = c .before .loop .inv .size
+same-length-3 c = c .before .loop .inv .begun .size
 
 returns-5 : tie.Need-returns-5 Inv-loop μ-loop
-returns-5 c = decode-all _ _ _ _ (c .before .loop .inv) (c .loop-test .left) (omega (arith, c .before .loop .inv .within, c .before .loop .inv .size, c .before .before .before .before .before .before .pre .1))
+returns-5 c = decode-all _ _ _ _ (c .before .loop .inv) (c .loop-test .left)
 
 pub decode-spec : {M : Type 1} → statement M
 decode-spec =

@@ -1,49 +1,60 @@
--- `reader::line_at` meets its contract: the line's end is found once, and an ended line is decoded. Assumes nothing.
-use Prim.Native.Nat.{_-_}
+-- `reader::line_at` meets its contract: 0A behind the digits that were decoded is the line's end; any other line is read anew. Assumes nothing.
+use mathlib.Core.Path.{sym, _∙_}
 use native.Mathlib.Omega.{arith}
-use mathlib.Core.Path.{refl}
-use lib.ListN.{drop, length-drop}
-use lib.Seq.{length-take-le}
+use Rattle.reader.proofs.ReadLaws.{rest-of, front-inside, front-read, read-over}
 use borrow.Author.Needs.{needs}
 use Rattle.reader.proofs.line_at.Statement.{statement}
 use Rattle.reader.proofs.line_at.Tie as tie
 
-line-end-requires : tie.Need-line-end-requires
-line-end-requires c κs = search needs
-
-returns : tie.Need-returns
-returns c = record { ends = c .before .line-end .ensures; unended = λ h. (refl, refl); ended = λ h. absurd (omega (arith, h, c .if1 .taken)) }
-
 sub-x : tie.Need-sub-x
-sub-x c = omega (arith, c .before .line-end .ensures)
+sub-x c = search needs
 
 part-x-start : tie.Need-part-x-start
-part-x-start c = omega (arith, c .before .line-end .ensures)
+part-x-start c = search needs
 
 part-x-end : tie.Need-part-x-end
 part-x-end c = search needs
 
-decode-requires : tie.Need-decode-requires
-decode-requires c κs =
-    let start = c .before .before .before .before .before .before in
-    let size = length-take-le (c .before .before .before .line-end .result - start .args .at) (drop (start .args .at) (start .args .book .now)) (omega (arith, length-drop (start .args .at) (start .args .book .now), c .before .before .if1 .left)) in
-    (omega (arith, size, c .before .before .if1 .left, start .pre), omega (arith, size, c .before .before .if1 .left, start .pre))
+decode-front-requires : tie.Need-decode-front-requires
+decode-front-requires c κs = search needs
+
+mul-n : tie.Need-mul-n
+mul-n c = search needs
+
+is-end-requires : tie.Need-is-end-requires
+is-end-requires c κs = search needs
+
+add-t15 : tie.Need-add-t15
+add-t15 c = let start = c .before .before .before .before .before .before .before .before .before .before .args in omega (arith, front-inside (start .book .now) (start .at) _ (rest-of (start .book .now) (start .at)) _ (c .before .before .before .before .decode-front .result) _ (c .before .before .before .before .decode-front .ensures) (sym (c .before .is-end .ensures) ∙ c .if1 .taken))
 
 same-length : tie.Need-same-length
-same-length c = c .before .before .decode .ensures .size
+same-length c = search needs
+
+returns : tie.Need-returns
+returns c = front-read _ _ _ (rest-of (c .before .before .before .before .before .before .before .before .before .before .args .book .now) (c .before .before .before .before .before .before .before .before .before .before .args .at)) _ _ _ (c .before .before .before .before .decode-front .ensures) (sym (c .before .is-end .ensures) ∙ c .if1 .taken)
+
+any-line-at-requires : tie.Need-any-line-at-requires
+any-line-at-requires c κs = search needs
+
+same-length-2 : tie.Need-same-length-2
+same-length-2 c = search needs
 
 returns-2 : tie.Need-returns-2
-returns-2 c = record { ends = c .before .before .before .before .before .before .line-end .ensures; unended = λ h. absurd (omega (arith, h, c .before .before .before .before .before .if1 .left)); ended = λ h. c .before .before .decode .ensures }
+returns-2 c = read-over _ _ _ _ _ _ (c .before .before .before .before .before .before .before .before .decode-front .ensures .size) (c .before .before .any-line-at .ensures)
 
 pub line-at-spec : {M : Type 1} → statement M
 line-at-spec =
     tie.close
     (tie.spec
-    line-end-requires
-    returns
     sub-x
     part-x-start
     part-x-end
-    decode-requires
+    decode-front-requires
+    mul-n
+    is-end-requires
+    add-t15
     same-length
+    returns
+    any-line-at-requires
+    same-length-2
     returns-2)

@@ -1,5 +1,5 @@
--- `reader::read_frame` meets its contract: a walk of its MIR, by hand, with a `&[u8]` and a `&mut [u8]` at two lifetimes. A reader that `new` returns is held in a local: `current` reads its line into the buffer, `next` moves it, and `place` says where it then stands. All that the proof knows of the functions called is that each meets its contract.
--- The reader is Copy: one copy of what it owns goes to `current`, the other to `next`. The buffer is passed on at its own lifetime, share and name: it is given up for good, and what `current` says of the last list is what `read_frame` says of it.
+-- `reader::read_frame` meets its contract: a walk of its MIR, by hand, with the book and the digits' table at one lifetime and a `&mut [u8]` at another. A reader that `new` returns is held in a local: `current` reads its line into the buffer, `next` moves it, and `place` says where it then stands. All that the proof knows of the functions called is that each meets its contract.
+-- The reader is Copy: one copy of what it owns goes to `current`, the other to `next`. The table goes to `current` beside the buffer. The buffer is passed on at its own lifetime, share and name: it is given up for good, and what `current` says of the last list is what `read_frame` says of it.
 -- In a local of a body MIR erases the lifetime of the struct's type, so the value is shown to have the type at `erased`.
 -- Assumes nothing.
 use mathlib.Core.Path.{_≡_, refl, sym, ap, subst, _∙_}
@@ -19,7 +19,7 @@ use prog.Wp.{Heap, Calls, Loops, WpFn, Tables}
 use ghost.Atoms.{Atoms}
 use contract.Monad.{Fun}
 use contract.Running.{givenOf, tables, tablesOf}
-use types.Kit.{Given, Item, ‵, raw, _⊛_, ⋆, _$_, _∵_, !, qed, by, move, keep, use1, use2, use3, split, join, rewrite, fsplit, fjoin, feqL, suffices, frame, done}
+use types.Kit.{Given, Item, ‵, raw, _⊛_, ⋆, _$_, _∵_, !, qed, by, move, keep, use1, use2, use3, drop, split, join, rewrite, fsplit, fjoin, feqL, suffices, frame, done}
 use types.Part.{whole, sub, look-in, agg}
 use types.Run.{look, init, forget, stop, hop, fld, from, load, of-opd, addr, and-then, no-more, assigns, land, returns, enter, alloc1, alloc0, params1, pass1, pass0, free1, free0}
 use sound.WpLaws.{FmC, fmOf, WpFn-mono}
@@ -42,6 +42,7 @@ use denote.Triple.Walked.{says, needs, Stays, stay-dropped, gave-slice, walkOf, 
 use Rattle.walks.proofs.Walk.{returned}
 use Rattle.walks.proofs.Last.{returned-last}
 use Rattle.lines.specs.declared.Cursor.{Cursor}
+use Rattle.lines.specs.Digits.{Tabled}
 use Rattle.lines.specs.Lines.{following}
 use Rattle.lines.specs.declared.Frame.{Frame}
 use Rattle.lines.proofs.LineLaws.{line-within}
@@ -92,13 +93,13 @@ lent = shrSliceOf (0 ∷ []) tt byte
 abbrev cursor : Slot 2
 cursor = plain (λ _. K.the-row)
 
--- nothing is had of the book and of the cursor at exit, and of the buffer what says its last list
+-- nothing is had of the book, of the cursor and of the table at exit, and of the buffer what says its last list
 abbrev stayed : Stays (read-frame.ended .signature .params) (read-frame.ended .kept)
-stayed = (stay-dropped lent yes, (stay-dropped cursor yes, (gave-slice (1 ∷ []) tt byte, tt)))
+stayed = (stay-dropped lent yes, (stay-dropped cursor yes, (stay-dropped lent yes, (gave-slice (1 ∷ []) tt byte, tt))))
 
 -- what is asked of a reader made at a cursor follows from what is asked at the cursor
-asks-line : (s b : RefT (List ℕ)) (i j : ℕ) (n : ℕ) → b ≡ s → j ≡ i → (i ≤ length (now s)) × ((length (now s) ≤ 65536) × (32768 ≤ n)) → (j ≤ length (now b)) × ((length (now b) ≤ 65536) × (32768 ≤ n))
-asks-line s b i j n eb ej p = rw (eb, ej) p
+asks-line : (s b : RefT (List ℕ)) (i j : ℕ) (P : Type 0) → b ≡ s → j ≡ i → (i ≤ length (now s)) × ((length (now s) ≤ 65536) × P) → (j ≤ length (now b)) × ((length (now b) ≤ 65536) × P)
+asks-line s b i j P eb ej p = rw (eb, ej) p
 
 asks-next : (book : List ℕ) (i k k′ : ℕ) (before after : List ℕ) (l : Line) → k′ ≡ k → LineRead book i before l after → i ≤ length book → length book ≤ 65536 → k ≤ 65536 → (l .end ≤ 65536) × (k′ ≤ 65536)
 asks-next book i k k′ before after l ek p h m n = (omega (arith, line-within book i (l .end) (p .ends) h, m), omega (arith, ek, n))
@@ -140,7 +141,7 @@ module _ {M : Type 1} (𝓤 : URA M) (H : Heap 𝓤) (A : Atoms 𝓤) (mem : Mem
   abbrev ReadOf : Contract 𝓤
   ReadOf = tripleOf 𝓤 H A read-of.signature (read-of.spec 𝓤 H A mem run)
 
-module _ {M : Type 1} (𝓤 : URA M) (H : Heap 𝓤) (A : Atoms 𝓤) (W : Given 𝓤 H A) (mem : Memory → SProp 𝓤) (run : Routine → Fun 𝓤) (κ₀ κ₁ : Lft) (q₀ q₁ : Share) (s : RefT (List ℕ)) (c : Cursor) (x : RefT (List ℕ)) (gm : Room u8 (length (x .now))) where
+module _ {M : Type 1} (𝓤 : URA M) (H : Heap 𝓤) (A : Atoms 𝓤) (W : Given 𝓤 H A) (mem : Memory → SProp 𝓤) (run : Routine → Fun 𝓤) (κ₀ κ₁ : Lft) (q₀ q₁ : Share) (s : RefT (List ℕ)) (c : Cursor) (t x : RefT (List ℕ)) (gm : Room u8 (length (x .now))) where
   abbrev α : NamedLft
   α = namedLft 2 0 tt (κ₀, (κ₁, tt))
 
@@ -157,21 +158,24 @@ module _ {M : Type 1} (𝓤 : URA M) (H : Heap 𝓤) (A : Atoms 𝓤) (W : Given
   abbrev Toks : Item 𝓤
   Toks = ‵ (flft κ₀ q₀) ⊛ T₁
 
-  -- the machine values of the book, of the cursor and of the buffer
+  -- the machine values of the book, of the cursor, of the table and of the buffer
   abbrev v : Val
   v = sliceVal (s .ptr) (length (s .now))
 
   abbrev w : Val
   w = K′.lowered c
 
+  abbrev g : Val
+  g = sliceVal (t .ptr) (length (t .now))
+
   abbrev b : Val
   b = sliceVal (x .ptr) (length (x .now))
 
-  abbrev a : RefT (List ℕ) × (Cursor × (RefT (List ℕ) × Unit {0}))
-  a = (s, (c, (x, tt)))
+  abbrev a : RefT (List ℕ) × (Cursor × (RefT (List ℕ) × (RefT (List ℕ) × Unit {0})))
+  a = (s, (c, (t, (x, tt))))
 
   abbrev at : Vals read-frame.signature (κ₀, (κ₁, tt))
-  at = (v ∷ [], (w ∷ [], (b ∷ [], tt)))
+  at = (v ∷ [], (w ∷ [], (g ∷ [], (b ∷ [], tt))))
 
   abbrev y : walkOf 𝓤 H A read-frame.ended stayed (read-frame.clauses 𝓤 H A mem run) .Ghost
   y = (((κ₀, (κ₁, tt)), (q₀, (q₁, tt)), tt, a, at), tt)
@@ -185,6 +189,9 @@ module _ {M : Type 1} (𝓤 : URA M) (H : Heap 𝓤) (A : Atoms 𝓤) (W : Given
   abbrev Place-of : Cursor → Val → Fml
   Place-of e u = K.the-row .own e (u ∷ [])
 
+  abbrev Table : Fml
+  Table = ShrSlice (named 0) κ₀ u8 .own t (g ∷ [])
+
   abbrev Buffer : Fml
   Buffer = MutSlice (named 1) κ₁ u8 .own x (b ∷ [])
 
@@ -192,13 +199,17 @@ module _ {M : Type 1} (𝓤 : URA M) (H : Heap 𝓤) (A : Atoms 𝓤) (W : Given
   Own r u = T.the-row α .own r (u ∷ [])
 
   abbrev Asked : Type 0
-  Asked = (c .at ≤ length (now s)) × ((length (now s) ≤ 65536) × ((32768 ≤ length (now x)) × (c .line ≤ 65536)))
+  Asked = (c .at ≤ length (now s)) × ((length (now s) ≤ 65536) × ((32768 ≤ length (now x)) × (Tabled (now t) × (c .line ≤ 65536))))
+
+  -- what is asked of the buffer and of the table
+  abbrev Ready : Type 0
+  Ready = (32768 ≤ length (now x)) × Tabled (now t)
 
   exits : (d : Read) (u : Val) (zs : List ℕ) → FrameRead (now s) c (now x) d zs → length zs ≡ length (now x) → ent 𝓤 (⋆ 𝓤 H A (T₀ ∷ T₁ ∷ ‵ (finally u8 (x .name) zs) ∷ ‵ (D.the-row .own d (u ∷ [])) ∷ [])) (Post u)
   exits d u zs e n =
       qed W (T₀ ∷ T₁ ∷ ‵ (finally u8 (x .name) zs) ∷ ‵ (D.the-row .own d (u ∷ [])) ∷ []) ∵
-      suffices ! _ (ends-at 𝓤 H A read-frame.ended stayed (read-frame.clauses 𝓤 H A mem run) W y u d (tt, (tt, (zs, tt))) (tt, (tt, (n, tt)))) $ says ! e $
-      split ! $ move ! (0 ∷ 2 ∷ []) $ join ! $ frame ! $ move ! (1 ∷ 0 ∷ []) $ fjoin ! $ nothing ! $ fjoin ! $ nothing ! $ fjoin ! $ done !
+      suffices ! _ (ends-at 𝓤 H A read-frame.ended stayed (read-frame.clauses 𝓤 H A mem run) W y u d (tt, (tt, (tt, (zs, tt)))) (tt, (tt, (tt, (n, tt))))) $ says ! e $
+      split ! $ move ! (0 ∷ 2 ∷ []) $ join ! $ frame ! $ move ! (1 ∷ 0 ∷ []) $ fjoin ! $ nothing ! $ fjoin ! $ nothing ! $ fjoin ! $ nothing ! $ fjoin ! $ done !
 
   -- the calls: what each is passed, and that what is had is what it asks
   abbrev to-new : New 𝓤 H A mem run .Ghost
@@ -208,10 +219,10 @@ module _ {M : Type 1} (𝓤 : URA M) (H : Heap 𝓤) (A : Atoms 𝓤) (W : Given
   goes-new = qed W (T₀ ∷ ‵ Book ∷ ‵ (Place-of c w) ∷ []) ∵ nothing ! $ move ! (3 ∷ 0 ∷ []) $ fjoin ! $ move ! (2 ∷ 0 ∷ []) $ fjoin ! $ move ! (1 ∷ 0 ∷ []) $ join ! $ frame ! $ done !
 
   abbrev to-current : Reader → Val → Current 𝓤 H A mem run .Ghost
-  to-current r u = (((κ₀, (κ₁, tt)), (q₀, (q₁, tt)), tt, (r, (x, tt)), (u ∷ [], (b ∷ [], tt))), tt)
+  to-current r u = (((κ₀, (κ₁, tt)), (q₀, (q₁, tt)), tt, (r, (t, (x, tt))), (u ∷ [], (g ∷ [], (b ∷ [], tt)))), tt)
 
-  goes-current : (r : Reader) (u : Val) → (r .at ≤ length (now (r .book))) × ((length (now (r .book)) ≤ 65536) × (32768 ≤ length (now x))) → ent 𝓤 (⋆ 𝓤 H A (Toks ∷ ‵ (Own r u) ∷ ‵ Buffer ∷ [])) (Current 𝓤 H A mem run .pre (to-current r u))
-  goes-current r u e = qed W (Toks ∷ ‵ (Own r u) ∷ ‵ Buffer ∷ []) ∵ says ! e $ frame ! $ nothing ! $ move ! (2 ∷ 0 ∷ []) $ fjoin ! $ move ! (1 ∷ 0 ∷ []) $ fjoin ! $ done !
+  goes-current : (r : Reader) (u : Val) → (r .at ≤ length (now (r .book))) × ((length (now (r .book)) ≤ 65536) × Ready) → ent 𝓤 (⋆ 𝓤 H A (Toks ∷ ‵ (Own r u) ∷ (‵ Buffer ⊛ ‵ Table) ∷ [])) (Current 𝓤 H A mem run .pre (to-current r u))
+  goes-current r u e = qed W (Toks ∷ ‵ (Own r u) ∷ (‵ Buffer ⊛ ‵ Table) ∷ []) ∵ says ! e $ frame ! $ move ! (1 ∷ []) $ split ! $ nothing ! $ move ! (1 ∷ 0 ∷ []) $ fjoin ! $ move ! (1 ∷ 0 ∷ []) $ fjoin ! $ move ! (1 ∷ 0 ∷ []) $ fjoin ! $ done !
 
   abbrev to-next : Reader → Val → ℕ → Next 𝓤 H A mem run .Ghost
   to-next r u n = (((κ₀, tt), (q₀, tt), tt, (r, (n, tt)), (u ∷ [], (vint w64 n ∷ [], tt))), tt)
@@ -232,34 +243,34 @@ module _ {M : Type 1} (𝓤 : URA M) (H : Heap 𝓤) (A : Atoms 𝓤) (W : Given
   goes-read l e u = qed W (‵ (L.the-row .own l (L′.lowered l ∷ [])) ∷ ‵ (Place-of e u) ∷ []) ∵ nothing ! $ move ! (2 ∷ 0 ∷ []) $ fjoin ! $ move ! (1 ∷ 0 ∷ []) $ fjoin ! $ nothing ! $ join ! $ frame ! $ done !
 
   module _ (C : Calls 𝓤 H) (Λ : Loops 𝓤 H) (fm : FmC 𝓤 H (W .laws) C) (known-new : Triple 𝓤 (C #reader·new) (New 𝓤 H A mem run)) (known-current : Triple 𝓤 (C #reader·current) (Current 𝓤 H A mem run)) (known-next : Triple 𝓤 (C #reader·next) (Next 𝓤 H A mem run)) (known-place : Triple 𝓤 (C #reader·place) (Place 𝓤 H A mem run)) (known-read : Triple 𝓤 (C #reader·read-of) (ReadOf 𝓤 H A mem run)) where
-    walk : Is (ShrSlice (named 0) κ₀ u8) s (v ∷ []) → Is K.the-row c (w ∷ []) → Asked → ent 𝓤 (onEntry 𝓤 H A read-frame.signature (κ₀, (κ₁, tt)) (q₀, (q₁, tt)) a at) (WpFn 𝓤 H C Λ code.function (v ∷ w ∷ b ∷ []) Post)
-    walk p pc e =
-        qed W (Toks ∷ ‵ (owns (ShrSlice (named 0) κ₀ u8 ∷ K.the-row ∷ MutSlice (named 1) κ₁ u8 ∷ []) a at) ∷ []) ∵ enter ! C Λ code.function (v ∷ w ∷ b ∷ []) _ $
-        alloc1 ! (λ l₀. alloc1 ! (λ l₁. alloc1 ! (λ l₂. alloc1 ! (λ l₃. alloc1 ! (λ l₄. alloc1 ! (λ l₅. alloc1 ! (λ l₆. alloc1 ! (λ l₇. alloc1 ! (λ l₈. alloc1 ! (λ l₉. alloc1 ! (λ l₁₀. alloc1 ! (λ l₁₁. alloc1 ! (λ l₁₂. alloc0 ! $ params1 ! $
-        pass1 ! (init ! 22 refl (shr-slice-lawful 𝓤 H A W (named 0) κ₀ u8 .typed s (v ∷ []) p .0)) $ pass1 ! (init ! 20 refl (LL.lawful K.the-type K′.the-laws 𝓤 H A W .typed c (w ∷ []) pc .0)) $ pass1 ! (init ! 18 refl (tt, (tt, (record { fits = gm .0 }, tt)))) $ pass0 ! $
-        move ! (27 ∷ []) $ fsplit ! $ move ! (1 ∷ []) $ fsplit ! $ move ! (1 ∷ []) $ fsplit ! $ move ! (30 ∷ []) $ split ! $ nothing ! $ move ! (1 ∷ 0 ∷ []) $ join ! $
-        -- [the book's token; the buffer's; what the buffer owns; true; what the cursor owns; what the book owns; rooms and parameters]
+    walk : Is (ShrSlice (named 0) κ₀ u8) s (v ∷ []) → Is K.the-row c (w ∷ []) → Is (ShrSlice (named 0) κ₀ u8) t (g ∷ []) → Asked → ent 𝓤 (onEntry 𝓤 H A read-frame.signature (κ₀, (κ₁, tt)) (q₀, (q₁, tt)) a at) (WpFn 𝓤 H C Λ code.function (v ∷ w ∷ g ∷ b ∷ []) Post)
+    walk p pc pt e =
+        qed W (Toks ∷ ‵ (owns (ShrSlice (named 0) κ₀ u8 ∷ K.the-row ∷ ShrSlice (named 0) κ₀ u8 ∷ MutSlice (named 1) κ₁ u8 ∷ []) a at) ∷ []) ∵ enter ! C Λ code.function (v ∷ w ∷ g ∷ b ∷ []) _ $
+        alloc1 ! (λ l₀. alloc1 ! (λ l₁. alloc1 ! (λ l₂. alloc1 ! (λ l₃. alloc1 ! (λ l₄. alloc1 ! (λ l₅. alloc1 ! (λ l₆. alloc1 ! (λ l₇. alloc1 ! (λ l₈. alloc1 ! (λ l₉. alloc1 ! (λ l₁₀. alloc1 ! (λ l₁₁. alloc1 ! (λ l₁₂. alloc1 ! (λ l₁₃. alloc0 ! $ params1 ! $
+        pass1 ! (init ! 24 refl (shr-slice-lawful 𝓤 H A W (named 0) κ₀ u8 .typed s (v ∷ []) p .0)) $ pass1 ! (init ! 22 refl (LL.lawful K.the-type K′.the-laws 𝓤 H A W .typed c (w ∷ []) pc .0)) $ pass1 ! (init ! 20 refl (shr-slice-lawful 𝓤 H A W (named 0) κ₀ u8 .typed t (g ∷ []) pt .0)) $ pass1 ! (init ! 18 refl (tt, (tt, (record { fits = gm .0 }, tt)))) $ pass0 ! $
+        move ! (29 ∷ []) $ fsplit ! $ move ! (1 ∷ []) $ fsplit ! $ move ! (1 ∷ []) $ fsplit ! $ move ! (1 ∷ []) $ fsplit ! $ move ! (0 ∷ 2 ∷ []) $ join ! $ move ! (32 ∷ []) $ split ! $ nothing ! $ move ! (1 ∷ 0 ∷ []) $ join ! $
+        -- [the book's token; the buffer's; what the buffer and the table own; true; what the cursor owns; what the book owns; rooms and parameters]
         move ! (0 ∷ 5 ∷ 4 ∷ []) $ use3 W (raw (New 𝓤 H A mem run .pre to-new)) goes-new $
-        calls-at ! fm (New 𝓤 H A mem run) known-new to-new (and-then ! (load ! (from ! (stop !)) (look ! 26 refl)) (and-then ! (load ! (from ! (stop !)) (look ! 24 refl)) (no-more !))) (λ u₁.
+        calls-at ! fm (New 𝓤 H A mem run) known-new to-new (and-then ! (load ! (from ! (stop !)) (look ! 28 refl)) (and-then ! (load ! (from ! (stop !)) (look ! 26 refl)) (no-more !))) (λ u₁.
         returned ! tt new.ended (new.clauses 𝓤 H A mem run) to-new u₁ T₀ (id⊢ 𝓤 _) (λ r. (r .book ≡ s) × ((r .at ≡ c .at) × (r .line ≡ c .line))) (λ r ws. id⊢ 𝓤 _) (λ r₁ e₁. move ! (1 ∷ []) $ peeks ! (T.the-row α) (Is (T.the-row α)) (shows 𝓤 H A (T.the-row α)) r₁ (u₁ ∷ []) (λ is₁.
-        -- [what the reader owns; the book's token; the buffer's; what the buffer owns; true; room for _12; …; room for _4; …; _3; …; _2; …; _1; …; room for _0; …]
+        -- [what the reader owns; the book's token; the buffer's; what the buffer and the table own; true; room for _13; …; room for _5; …; _4; …; _3; …; _2; …; _1; …; room for _0; …]
         land ! (from ! (stop !)) (init ! 21 refl (LL.lawful (T.the-type αᵉ) (T′.the-laws αᵉ) 𝓤 H A W .typed r₁ _ is₁ .0)) $
         assigns ! (of-opd ! (load ! (from ! (stop !)) (look ! 21 refl))) (from ! (stop !)) (init ! 13 refl (LL.lawful (T.the-type αᵉ) (T′.the-laws αᵉ) 𝓤 H A W .typed r₁ _ is₁ .0)) $
         assigns ! (addr ! (from ! (fld ! refl (hop ! (look-in ! 23 (sub ! 0 refl (whole !))) (stop !))))) (from ! (stop !)) (init ! 11 refl (tt, tt)) $
         assigns ! (agg ! (and-then ! (load ! (from ! (stop !)) (look ! 11 refl)) (and-then ! (load ! (from ! (fld ! refl (stop !))) (look-in ! 23 (sub ! 1 refl (whole !)))) (no-more !)))) (from ! (stop !)) (init ! 9 refl (tt, (tt, (record { fits = gm .0 }, tt)))) $
         use1 W (‵ (Own r₁ u₁) ⊛ ‵ (Own r₁ u₁)) (LL.copy (T.the-type α) (T′.the-copy α) 𝓤 H A W .twice r₁ (u₁ ∷ [])) $ split ! $ move ! (2 ∷ []) $ split ! $ move ! (0 ∷ 4 ∷ []) $ join ! $
-        -- [the tokens; true; what the reader owns, twice; what the buffer owns; true; rooms and locals]
+        -- [the tokens; true; what the reader owns, twice; what the buffer and the table own; true; rooms and locals]
         move ! (0 ∷ 2 ∷ 4 ∷ []) $ use3 W (raw (Current 𝓤 H A mem run .pre (to-current r₁ u₁))) (goes-current r₁ u₁ (within r₁ e₁ e)) $
-        calls-at ! fm (Current 𝓤 H A mem run) known-current (to-current r₁ u₁) (and-then ! (load ! (from ! (stop !)) (look ! 12 refl)) (and-then ! (load ! (from ! (stop !)) (look ! 8 refl)) (no-more !))) (λ u₂.
-        returned-last ! tt current.ended (current.clauses 𝓤 H A mem run) (to-current r₁ u₁) u₂ Toks (id⊢ 𝓤 _) (λ l zs. LineRead (now (r₁ .book)) (r₁ .at) (now x) l (zs .1 .0)) (λ l zs. id⊢ 𝓤 _) (λ l zs e₂. move ! (1 ∷ []) $ peeks ! L.the-row (Is L.the-row) (shows 𝓤 H A L.the-row) l (u₂ ∷ []) (λ is₂.
+        calls-at ! fm (Current 𝓤 H A mem run) known-current (to-current r₁ u₁) (and-then ! (load ! (from ! (stop !)) (look ! 12 refl)) (and-then ! (load ! (from ! (stop !)) (look ! 24 refl)) (and-then ! (load ! (from ! (stop !)) (look ! 8 refl)) (no-more !)))) (λ u₂.
+        returned-last ! tt current.ended (current.clauses 𝓤 H A mem run) (to-current r₁ u₁) u₂ Toks (id⊢ 𝓤 _) (λ l zs. LineRead (now (r₁ .book)) (r₁ .at) (now x) l (zs .1 .1 .0)) (λ l zs. id⊢ 𝓤 _) (λ l zs e₂. move ! (1 ∷ []) $ peeks ! L.the-row (Is L.the-row) (shows 𝓤 H A L.the-row) l (u₂ ∷ []) (λ is₂.
         -- [what the line owns; the tokens; what says the last values; true; what the reader owns; true; rooms and locals]
-        land ! (from ! (stop !)) (init ! 20 refl (LL.lawful L.the-type L′.the-laws 𝓤 H A W .typed l _ is₂ .0)) $ rewrite ! 20 (λ (z : Val). ‵ (fat fullShare L′.mir l₅ 0 z)) (ap only (L′.lowers .val-is l (u₂ ∷ []) is₂)) refl $
+        land ! (from ! (stop !)) (init ! 20 refl (LL.lawful L.the-type L′.the-laws 𝓤 H A W .typed l _ is₂ .0)) $ rewrite ! 20 (λ (z : Val). ‵ (fat fullShare L′.mir l₆ 0 z)) (ap only (L′.lowers .val-is l (u₂ ∷ []) is₂)) refl $
         rewrite ! 0 (λ (z : Val). ‵ (L.the-row .own l (z ∷ []))) (ap only (L′.lowers .val-is l (u₂ ∷ []) is₂)) refl $
-        move ! (2 ∷ []) $ fsplit ! $ move ! (1 ∷ []) $ fsplit ! $ fsplit ! $ move ! (1 ∷ []) $ feqL ! (λ n.
+        move ! (2 ∷ []) $ fsplit ! $ move ! (1 ∷ []) $ fsplit ! $ drop ! $ fsplit ! $ fsplit ! $ move ! (1 ∷ []) $ feqL ! (λ n.
         -- [the last list; true; …; what the line owns; the tokens; true; what the reader owns; true; rooms and locals]
         assigns ! (of-opd ! (load ! (from ! (stop !)) (look ! 24 refl))) (from ! (stop !)) (init ! 10 refl (LL.lawful (T.the-type αᵉ) (T′.the-laws αᵉ) 𝓤 H A W .typed r₁ _ is₁ .0)) $
         move ! (4 ∷ []) $ split ! $ nothing ! $ move ! (1 ∷ 0 ∷ []) $ join ! $ move ! (0 ∷ 7 ∷ []) $
-        use2 W (raw (Next 𝓤 H A mem run .pre (to-next r₁ u₁ (l .end)))) (goes-next r₁ u₁ (l .end) (small l u₂ is₂ .fits) (asks-next (now (r₁ .book)) (r₁ .at) (c .line) (r₁ .line) (now x) (zs .1 .0) l (e₁ .1 .1) e₂ (within r₁ e₁ e .0) (within r₁ e₁ e .1 .0) (e .1 .1 .1))) $
+        use2 W (raw (Next 𝓤 H A mem run .pre (to-next r₁ u₁ (l .end)))) (goes-next r₁ u₁ (l .end) (small l u₂ is₂ .fits) (asks-next (now (r₁ .book)) (r₁ .at) (c .line) (r₁ .line) (now x) (zs .1 .1 .0) l (e₁ .1 .1) e₂ (within r₁ e₁ e .0) (within r₁ e₁ e .1 .0) (e .1 .1 .1 .1))) $
         calls-at ! fm (Next 𝓤 H A mem run) known-next (to-next r₁ u₁ (l .end)) (and-then ! (load ! (from ! (stop !)) (look ! 10 refl)) (and-then ! (load ! (from ! (fld ! refl (stop !))) (look-in ! 22 (sub ! 1 refl (whole !)))) (no-more !))) (λ u₃.
         returned ! tt next.ended (next.clauses 𝓤 H A mem run) (to-next r₁ u₁ (l .end)) u₃ T₀ (id⊢ 𝓤 _) (λ r. (r .book ≡ r₁ .book) × ((r .at ≡ l .end + 1) × (r .line ≡ r₁ .line + 1))) (λ r ws. id⊢ 𝓤 _) (λ r₂ e₃. move ! (1 ∷ []) $ peeks ! (T.the-row α) (Is (T.the-row α)) (shows 𝓤 H A (T.the-row α)) r₂ (u₃ ∷ []) (λ is₃.
         -- [what the moved reader owns; the book's token; the buffer's; the last list; true; …; what the line owns; true; true; rooms and locals]
@@ -272,14 +283,14 @@ module _ {M : Type 1} (𝓤 : URA M) (H : Heap 𝓤) (A : Atoms 𝓤) (W : Given
         move ! (6 ∷ 0 ∷ []) $ use2 W (raw (ReadOf 𝓤 H A mem run .pre (to-read l c₂ u₄))) (goes-read l c₂ u₄) $
         calls-at ! fm (ReadOf 𝓤 H A mem run) known-read (to-read l c₂ u₄) (and-then ! (load ! (from ! (stop !)) (look ! 22 refl)) (and-then ! (load ! (from ! (stop !)) (look ! 18 refl)) (no-more !))) (λ u₅.
         returned ! tt read-of.ended (read-of.clauses 𝓤 H A mem run) (to-read l c₂ u₄) u₅ (‵ ftrue) (id⊢ 𝓤 _) (λ d. (d .frame ≡ l .frame) × (d .next ≡ c₂)) (λ d ws. id⊢ 𝓤 _) (λ d e₅. move ! (1 ∷ []) $ peeks ! D.the-row (Is D.the-row) (shows 𝓤 H A D.the-row) d (u₅ ∷ []) (λ is₅.
-        -- [what the result owns; true; the book's token; the buffer's; the last list; true; …; true; true; _12; …; room for _0; …]
-        land ! (from ! (stop !)) (init ! 33 refl (LL.lawful D.the-type D′.the-laws 𝓤 H A W .typed d _ is₅ .0)) $
-        returns ! (look ! 33 refl) $ forget ! 9 refl $ forget ! 11 refl $ forget ! 13 refl $ forget ! 15 refl $ forget ! 17 refl $ forget ! 19 refl $ forget ! 21 refl $ forget ! 23 refl $ forget ! 25 refl $ forget ! 27 refl $ forget ! 29 refl $ forget ! 31 refl $ forget ! 33 refl $
-        move ! (33 ∷ 34 ∷ []) $ free1 ! $ move ! (31 ∷ 32 ∷ []) $ free1 ! $ move ! (29 ∷ 30 ∷ []) $ free1 ! $ move ! (27 ∷ 28 ∷ []) $ free1 ! $ move ! (25 ∷ 26 ∷ []) $ free1 ! $ move ! (23 ∷ 24 ∷ []) $ free1 ! $ move ! (21 ∷ 22 ∷ []) $ free1 ! $ move ! (19 ∷ 20 ∷ []) $ free1 ! $ move ! (17 ∷ 18 ∷ []) $ free1 ! $ move ! (15 ∷ 16 ∷ []) $ free1 ! $ move ! (13 ∷ 14 ∷ []) $ free1 ! $ move ! (11 ∷ 12 ∷ []) $ free1 ! $ move ! (9 ∷ 10 ∷ []) $ free1 ! $ free0 ! $
-        keep ! (2 ∷ 3 ∷ 4 ∷ 0 ∷ []) $ by ! (exits d u₅ (zs .1 .0) (chain s c (now x) (zs .1 .0) r₁ r₂ l c₂ d e₁ e₂ e₃ e₄ e₅) n))))))))))))))))))))))))))))))
+        -- [what the result owns; true; the book's token; the buffer's; the last list; true; …; true; true; _13; …; room for _0; …]
+        land ! (from ! (stop !)) (init ! 35 refl (LL.lawful D.the-type D′.the-laws 𝓤 H A W .typed d _ is₅ .0)) $
+        returns ! (look ! 35 refl) $ forget ! 9 refl $ forget ! 11 refl $ forget ! 13 refl $ forget ! 15 refl $ forget ! 17 refl $ forget ! 19 refl $ forget ! 21 refl $ forget ! 23 refl $ forget ! 25 refl $ forget ! 27 refl $ forget ! 29 refl $ forget ! 31 refl $ forget ! 33 refl $ forget ! 35 refl $
+        move ! (35 ∷ 36 ∷ []) $ free1 ! $ move ! (33 ∷ 34 ∷ []) $ free1 ! $ move ! (31 ∷ 32 ∷ []) $ free1 ! $ move ! (29 ∷ 30 ∷ []) $ free1 ! $ move ! (27 ∷ 28 ∷ []) $ free1 ! $ move ! (25 ∷ 26 ∷ []) $ free1 ! $ move ! (23 ∷ 24 ∷ []) $ free1 ! $ move ! (21 ∷ 22 ∷ []) $ free1 ! $ move ! (19 ∷ 20 ∷ []) $ free1 ! $ move ! (17 ∷ 18 ∷ []) $ free1 ! $ move ! (15 ∷ 16 ∷ []) $ free1 ! $ move ! (13 ∷ 14 ∷ []) $ free1 ! $ move ! (11 ∷ 12 ∷ []) $ free1 ! $ move ! (9 ∷ 10 ∷ []) $ free1 ! $ free0 ! $
+        keep ! (2 ∷ 3 ∷ 4 ∷ 0 ∷ []) $ by ! (exits d u₅ (zs .1 .1 .0) (chain s c (now x) (zs .1 .1 .0) r₁ r₂ l c₂ d e₁ e₂ e₃ e₄ e₅) n)))))))))))))))))))))))))))))))
       where
-        within : (r : Reader) → (r .book ≡ s) × ((r .at ≡ c .at) × (r .line ≡ c .line)) → Asked → (r .at ≤ length (now (r .book))) × ((length (now (r .book)) ≤ 65536) × (32768 ≤ length (now x)))
-        within r e₁ h = asks-line s (r .book) (c .at) (r .at) (length (now x)) (e₁ .0) (e₁ .1 .0) (h .0, (h .1 .0, h .1 .1 .0))
+        within : (r : Reader) → (r .book ≡ s) × ((r .at ≡ c .at) × (r .line ≡ c .line)) → Asked → (r .at ≤ length (now (r .book))) × ((length (now (r .book)) ≤ 65536) × Ready)
+        within r e₁ h = asks-line s (r .book) (c .at) (r .at) Ready (e₁ .0) (e₁ .1 .0) (h .0, (h .1 .0, (h .1 .1 .0, h .1 .1 .1 .0)))
 
         -- the place of the line's end is a usize
         small : (l : Line) (u : Val) → Is L.the-row l (u ∷ []) → WT (vint w64 (l .end))
@@ -288,11 +299,12 @@ module _ {M : Type 1} (𝓤 : URA M) (H : Heap 𝓤) (A : Atoms 𝓤) (W : Given
 module _ {M : Type 1} (𝓤 : URA M) (H : Heap 𝓤) (A : Atoms 𝓤) (W : Given 𝓤 H A) (mem : Memory → SProp 𝓤) (run : Routine → Fun 𝓤) (𝓣 : Tables 𝓤 H) (known-new : Triple 𝓤 (𝓣 .C #reader·new) (New 𝓤 H A mem run)) (known-current : Triple 𝓤 (𝓣 .C #reader·current) (Current 𝓤 H A mem run)) (known-next : Triple 𝓤 (𝓣 .C #reader·next) (Next 𝓤 H A mem run)) (known-place : Triple 𝓤 (𝓣 .C #reader·place) (Place 𝓤 H A mem run)) (known-read : Triple 𝓤 (𝓣 .C #reader·read-of) (ReadOf 𝓤 H A mem run)) where
   read-frame-walks : Walks 𝓤 H A read-frame.ended stayed (WpFn 𝓤 H (𝓣 .C) (𝓣 .Λ) code.function) (read-frame.clauses 𝓤 H A mem run)
   read-frame-walks = walked 𝓤 H A read-frame.ended stayed (read-frame.clauses 𝓤 H A mem run) (WpFn 𝓤 H (𝓣 .C) (𝓣 .Λ) code.function)
-      (λ κs. (slice-vals, (LL.vals K.the-type K′.the-laws, (slice-vals, tt)))) (λ κs. (shr-slice-tells (named 0) (κs .0) u8, (LL.tells K.the-type K′.the-laws, (mut-slice-tells (named 1) (κs .1 .0) u8, tt))))
-      (λ κs qs bounds a g are. needs 𝓤 _ _ (walk 𝓤 H A W mem run (κs .0) (κs .1 .0) (qs .0) (qs .1 .0) (a .0) (a .1 .0) (a .1 .1 .0) (are .1 .1 .0 .0 .1) (𝓣 .C) (𝓣 .Λ) (fmOf 𝓤 H (W .laws) 𝓣) known-new known-current known-next known-place known-read (are .0) (are .1 .0)))
+      (λ κs. (slice-vals, (LL.vals K.the-type K′.the-laws, (slice-vals, (slice-vals, tt)))))
+      (λ κs. (shr-slice-tells (named 0) (κs .0) u8, (LL.tells K.the-type K′.the-laws, (shr-slice-tells (named 0) (κs .0) u8, (mut-slice-tells (named 1) (κs .1 .0) u8, tt)))))
+      (λ κs qs bounds a g are. needs 𝓤 _ _ (walk 𝓤 H A W mem run (κs .0) (κs .1 .0) (qs .0) (qs .1 .0) (a .0) (a .1 .0) (a .1 .1 .0) (a .1 .1 .1 .0) (are .1 .1 .1 .0 .0 .1) (𝓣 .C) (𝓣 .Λ) (fmOf 𝓤 H (W .laws) 𝓣) known-new known-current known-next known-place known-read (are .0) (are .1 .0) (are .1 .1 .0)))
 
   read-frame-meets : Meets 𝓤 H A read-frame.signature (WpFn 𝓤 H (𝓣 .C) (𝓣 .Λ) code.function) (read-frame.spec 𝓤 H A mem run)
-  read-frame-meets = walk-meets 𝓤 H A read-frame.ended stayed W (goes-dropped 𝓤 H A W 2 lent yes (λ κs x f. refl), (goes-dropped 𝓤 H A W 2 cursor yes (λ κs x f. refl), (goes-gave-slice 𝓤 H A W 2 1 tt byte, tt))) (read-frame.clauses 𝓤 H A mem run) (WpFn 𝓤 H (𝓣 .C) (𝓣 .Λ) code.function) (WpFn-mono 𝓤 H (W .laws) 𝓣 code.function) read-frame-walks
+  read-frame-meets = walk-meets 𝓤 H A read-frame.ended stayed W (goes-dropped 𝓤 H A W 2 lent yes (λ κs x f. refl), (goes-dropped 𝓤 H A W 2 cursor yes (λ κs x f. refl), (goes-dropped 𝓤 H A W 2 lent yes (λ κs x f. refl), (goes-gave-slice 𝓤 H A W 2 1 tt byte, tt)))) (read-frame.clauses 𝓤 H A mem run) (WpFn 𝓤 H (𝓣 .C) (𝓣 .Λ) code.function) (WpFn-mono 𝓤 H (W .laws) 𝓣 code.function) read-frame-walks
 
 pub read-frame-spec : {M : Type 1} → stated.statement M
 unfolding code.routine tablesOf

@@ -1,0 +1,49 @@
+-- `reader::any_line_at` meets its contract: the line's end is found once, and an ended line is decoded. Assumes nothing.
+use Prim.Native.Nat.{_-_}
+use native.Mathlib.Omega.{arith}
+use mathlib.Core.Path.{refl}
+use lib.ListN.{drop, length-drop}
+use lib.Seq.{length-take-le}
+use borrow.Author.Needs.{needs}
+use Rattle.reader.proofs.any_line_at.Statement.{statement}
+use Rattle.reader.proofs.any_line_at.Tie as tie
+
+line-end-requires : tie.Need-line-end-requires
+line-end-requires c κs = search needs
+
+returns : tie.Need-returns
+returns c = record { ends = c .before .line-end .ensures; unended = λ h. (refl, refl); ended = λ h. absurd (omega (arith, h, c .if1 .taken)) }
+
+sub-x : tie.Need-sub-x
+sub-x c = omega (arith, c .before .line-end .ensures)
+
+part-x-start : tie.Need-part-x-start
+part-x-start c = omega (arith, c .before .line-end .ensures)
+
+part-x-end : tie.Need-part-x-end
+part-x-end c = search needs
+
+decode-requires : tie.Need-decode-requires
+decode-requires c κs =
+    let start = c .before .before .before .before .before .before in
+    let size = length-take-le (c .before .before .before .line-end .result - start .args .at) (drop (start .args .at) (start .args .book .now)) (omega (arith, length-drop (start .args .at) (start .args .book .now), c .before .before .if1 .left)) in
+    (omega (arith, size, c .before .before .if1 .left, start .pre), omega (arith, size, c .before .before .if1 .left, start .pre))
+
+same-length : tie.Need-same-length
+same-length c = c .before .before .decode .ensures .size
+
+returns-2 : tie.Need-returns-2
+returns-2 c = record { ends = c .before .before .before .before .before .before .line-end .ensures; unended = λ h. absurd (omega (arith, h, c .before .before .before .before .before .if1 .left)); ended = λ h. c .before .before .decode .ensures }
+
+pub any-line-at-spec : {M : Type 1} → statement M
+any-line-at-spec =
+    tie.close
+    (tie.spec
+    line-end-requires
+    returns
+    sub-x
+    part-x-start
+    part-x-end
+    decode-requires
+    same-length
+    returns-2)
