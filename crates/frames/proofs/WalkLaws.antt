@@ -12,13 +12,13 @@ use lib.ListN.{length, take, drop, set, length-set, length-drop, drop-of-length-
 use lib.Seq.{take-suc-set, length-take-le}
 use borrow.Author.Tests.{eqb-true, ne-eqb}
 use Rattle.lines.specs.Digits.{byteAt, frameOf, malformed}
-use Rattle.lines.specs.Lines.{Line, ended, lines, toEnd}
+use Rattle.lines.specs.Lines.{Line, ended, lines}
 use Rattle.lines.proofs.DigitLaws.{well-long}
 use Rattle.lines.proofs.LineLaws.{line-ended, line-unended}
-use Rattle.lines.specs.declared.Frame.the-variants.{Malformed as NoFrame}
+use Rattle.lines.specs.declared.Frame.the-variants.{Malformed as NoFrame, Bytes}
 use Rattle.reader.specs.declared.Read.{Read}
-use Rattle.reader.specs.Reading.{lineEnd, FrameRead}
-use Rattle.reader.proofs.ReadLaws.{read-malformed}
+use Rattle.reader.specs.Reading.{lineEnd, lineOf, FrameRead}
+use Rattle.reader.proofs.ReadLaws.{read-bytes, read-malformed}
 use Rattle.gate.specs.Gate.{verdict, lineVerdict}
 use Rattle.gate.specs.declared.Known.{Known}
 use Rattle.gate.specs.declared.Fault.{Fault}
@@ -28,7 +28,8 @@ use Rattle.gate.proofs.PassedLaws.{sizes-passed, edge-passed, rule-passed}
 use Rattle.frames.specs.declared.Rule.{Rule}
 use Rattle.frames.specs.declared.Query.{Query}
 use Rattle.frames.specs.declared.Refusal.the-variants.{BadLine}
-use Rattle.frames.specs.Book.{State, refused, accepted, contents, nothing, walk, enter, knownAfter, juniorsAfter, rulesAfter, factsAfter, queryAfter, ruleOf}
+use Rattle.frames.specs.Book.{State, refused, accepted, contents, nothing, walk, enter}
+use Rattle.frames.specs.Book.{knownAfter, juniorsAfter, rulesAfter, factsAfter, queryAfter, ruleOf}
 
 -- The state that the reader's locals stand for.
 unfoldable pub held : Known → Query → List ℕ → List ℕ → List Rule → State
@@ -66,9 +67,9 @@ crews-kept k x e h = by-kind (eqb (byteAt x 0) 1) refl
     by-kind true i = sizes-passed k x e (eqb-true _ 1 i) .crews-most
     by-kind false i = h
 
--- A passed edge's junior is one of 32 crews.
-pub junior-small : (k : Known) (x : List ℕ) → verdict k x ≡ Good → k .sizes .crews ≤ 32 → byteAt x 0 ≡ 2 → byteAt x 2 < 32
-junior-small k x e h is = let p = edge-passed k x e is in omega (arith, p .0, p .1)
+-- A passed edge's senior and junior are two of 32 crews.
+pub edge-small : (k : Known) (x : List ℕ) → verdict k x ≡ Good → k .sizes .crews ≤ 32 → byteAt x 0 ≡ 2 → (byteAt x 1 < 32) × (byteAt x 2 < 32)
+edge-small k x e h is = let p = edge-passed k x e is in (omega (arith, p .0), omega (arith, p .0, p .1))
 
 -- What a frame of another kind leaves as it was.
 module _ (x : List ℕ) where
@@ -116,7 +117,20 @@ module _ (s : State) (l : ℕ) (x : List ℕ) (ls : List Line) where
   unfolding walk lineVerdict
   walk-malformed m = rw m refl
 
-module _ (book : List ℕ) (k : Known) (q : Query) (m fs : List ℕ) (rs : List Rule) (i l : ℕ) (inv : Held book k q m fs rs i l) where
+-- Where the line at place i ends, and its characters.
+abbrev end : List ℕ → ℕ → ℕ
+end book i = lineEnd book i
+
+abbrev line : List ℕ → ℕ → List ℕ
+line book i = lineOf book i (lineEnd book i)
+
+-- The line at place i is ended, and x is its frame.
+pub record Framed (book : List ℕ) (i : ℕ) (x : List ℕ) : Type 0 where
+  pub ended : end book i < length book
+  pub well : malformed (line book i) ≡ false
+  pub frame : x ≡ frameOf (line book i)
+
+module _ {book : List ℕ} {k : Known} {q : Query} {m fs : List ℕ} {rs : List Rule} {i l : ℕ} (inv : Held book k q m fs rs i l) where
   -- The end of the book behind a query, and without one.
   pub at-end-good : length book ≤ i → k .asked ≡ true → accepted (contents (held k q m fs rs)) ≡ walk nothing 1 (lines book)
   unfolding walk held lines
@@ -126,67 +140,78 @@ module _ (book : List ℕ) (k : Known) (q : Query) (m fs : List ℕ) (rs : List 
   unfolding walk held lines
   at-end-bad h is = sym (inv .left ∙ rw (drop-of-length-le book {i = i} h, is) refl)
 
-  -- The line at i: unended, bad, or good.
-  module _ (e : ℕ) (is : e ≡ i + toEnd (drop i book)) where
-    pub unended-bad : i < length book → length book ≤ e → refused (BadLine Malformed l) ≡ walk nothing 1 (lines book)
-    unfolding walk
-    unended-bad h o = sym (inv .left ∙ rw (line-unended book i e is h o) refl)
+  -- The line at i: unended, malformed, bad, or good.
+  unended-bad : i < length book → length book ≤ end book i → refused (BadLine Malformed l) ≡ walk nothing 1 (lines book)
+  unfolding walk
+  unended-bad h o = sym (inv .left ∙ rw (line-unended book i (end book i) refl h o) refl)
 
-    pub line-malformed : e < length book → malformed (take (e - i) (drop i book)) ≡ true → refused (BadLine Malformed l) ≡ walk nothing 1 (lines book)
-    line-malformed h ill =
-        sym (inv .left ∙ (ap (walk (held k q m fs rs) l) (line-ended book i e is h) ∙ walk-malformed (held k q m fs rs) l _ _ ill))
+  line-malformed : end book i < length book → malformed (line book i) ≡ true → refused (BadLine Malformed l) ≡ walk nothing 1 (lines book)
+  line-malformed h ill =
+      sym (inv .left ∙ (ap (walk (held k q m fs rs) l) (line-ended book i (end book i) refl h) ∙ walk-malformed (held k q m fs rs) l _ _ ill))
 
-    module _ (x : List ℕ) (h : e < length book) (well : malformed (take (e - i) (drop i book)) ≡ false) (xs : x ≡ frameOf (take (e - i) (drop i book))) where
-      pub line-bad : (f : Fault) → verdict k x ≡ Bad f → refused (BadLine f l) ≡ walk nothing 1 (lines book)
-      unfolding held
-      line-bad f v =
-          sym (inv .left ∙ (ap (walk (held k q m fs rs) l) (line-ended book i e is h) ∙ walk-bad (held k q m fs rs) l _ _ f well (ap (verdict k) (sym xs) ∙ v)))
+  module _ {x : List ℕ} (p : Framed book i x) where
+    pub line-bad : (f : Fault) → verdict k x ≡ Bad f → refused (BadLine f l) ≡ walk nothing 1 (lines book)
+    unfolding held
+    line-bad f v =
+        sym (inv .left ∙ (ap (walk (held k q m fs rs) l) (line-ended book i (end book i) refl (p .ended))
+        ∙ walk-bad (held k q m fs rs) l _ _ f (p .well) (ap (verdict k) (sym (p .frame)) ∙ v)))
 
+    module _ (good : verdict k x ≡ Good) where
       line-good : (k′ : Known) (q′ : Query) (m′ fs′ : List ℕ) (rs′ : List Rule)
-          → verdict k x ≡ Good
           → k′ ≡ knownAfter k x → q′ ≡ queryAfter q x → m′ ≡ juniorsAfter m x → fs′ ≡ factsAfter fs x → Stored k rs x rs′
-          → Held book k′ q′ m′ fs′ rs′ (e + 1) (l + 1)
+          → Held book k′ q′ m′ fs′ rs′ (end book i + 1) (l + 1)
       unfolding held enter
-      line-good k′ q′ m′ fs′ rs′ good ek eq em ef st =
+      line-good k′ q′ m′ fs′ rs′ ek eq em ef st =
+          let h = p .ended in
           let rules = ⊎-elim (λ w. rules-rule k rs x rs′ (inv .roomed) (rule-passed k x good (w .0) .1 .1) (w .0) (w .1))
           (λ w. rules-other k rs x rs′ (inv .roomed) (inv .counted) (w .0) (w .1)) st in
           record {
             within = omega arith;
             lined =
-                let long : 2 ≤ e - i = subst (λ (w : ℕ). 2 ≤ w) (length-take-le (e - i) (drop i book) (omega (arith, length-drop i book))) (well-long (take (e - i) (drop i book)) well) in
-                omega (arith, inv .lined, is);
+                let size = length-take-le (end book i - i) (drop i book) (omega (arith, h, length-drop i book)) in
+                omega (arith, inv .lined, size, well-long (line book i) (p .well));
             counted = rw ek (rules .1 .0);
             crewed = rw ek (crews-kept k x good (inv .crewed));
             edged = ap length em ∙ juniors-length m x ∙ inv .edged;
             roomed = rules .1 .1;
-            left = inv .left ∙ ap (walk (held k q m fs rs) l) (line-ended book i e is h)
-                ∙ walk-on (held k q m fs rs) l (take (e - i) (drop i book)) (lines (drop (e + 1) book)) well (ap (verdict k) (sym xs) ∙ good)
-                ∙ ap (λ (w : List ℕ). walk (enter (held k q m fs rs) w) (l + 1) (lines (drop (e + 1) book))) (sym xs)
+            left = inv .left ∙ ap (walk (held k q m fs rs) l) (line-ended book i (end book i) refl h)
+                ∙ walk-on (held k q m fs rs) l (line book i) (lines (drop (end book i + 1) book)) (p .well) (ap (verdict k) (sym (p .frame)) ∙ good)
+                ∙ ap (λ (w : List ℕ). walk (enter (held k q m fs rs) w) (l + 1) (lines (drop (end book i + 1) book))) (sym (p .frame))
                 ∙ rw (ek, eq, em, ef, rules .0) refl;
           }
 
       -- The same by the frame's kind: only what its kind enters has changed.
-      module _ (good : verdict k x ≡ Good) where
-        pub fact-good : (fs′ : List ℕ) → byteAt x 0 ≡ 4 → fs′ ≡ factsAfter fs x → Held book k q m fs′ rs (e + 1) (l + 1)
-        fact-good fs′ kind ef =
-            line-good k q m fs′ rs good (known-kept x k (λ z. omega arith) (λ z. omega arith) (λ z. omega arith)) (query-kept x q (λ z. omega arith))
-            (juniors-kept x m (λ z. omega arith)) ef (inr ((λ z. omega arith), refl))
+      pub edge-good : {m′ : List ℕ} → byteAt x 0 ≡ 2 → m′ ≡ juniorsAfter m x → Held book k q m′ fs rs (end book i + 1) (l + 1)
+      edge-good {m′} kind em =
+          line-good k q m′ fs rs (known-kept x k (λ z. omega arith) (λ z. omega arith) (λ z. omega arith)) (query-kept x q (λ z. omega arith)) em
+          (facts-kept x fs (λ z. omega arith)) (inr ((λ z. omega arith), refl))
 
-        pub rule-good : (k′ : Known) (rs′ : List Rule) → byteAt x 0 ≡ 3 → k′ ≡ knownAfter k x → rs′ ≡ set rs (k .count) (ruleOf x) → Held book k′ q m fs rs′ (e + 1) (l + 1)
-        rule-good k′ rs′ kind ek er =
-            line-good k′ q m fs rs′ good ek (query-kept x q (λ z. omega arith)) (juniors-kept x m (λ z. omega arith)) (facts-kept x fs (λ z. omega arith)) (inl (kind, er))
+      pub fact-good : {fs′ : List ℕ} → byteAt x 0 ≡ 4 → fs′ ≡ factsAfter fs x → Held book k q m fs′ rs (end book i + 1) (l + 1)
+      fact-good {fs′} kind ef =
+          line-good k q m fs′ rs (known-kept x k (λ z. omega arith) (λ z. omega arith) (λ z. omega arith)) (query-kept x q (λ z. omega arith))
+          (juniors-kept x m (λ z. omega arith)) ef (inr ((λ z. omega arith), refl))
 
-        pub edge-good : (m′ : List ℕ) → byteAt x 0 ≡ 2 → m′ ≡ juniorsAfter m x → Held book k q m′ fs rs (e + 1) (l + 1)
-        edge-good m′ kind em =
-            line-good k q m′ fs rs good (known-kept x k (λ z. omega arith) (λ z. omega arith) (λ z. omega arith)) (query-kept x q (λ z. omega arith)) em
-            (facts-kept x fs (λ z. omega arith)) (inr ((λ z. omega arith), refl))
+      pub rule-good : {k′ : Known} {rs′ : List Rule} → byteAt x 0 ≡ 3 → k′ ≡ knownAfter k x → rs′ ≡ set rs (k .count) (ruleOf x)
+          → Held book k′ q m fs rs′ (end book i + 1) (l + 1)
+      rule-good {k′} {rs′} kind ek er =
+          line-good k′ q m fs rs′ ek (query-kept x q (λ z. omega arith)) (juniors-kept x m (λ z. omega arith))
+          (facts-kept x fs (λ z. omega arith)) (inl (kind, er))
 
-        pub other-good : (k′ : Known) (q′ : Query) → (byteAt x 0 ≡ 4 → ⊥) → (byteAt x 0 ≡ 3 → ⊥) → (byteAt x 0 ≡ 2 → ⊥) → k′ ≡ knownAfter k x → q′ ≡ queryAfter q x
-            → Held book k′ q′ m fs rs (e + 1) (l + 1)
-        other-good k′ q′ four three two ek eq = line-good k′ q′ m fs rs good ek eq (juniors-kept x m two) (facts-kept x fs four) (inr (three, refl))
+      pub other-good : {k′ : Known} {q′ : Query} → (byteAt x 0 ≡ 2 → ⊥) → (byteAt x 0 ≡ 4 → ⊥) → (byteAt x 0 ≡ 3 → ⊥)
+          → k′ ≡ knownAfter k x → q′ ≡ queryAfter q x → Held book k′ q′ m fs rs (end book i + 1) (l + 1)
+      other-good {k′} {q′} two four three ek eq =
+          line-good k′ q′ m fs rs ek eq (juniors-kept x m two) (facts-kept x fs four) (inr (three, refl))
 
-  -- No frame was read of the line at i: it is unended or malformed.
-  pub unread-bad : (before : List ℕ) (r : Read) (after : List ℕ) → FrameRead book (record { at = i; line = l }) before r after → i < length book → r .frame ≡ NoFrame → refused (BadLine Malformed l) ≡ walk nothing 1 (lines book)
-  unread-bad before r after p h none =
-      dite (decLt (lineEnd book i) (length book)) (λ (k : lineEnd book i < length book). line-malformed (lineEnd book i) refl k (read-malformed p none k))
-      (λ (k : lineEnd book i < length book → ⊥). unended-bad (lineEnd book i) refl h (omega (arith, k)))
+  module _ {before : List ℕ} {r : Read} {after : List ℕ} (p : FrameRead book (record { at = i; line = l }) before r after) where
+    -- A frame was read of the line at i: the line is ended, and the reader's next place is behind its 0A.
+    pub line-framed : {n : ℕ} → r .frame ≡ Bytes n → Framed book i (take n after)
+    line-framed e = let line = read-bytes p e in record { ended = line .0; well = line .1 .0; frame = line .1 .1 .front }
+
+    pub line-less : {n : ℕ} → r .frame ≡ Bytes n → i < length book → length book - r .next .at < length book - i
+    line-less e h = rw (p .next) (omega (arith, read-bytes p e .0, h))
+
+    -- No frame was read of it: it is unended or malformed.
+    pub unread-bad : i < length book → r .frame ≡ NoFrame → refused (BadLine Malformed l) ≡ walk nothing 1 (lines book)
+    unread-bad h none =
+        dite (decLt (end book i) (length book)) (λ (k : end book i < length book). line-malformed k (read-malformed p none k))
+        (λ (k : end book i < length book → ⊥). unended-bad h (omega (arith, k)))

@@ -184,21 +184,16 @@ fn known_after(k: gate::Known, x: &[u8]) -> gate::Known
     k
 }
 
-// An edge frame puts its junior into its senior's set.
+// An edge's frame puts its junior into its senior's set.
 fn enter_edge(m: &mut [u32; 32], x: &[u8])
-    requires { ⌜ (byteAt (now x) 0 ≡ 2 → byteAt (now x) 2 < 32) ⌝ }
+    requires { ⌜ (byteAt (now x) 0 ≡ 2) × ((byteAt (now x) 1 < 32) × (byteAt (now x) 2 < 32)) ⌝ }
     requires { ⌜ length (now m) ≡ 32 ⌝ }
     ensures { λ r. ⌜ now (m .exit) ≡ juniorsAfter (now (m .entry)) (now (x .entry)) ⌝ }
 {
-    let kind = lines::byte_at(x, 0);
-    if kind == 2 {
-        let s = lines::byte_at(x, 1) as usize;
-        let j = lines::byte_at(x, 2);
-        if s < 32 {
-            let row = sets::with(m[s], j, true);
-            m[s] = row;
-        }
-    }
+    let s = lines::byte_at(x, 1) as usize;
+    let j = lines::byte_at(x, 2);
+    let row = sets::with(m[s], j, true);
+    m[s] = row;
 }
 
 // The fact that a 04 frame writes.
@@ -216,16 +211,14 @@ fn fact_of(k: u8, s: u8, a: u8, v: u8) -> Fact
 
 // A fact's frame puts its fact in.
 fn enter_fact(m: &mut [u8; 1792], x: &[u8])
+    requires { ⌜ byteAt (now x) 0 ≡ 4 ⌝ }
     ensures { λ r. ⌜ now (m .exit) ≡ factsAfter (now (m .entry)) (now (x .entry)) ⌝ }
 {
-    let kind = lines::byte_at(x, 0);
-    if kind == 4 {
-        let k = lines::byte_at(x, 1);
-        let s = lines::byte_at(x, 2);
-        let a = lines::byte_at(x, 3);
-        let v = lines::byte_at(x, 4);
-        facts::put_fact(m, fact_of(k, s, a, v), true);
-    }
+    let k = lines::byte_at(x, 1);
+    let s = lines::byte_at(x, 2);
+    let a = lines::byte_at(x, 3);
+    let v = lines::byte_at(x, 4);
+    facts::put_fact(m, fact_of(k, s, a, v), true);
 }
 
 fn want_at(x: &[u8], j: usize) -> Want
@@ -387,6 +380,10 @@ fn read_lines(book: &[u8]) -> Reading
         }
         cursor = read.next;
         let kind = lines::byte_at(x, 0);
+        if kind == 2 {
+            enter_edge(&mut juniors, x);
+            continue;
+        }
         if kind == 4 {
             enter_fact(&mut facts, x);
             continue;
@@ -395,10 +392,6 @@ fn read_lines(book: &[u8]) -> Reading
             let i = known.count;
             rules[i] = rule_of(x);
             known = known_after(known, x);
-            continue;
-        }
-        if kind == 2 {
-            enter_edge(&mut juniors, x);
             continue;
         }
         query = query_after(query, x);

@@ -2,8 +2,9 @@
 ghost use mathlib.Core.Path.{_≡_};
 ghost use Prim.Native.Nat.{_+_, _*_, _<_, _≤_};
 ghost use lib.ListN.{length, drop};
-ghost use Rattle.lines.specs.Digits.{digit, character, byteAt, Decoded, Tabled, Begun};
-ghost use Rattle.lines.specs.Lines.{toEnd, firstLine, isEnd, opening, following};
+ghost use Rattle.lines.specs.Digits.{digit, character, byteAt, Decoded};
+ghost use Rattle.lines.specs.Lines.{toEnd, opening, following};
+ghost use Rattle.lines.specs.Inner.Front.{Tabled, firstLine, Begun, isEnd};
 
 // A place in a book: the character at which a line starts, and the line's number.
 pub struct Cursor {
@@ -117,22 +118,30 @@ pub fn decode(x: &[u8], frame: &mut [u8]) -> Frame
     Frame::Bytes(k)
 }
 
+// The smaller of two numbers.
+fn least(a: usize, b: usize) -> usize
+    ensures { λ r. ⌜ (r ≤ a) × (r ≤ b) ⌝ }
+{
+    if a < b {
+        return a;
+    }
+    b
+}
+
 // Writes the bytes of the first line of `x` to the front of `frame`, until a character is no digit or 64 are written. Returns how many.
 pub fn decode_front(x: &[u8], digits: &[u8], frame: &mut [u8]) -> usize
-    requires { ⌜ Tabled (now digits) × ((length (now x) ≤ 65536) × (64 ≤ length (now frame))) ⌝ }
+    requires { ⌜ Tabled (now digits) × (64 ≤ length (now frame)) ⌝ }
     ensures { λ k. ⌜ Begun (firstLine (now (x .entry))) (now (frame .entry)) k (now (frame .exit)) ⌝ }
 {
+    let most = least(x.len() / 2, 64);
     let mut k: usize = 0;
-    while k < 64 {
-        if x.len() < 2 * k + 2 {
-            return k;
-        }
+    while k < most {
         let high = digits[wide(x[2 * k])];
         let low = digits[wide(x[2 * k + 1])];
-        if high >= 16 {
+        if 16 <= high {
             return k;
         }
-        if low >= 16 {
+        if 16 <= low {
             return k;
         }
         frame[k] = high * 16 + low;

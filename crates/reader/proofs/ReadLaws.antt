@@ -8,8 +8,9 @@ use native.Mathlib.Decide.{decLt}
 use native.Mathlib.Omega.{arith}
 use lib.ListN.{length, take, drop, length-drop}
 use lib.Seq.{take-all}
-use Rattle.lines.specs.Digits.{malformed, InFront, Decoded, Begun}
-use Rattle.lines.specs.Lines.{toEnd, firstLine, isEnd}
+use Rattle.lines.specs.Digits.{malformed, InFront, Decoded}
+use Rattle.lines.specs.Lines.{toEnd}
+use Rattle.lines.specs.Inner.Front.{firstLine, Begun, isEnd}
 use Rattle.lines.specs.declared.Cursor.{Cursor}
 use Rattle.lines.specs.declared.Frame.{Frame}
 use Rattle.lines.specs.declared.Frame.the-variants.{Malformed, Bytes}
@@ -24,7 +25,8 @@ pub rest-of : (book : List ℕ) (at : ℕ) → take (length book - at) (drop at 
 rest-of book at = take-all (length book - at) (drop at book) (omega (arith, length-drop at book))
 
 -- One pass from a place on: 0A stands behind the digits of k bytes.
-module _ (book : List ℕ) (at : ℕ) (x : List ℕ) (is : x ≡ drop at book) (before : List ℕ) (k : ℕ) (after : List ℕ) (b : Begun (firstLine x) before k after) (e : isEnd x (2 * k) ≡ true) where
+module _ (book : List ℕ) (at : ℕ) (x : List ℕ) (is : x ≡ drop at book)
+    (before : List ℕ) (k : ℕ) (after : List ℕ) (b : Begun (firstLine x) before k after) (e : isEnd x (2 * k) ≡ true) where
   pub front-inside : at + 2 * k < length book
   front-inside = omega (arith, end-at x (2 * k) e, ap length is, length-drop at book)
 
@@ -40,7 +42,8 @@ module _ (book : List ℕ) (at : ℕ) (x : List ℕ) (is : x ≡ drop at book) (
       }
 
 -- A line read into a buffer that holds something already.
-pub read-over : (book : List ℕ) (at : ℕ) (before between : List ℕ) (l : Line) (after : List ℕ) → length between ≡ length before → LineRead book at between l after → LineRead book at before l after
+pub read-over : (book : List ℕ) (at : ℕ) (before between : List ℕ) (l : Line) (after : List ℕ)
+    → length between ≡ length before → LineRead book at between l after → LineRead book at before l after
 read-over book at before between l after same p =
     record {
       ends = p .ends;

@@ -2,7 +2,7 @@
 ghost use mathlib.Core.Path.{_≡_};
 ghost use Prim.Native.Nat.{_+_, _≤_};
 ghost use lib.ListN.{length};
-ghost use Rattle.lines.specs.Digits.{Tabled};
+ghost use Rattle.lines.specs.Inner.Front.{Tabled};
 ghost use Rattle.reader.specs.Reading.{LineRead, FrameRead};
 use lines::Cursor;
 

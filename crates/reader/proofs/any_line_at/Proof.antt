@@ -8,6 +8,13 @@ use borrow.Author.Needs.{needs}
 use Rattle.reader.proofs.any_line_at.Statement.{statement}
 use Rattle.reader.proofs.any_line_at.Tie as tie
 
+-- The places that the answers name, each seen from a later one.
+abbrev entry : tie.After-x → tie.Start
+entry c = c .before .before .before .before .before
+
+abbrev else1 : tie.After-frame → tie.Else1
+else1 c = c .before .before .before .before
+
 line-end-requires : tie.Need-line-end-requires
 line-end-requires c κs = search needs
 
@@ -25,15 +32,23 @@ part-x-end c = search needs
 
 decode-requires : tie.Need-decode-requires
 decode-requires c κs =
-    let start = c .before .before .before .before .before .before in
-    let size = length-take-le (c .before .before .before .line-end .result - start .args .at) (drop (start .args .at) (start .args .book .now)) (omega (arith, length-drop (start .args .at) (start .args .book .now), c .before .before .if1 .left)) in
+    let start = entry (c .before) in
+    let size = length-take-le (c .before .before .before .line-end .result - start .args .at)
+    (drop (start .args .at) (start .args .book .now))
+    (omega (arith, length-drop (start .args .at) (start .args .book .now), c .before .before .if1 .left)) in
     (omega (arith, size, c .before .before .if1 .left, start .pre), omega (arith, size, c .before .before .if1 .left, start .pre))
 
 same-length : tie.Need-same-length
 same-length c = c .before .before .decode .ensures .size
 
 returns-2 : tie.Need-returns-2
-returns-2 c = record { ends = c .before .before .before .before .before .before .line-end .ensures; unended = λ h. absurd (omega (arith, h, c .before .before .before .before .before .if1 .left)); ended = λ h. c .before .before .decode .ensures }
+returns-2 c =
+    let at-else1 = else1 (c .before) in
+    record {
+      ends = at-else1 .before .line-end .ensures;
+      unended = λ h. absurd (omega (arith, h, at-else1 .if1 .left));
+      ended = λ h. c .before .before .decode .ensures;
+    }
 
 pub any-line-at-spec : {M : Type 1} → statement M
 any-line-at-spec =

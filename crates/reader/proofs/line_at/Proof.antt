@@ -1,10 +1,21 @@
--- `reader::line_at` meets its contract: 0A behind the digits that were decoded is the line's end; any other line is read anew. Assumes nothing.
+-- `reader::line_at` meets its contract. Where 0A stands behind the digits that were decoded, the line ends there (`front-read`); any
+-- other line is read anew, over what stands in the buffer (`read-over`). Assumes nothing.
 use mathlib.Core.Path.{sym, _∙_}
 use native.Mathlib.Omega.{arith}
 use Rattle.reader.proofs.ReadLaws.{rest-of, front-inside, front-read, read-over}
 use borrow.Author.Needs.{needs}
 use Rattle.reader.proofs.line_at.Statement.{statement}
 use Rattle.reader.proofs.line_at.Tie as tie
+
+-- The places that the answers name, each seen from a later one.
+abbrev entry : tie.After-decode-front → tie.Start
+entry c = c .before .before .before .before .before .before
+
+abbrev after-decode-front : tie.Then1 → tie.After-decode-front
+after-decode-front c = c .before .before .before .before
+
+abbrev after-decode-front-from-frame2 : tie.After-frame2 → tie.After-decode-front
+after-decode-front-from-frame2 c = c .before .before .before .before .before .before .before
 
 sub-x : tie.Need-sub-x
 sub-x c = search needs
@@ -25,13 +36,23 @@ is-end-requires : tie.Need-is-end-requires
 is-end-requires c κs = search needs
 
 add-t15 : tie.Need-add-t15
-add-t15 c = let start = c .before .before .before .before .before .before .before .before .before .before .args in omega (arith, front-inside (start .book .now) (start .at) _ (rest-of (start .book .now) (start .at)) _ (c .before .before .before .before .decode-front .result) _ (c .before .before .before .before .decode-front .ensures) (sym (c .before .is-end .ensures) ∙ c .if1 .taken))
+add-t15 c =
+    let start = entry (after-decode-front c) .args in
+    omega (
+      arith,
+      front-inside (start .book .now) (start .at) _ (rest-of (start .book .now) (start .at)) _
+          (after-decode-front c .decode-front .result) _ (after-decode-front c .decode-front .ensures)
+          (sym (c .before .is-end .ensures) ∙ c .if1 .taken),
+    )
 
 same-length : tie.Need-same-length
 same-length c = search needs
 
 returns : tie.Need-returns
-returns c = front-read _ _ _ (rest-of (c .before .before .before .before .before .before .before .before .before .before .args .book .now) (c .before .before .before .before .before .before .before .before .before .before .args .at)) _ _ _ (c .before .before .before .before .decode-front .ensures) (sym (c .before .is-end .ensures) ∙ c .if1 .taken)
+returns c =
+    let at-start = entry (after-decode-front c) in
+    front-read _ _ _ (rest-of (at-start .args .book .now) (at-start .args .at)) _ _ _
+    (after-decode-front c .decode-front .ensures) (sym (c .before .is-end .ensures) ∙ c .if1 .taken)
 
 any-line-at-requires : tie.Need-any-line-at-requires
 any-line-at-requires c κs = search needs
@@ -40,7 +61,9 @@ same-length-2 : tie.Need-same-length-2
 same-length-2 c = search needs
 
 returns-2 : tie.Need-returns-2
-returns-2 c = read-over _ _ _ _ _ _ (c .before .before .before .before .before .before .before .before .decode-front .ensures .size) (c .before .before .any-line-at .ensures)
+returns-2 c =
+    read-over _ _ _ _ _ _ (after-decode-front-from-frame2 (c .before) .decode-front .ensures .size)
+    (c .before .before .any-line-at .ensures)
 
 pub line-at-spec : {M : Type 1} → statement M
 line-at-spec =

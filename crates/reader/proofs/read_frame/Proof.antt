@@ -42,7 +42,7 @@ use denote.Triple.Walked.{says, needs, Stays, stay-dropped, gave-slice, walkOf, 
 use Rattle.walks.proofs.Walk.{returned}
 use Rattle.walks.proofs.Last.{returned-last}
 use Rattle.lines.specs.declared.Cursor.{Cursor}
-use Rattle.lines.specs.Digits.{Tabled}
+use Rattle.lines.specs.Inner.Front.{Tabled}
 use Rattle.lines.specs.Lines.{following}
 use Rattle.lines.specs.declared.Frame.{Frame}
 use Rattle.lines.proofs.LineLaws.{line-within}
