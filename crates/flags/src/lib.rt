@@ -3,81 +3,99 @@
 // above all crews the query's person. Row c of `rows`, at 160·c, is what crew c effectively holds, and which crews it reaches.
 ghost use mathlib.Core.Path.{_≡_};
 ghost use mathlib.Core.Bool.{false};
-ghost use Prim.Native.Nat.{_*_, _≤_, _<_};
+ghost use Prim.Native.Nat.{_+_, _*_, _≤_, _<_};
 ghost use lib.ListN.{length, getD};
+ghost use Rattle.sets.specs.Sets.{member, memberAt};
 ghost use Rattle.frames.specs.Book.{contentsOf};
-ghost use Rattle.frames.specs.Fits.{Admitted};
-ghost use Rattle.flags.specs.Flags.{Written, hasFact, factIn, startFlag, StartFlags, addedFlag, CrewTable, PersonTable, rowFlag, FirstRows, SmallWants, bannedValue, forbidFlag, badFlag, listedReach, Reaching};
+ghost use Rattle.flags.specs.Flags.{Written, startFlag, addedFlag, CrewTable, PersonTable, rowFlag, FirstRows};
+ghost use Rattle.flags.specs.Flags.{SmallWants, badFlag, listedReach, Reaching};
+ghost use Rattle.flags.specs.Inner.{valueAt, lackingFlag, wantFlag, bannedFlag};
 ghost use Rattle.reach.specs.Goal.{belowListed};
-use facts::Attr;
-use facts::Crew;
-use facts::Fact;
 use facts::Person;
 use frames::Book;
 use frames::Query;
+use frames::Want;
 
-// Whether level k has a fact f: a crew has values alone.
-fn has_fact(crews: u8, k: u8, f: u8) -> bool
-    ensures { λ r. ⌜ r ≡ hasFact crews k f ⌝ }
+// Clears n flags from a place on.
+fn clear_flags(s: &mut [bool], at: usize, n: usize)
+    requires { ⌜ at + n ≤ length (now s) ⌝ }
+    ensures { λ _. ⌜ Written (now (s .entry)) at (λ _. false) n (now (s .exit)) ⌝ }
 {
-    !(k < crews) | (f < 128)
-}
-
-// Fact f of level k.
-fn fact_at(crews: u8, person: Person, k: u8, f: u8) -> Fact
-    ensures { λ r. ⌜ r ≡ factIn crews person k f ⌝ }
-{
-    if k < crews {
-        return Fact::CrewHolds(Crew(k), Attr(f / 16), f % 16);
-    }
-    if f < 128 {
-        return Fact::Holds(person, Attr(f / 16), f % 16);
-    }
-    Fact::Member(person, Crew(f - 128))
-}
-
-// Whether fact f of level k is there, and among the facts.
-fn is_started(facts: &[u8], crews: u8, person: Person, k: u8, f: u8) -> bool
-    ensures { λ r. ⌜ r ≡ startFlag (now (facts .entry)) crews person k f ⌝ }
-{
-    if !has_fact(crews, k, f) {
-        return false;
-    }
-    facts::fact_holds(facts, fact_at(crews, person, k, f))
-}
-
-fn write_start(facts: &[u8], crews: u8, person: Person, k: u8, s: &mut [bool])
-    requires { ⌜ length (now s) ≡ 160 ⌝ }
-    ensures { λ _. ⌜ Written (now (s .entry)) 0 (startFlag (now (facts .entry)) crews person k) 160 (now (s .exit)) ⌝ }
-{
-    let mut f: u8 = 0;
-    while f < 160 {
-        s[f as usize] = is_started(facts, crews, person, k, f);
+    let mut f: usize = 0;
+    while f < n {
+        s[at + f] = false;
         f += 1;
+    }
+}
+
+// Copies n flags from a place of one list to a place of another.
+fn copy_flags(src: &[bool], from: usize, n: usize, dst: &mut [bool], to: usize)
+    requires { ⌜ (from + n ≤ length (now src)) × (to + n ≤ length (now dst)) ⌝ }
+    ensures { λ _. ⌜ Written (now (dst .entry)) to (λ f. getD (now (src .entry)) (from + f) false) n (now (dst .exit)) ⌝ }
+{
+    let mut f: usize = 0;
+    while f < n {
+        dst[to + f] = src[from + f];
+        f += 1;
+    }
+}
+
+// Writes n flags from a place on: whether each number below n is a member of the set.
+fn write_bits(x: u32, n: usize, s: &mut [bool], at: usize)
+    requires { ⌜ (n ≤ 32) × (at + n ≤ length (now s)) ⌝ }
+    ensures { λ _. ⌜ Written (now (s .entry)) at (member x) n (now (s .exit)) ⌝ }
+{
+    let mut v: usize = 0;
+    while v < n {
+        s[at + v] = (x >> v) % 2 == 1;
+        v += 1;
+    }
+}
+
+// Writes a flag for each number of the set of w bytes at a place of the ledger.
+fn write_set(facts: &[u8], place: usize, w: usize, s: &mut [bool], at: usize)
+    requires { ⌜ (place < 65536) × ((w ≤ 4) × (at + 8 * w ≤ length (now s))) ⌝ }
+    ensures { λ _. ⌜ Written (now (s .entry)) at (memberAt (now (facts .entry)) place w) (8 * w) (now (s .exit)) ⌝ }
+{
+    let mut m: usize = 0;
+    while m < w {
+        let byte = lines::byte_at(facts, place + (w - 1 - m));
+        write_bits(byte as u32, 8, s, at + 8 * m);
+        m += 1;
+    }
+}
+
+// Writes the values of the eight attributes at a place of the ledger.
+fn write_values(facts: &[u8], place: usize, s: &mut [bool])
+    requires { ⌜ (place < 32768) × (length (now s) ≡ 160) ⌝ }
+    ensures { λ _. ⌜ Written (now (s .entry)) 0 (valueAt (now (facts .entry)) place) 128 (now (s .exit)) ⌝ }
+{
+    let mut a: usize = 0;
+    while a < 8 {
+        write_set(facts, place + 2 * a, 2, s, 16 * a);
+        a += 1;
     }
 }
 
 // The starting facts of level k.
-pub fn start_flags(b: Book, k: u8, s: &mut [bool])
-    requires { ⌜ Admitted (contentsOf b) × ((k ≤ b .sizes .crews) × (length (now s) ≡ 160)) ⌝ }
-    ensures { λ _. ⌜ StartFlags (contentsOf b) k (now (s .exit)) ⌝ }
+pub fn start_flags(facts: &[u8], crews: u8, person: Person, k: u8, s: &mut [bool])
+    requires { ⌜ length (now s) ≡ 160 ⌝ }
+    ensures { λ _. ⌜ Written (now (s .entry)) 0 (startFlag (now (facts .entry)) crews person k) 160 (now (s .exit)) ⌝ }
 {
-    let facts = b.facts;
-    let z = b.sizes;
-    let q = b.query;
-    write_start(&facts, z.crews, q.person, k, s);
-}
-
-// Row 32 of the table with nothing in it.
-fn clear_last(table: &mut [bool])
-    requires { ⌜ length (now table) ≡ 5280 ⌝ }
-    ensures { λ _. ⌜ Written (now (table .entry)) 5120 (λ _. false) 160 (now (table .exit)) ⌝ }
-{
-    let mut f: usize = 0;
-    while f < 160 {
-        table[5120 + f] = false;
-        f += 1;
+    clear_flags(s, 0, 160);
+    if k < crews {
+        if k >= 32 {
+            return;
+        }
+        write_values(facts, 1024 + 16 * (k as usize), s);
+        return;
     }
+    let p = person.0 as usize;
+    if p >= 64 {
+        return;
+    }
+    write_values(facts, 16 * p, s);
+    write_set(facts, 1536 + 4 * p, 4, s, 128);
 }
 
 // Adds row j of the crews to row 32 of the table.
@@ -101,7 +119,7 @@ pub fn crew_table(juniors: &[u32], k: u8, rows: &[bool], table: &mut [bool])
     ensures { λ _. ⌜ CrewTable (now (juniors .entry)) k (now (rows .entry)) (now (table .entry)) (now (table .exit)) ⌝ }
 {
     let direct = juniors[k as usize];
-    clear_last(table);
+    clear_flags(table, 5120, 160);
     let mut j: u8 = 0;
     while j < k {
         if sets::has(direct, j) {
@@ -113,40 +131,13 @@ pub fn crew_table(juniors: &[u32], k: u8, rows: &[bool], table: &mut [bool])
     }
 }
 
-// Flag i; past the end there is none.
-fn flag_at(rows: &[bool], i: usize) -> bool
-    ensures { λ r. ⌜ r ≡ getD (now (rows .entry)) i false ⌝ }
-{
-    if i >= rows.len() {
-        return false;
-    }
-    rows[i]
-}
-
 // The person's table: the crews' rows, and a last row of nothing.
 pub fn person_table(rows: &[bool], table: &mut [bool])
     requires { ⌜ (length (now rows) ≡ 5120) × (length (now table) ≡ 5280) ⌝ }
     ensures { λ _. ⌜ PersonTable (now (rows .entry)) (now (table .exit)) ⌝ }
 {
-    let mut i: usize = 0;
-    while i < 5280 {
-        table[i] = flag_at(rows, i);
-        i += 1;
-    }
-}
-
-// Flag f of crew k's row: a value where its effective flags have it, a crew where it is crew k or its juniors have it.
-fn row_flag(table: &[bool], k: u8, x: &[bool], f: usize) -> bool
-    requires { ⌜ (f < 160) × ((length (now x) ≡ 320) × (length (now table) ≡ 5280)) ⌝ }
-    ensures { λ r. ⌜ r ≡ rowFlag (now (table .entry)) k (now (x .entry)) f ⌝ }
-{
-    if f < 128 {
-        return x[160 + f];
-    }
-    if k as usize == f - 128 {
-        return true;
-    }
-    table[5120 + f]
+    copy_flags(rows, 0, 5120, table, 0);
+    clear_flags(table, 5120, 160);
 }
 
 // Fills crew k's row from the flags of its level and from the last row of its table.
@@ -154,12 +145,11 @@ pub fn fill_row(table: &[bool], k: u8, x: &[bool], rows: &mut [bool])
     requires { ⌜ (k < 32) × ((length (now x) ≡ 320) × ((length (now table) ≡ 5280) × (length (now rows) ≡ 5120))) ⌝ }
     ensures { λ _. ⌜ Written (now (rows .entry)) (160 * k) (rowFlag (now (table .entry)) k (now (x .entry))) 160 (now (rows .exit)) ⌝ }
 {
-    let mut f: usize = 0;
-    while f < 160 {
-        let flag = row_flag(table, k, x, f);
-        rows[160 * (k as usize) + f] = flag;
-        f += 1;
-    }
+    let own = k as usize;
+    let row = 160 * own;
+    copy_flags(x, 160, 128, rows, row);
+    copy_flags(table, 5248, 32, rows, row + 128);
+    rows[row + (128 + own)] = true;
 }
 
 // Each crew's row has the crew itself, and nothing else.
@@ -167,58 +157,51 @@ pub fn first_rows(rows: &mut [bool])
     requires { ⌜ length (now rows) ≡ 5120 ⌝ }
     ensures { λ _. ⌜ FirstRows (now (rows .exit)) ⌝ }
 {
-    let mut i: usize = 0;
-    while i < 5120 {
-        rows[i] = i % 160 == 128 + i / 160;
-        i += 1;
+    clear_flags(rows, 0, 5120);
+    let mut c: usize = 0;
+    while c < 32 {
+        rows[161 * c + 128] = true;
+        c += 1;
     }
 }
 
-// Whether some named set of attribute a lacks value v.
-fn is_banned(q: Query, a: u8, v: u8) -> bool
-    requires { ⌜ SmallWants q ⌝ }
-    ensures { λ r. ⌜ r ≡ bannedValue q a v ⌝ }
+// Adds to the n flags from a place on each number below n that the set lacks.
+fn add_lacking(x: u32, n: usize, s: &mut [bool], at: usize)
+    requires { ⌜ (n ≤ 32) × (at + n ≤ length (now s)) ⌝ }
+    ensures { λ _. ⌜ Written (now (s .entry)) at (lackingFlag (now (s .entry)) at x) n (now (s .exit)) ⌝ }
+{
+    let mut v: usize = 0;
+    while v < n {
+        let has = s[at + v];
+        s[at + v] = has | !((x >> v) % 2 == 1);
+        v += 1;
+    }
+}
+
+// Adds the values that a named set lacks.
+fn add_want(w: Want, bad: &mut [bool])
+    requires { ⌜ length (now bad) ≡ 160 ⌝ }
+    ensures { λ _. ⌜ Written (now (bad .entry)) 0 (wantFlag (now (bad .entry)) w) 128 (now (bad .exit)) ⌝ }
+{
+    let a = w.attr.0 as usize;
+    if a >= 8 {
+        return;
+    }
+    add_lacking(w.set, 16, bad, 16 * a);
+}
+
+// Adds the values that some named set lacks.
+fn add_banned(q: Query, bad: &mut [bool])
+    requires { ⌜ SmallWants q × (length (now bad) ≡ 160) ⌝ }
+    ensures { λ _. ⌜ Written (now (bad .entry)) 0 (bannedFlag (now (bad .entry)) q (q .q)) 128 (now (bad .exit)) ⌝ }
 {
     let n = q.q;
     let mut j: u8 = 0;
     while j < n {
         let w = q.wants[j as usize];
-        let there = sets::has(w.set, v);
-        if (w.attr.0 == a) & !there {
-            return true;
-        }
+        add_want(w, bad);
         j += 1;
     }
-    false
-}
-
-// Whether mode 02 forbids fact f of level k. `below`: crew k is listed, or lies below a listed crew.
-fn is_forbidden(q: Query, crews: u8, k: u8, below: bool, f: u8) -> bool
-    requires { ⌜ SmallWants q ⌝ }
-    ensures { λ r. ⌜ r ≡ forbidFlag q crews k below f ⌝ }
-{
-    if k < crews {
-        let banned = is_banned(q, f / 16, f % 16);
-        return banned & below;
-    }
-    if f < 128 {
-        return is_banned(q, f / 16, f % 16);
-    }
-    !sets::has(q.crews, f - 128)
-}
-
-// Whether the query forbids fact f of level k. Mode 01 forbids nothing.
-fn is_bad(q: Query, crews: u8, k: u8, below: bool, f: u8) -> bool
-    requires { ⌜ SmallWants q ⌝ }
-    ensures { λ r. ⌜ r ≡ badFlag q crews k below f ⌝ }
-{
-    if !has_fact(crews, k, f) {
-        return false;
-    }
-    if q.mode == 1 {
-        return false;
-    }
-    is_forbidden(q, crews, k, below, f)
 }
 
 // The facts of level k that the query forbids. At a crew's level `below` says whether the crew is listed or lies below a listed one.
@@ -226,11 +209,19 @@ pub fn bad_flags(q: Query, crews: u8, k: u8, below: bool, bad: &mut [bool])
     requires { ⌜ SmallWants q × (length (now bad) ≡ 160) ⌝ }
     ensures { λ _. ⌜ Written (now (bad .entry)) 0 (badFlag q crews k below) 160 (now (bad .exit)) ⌝ }
 {
-    let mut f: u8 = 0;
-    while f < 160 {
-        bad[f as usize] = is_bad(q, crews, k, below, f);
-        f += 1;
+    clear_flags(bad, 0, 160);
+    if q.mode == 1 {
+        return;
     }
+    if k >= crews {
+        add_banned(q, bad);
+        add_lacking(q.crews, 32, bad, 128);
+        return;
+    }
+    if !below {
+        return;
+    }
+    add_banned(q, bad);
 }
 
 // Whether the row of some listed crew reaches crew c.

@@ -15,7 +15,7 @@ ghost use Rattle.level.specs.Moves.{movesIn};
 ghost use Rattle.planner.specs.Count.{factCount};
 ghost use Rattle.planner.specs.Answer.{refusalNumber, refusalLine, Answered, PlanPromise};
 ghost use Rattle.planner.specs.Drive.{Driving, drafted};
-ghost use Rattle.planner.specs.Scan.{SideMoves, AllAllowed, BlankTable, Scanned, Searched};
+ghost use Rattle.planner.specs.Scan.{SideMoves, AllAllowed, BlankTable, Apart, Scanned, Searched};
 use frames::Book;
 use gate::Sizes;
 use level::Outcome;
@@ -79,6 +79,7 @@ fn allow_all(u: &mut [bool])
 // The level of crew k.
 fn crew_level(
     b: Book,
+    facts: &[u8],
     juniors: &[u32],
     k: u8,
     adds: &[u16],
@@ -93,7 +94,7 @@ fn crew_level(
     at: usize,
     down: &mut [u8],
 ) -> Outcome
-    requires { ⌜ Admitted (contentsOf b) × ((k < b .sizes .crews) × (SideMoves b 3 3 4 4 (movesIn (now adds)) (movesIn (now dels)) × ((length (now reach) ≡ 5120) × (Reaching (b .juniors) (now reach) × (now juniors ≡ b .juniors))))) ⌝ }
+    requires { ⌜ Admitted (contentsOf b) × ((k < b .sizes .crews) × (SideMoves b 3 3 4 4 (movesIn (now adds)) (movesIn (now dels)) × ((length (now reach) ≡ 5120) × (Reaching (b .juniors) (now reach) × ((now juniors ≡ b .juniors) × (now facts ≡ b .facts)))))) ⌝ }
     requires { ⌜ BlankTable (now table) ⌝ }
     requires { ⌜ Driving (contentsOf b) k (now rows) ups (now up) at (now down) ⌝ }
     requires { ⌜ (length (now added) ≡ 160) × (length (now deleted) ≡ 160) ⌝ }
@@ -109,7 +110,7 @@ fn crew_level(
     let q = b.query;
     let z = b.sizes;
     flags::bad_flags(q, z.crews, k, below, &mut bad);
-    flags::start_flags(b, k, &mut s);
+    flags::start_flags(facts, z.crews, q.person, k, &mut s);
     allow_all(&mut u);
     flags::crew_table(juniors, k, rows, table);
     let r = level::settle(
@@ -134,16 +135,16 @@ fn crew_level(
     r
 }
 
-// Which crews each crew reaches downwards.
-fn fill_reach(juniors: &[u32], reach: &mut [bool])
-    requires { ⌜ (length (now juniors) ≡ 32) × (length (now reach) ≡ 5120) ⌝ }
+// Which crews each crew reaches downwards. From crew n on a crew reaches only itself.
+fn fill_reach(juniors: &[u32], n: u8, reach: &mut [bool])
+    requires { ⌜ (length (now juniors) ≡ 32) × ((length (now reach) ≡ 5120) × ((n ≤ 32) × Apart (now juniors) n)) ⌝ }
     ensures { λ _. ⌜ (length (now (reach .exit)) ≡ 5120) × Reaching (now (juniors .entry)) (now (reach .exit)) ⌝ }
 {
     let x = [false; 320];
     let mut table = [false; 5280];
     flags::first_rows(reach);
     let mut k: u8 = 0;
-    while k < 32 {
+    while k < n {
         flags::crew_table(juniors, k, reach, &mut table);
         flags::fill_row(&table, k, &x, reach);
         k += 1;
@@ -153,6 +154,7 @@ fn fill_reach(juniors: &[u32], reach: &mut [bool])
 // The levels of the crews, in rising number. Each crew tries first what the one before it did: `added` and `deleted` name those moves.
 fn crew_levels(
     b: Book,
+    facts: &[u8],
     juniors: &[u32],
     adds: &[u16],
     dels: &[u16],
@@ -164,7 +166,7 @@ fn crew_levels(
     up: &mut [u8],
     down: &mut [u8],
 ) -> Outcome
-    requires { ⌜ Admitted (contentsOf b) × (SideMoves b 3 3 4 4 (movesIn (now adds)) (movesIn (now dels)) × ((length (now reach) ≡ 5120) × (Reaching (b .juniors) (now reach) × (now juniors ≡ b .juniors)))) ⌝ }
+    requires { ⌜ Admitted (contentsOf b) × (SideMoves b 3 3 4 4 (movesIn (now adds)) (movesIn (now dels)) × ((length (now reach) ≡ 5120) × (Reaching (b .juniors) (now reach) × ((now juniors ≡ b .juniors) × (now facts ≡ b .facts))))) ⌝ }
     requires { ⌜ BlankTable (now table) ⌝ }
     requires { ⌜ Driving (contentsOf b) 0 (now rows) 0 (now up) 5280 (now down) ⌝ }
     requires { ⌜ (length (now added) ≡ 160) × (length (now deleted) ≡ 160) ⌝ }
@@ -177,6 +179,7 @@ fn crew_levels(
     while k < n {
         let r = crew_level(
             b,
+            facts,
             juniors,
             k,
             adds,
@@ -212,6 +215,7 @@ fn crew_levels(
 // The level of the query's person, above all crews.
 fn person_level(
     b: Book,
+    facts: &[u8],
     adds: &[u16],
     dels: &[u16],
     rows: &[bool],
@@ -221,7 +225,7 @@ fn person_level(
     at: usize,
     down: &mut [u8],
 ) -> Outcome
-    requires { ⌜ Admitted (contentsOf b) × (SideMoves b 1 5 2 6 (movesIn (now adds)) (movesIn (now dels)) × (length (now table) ≡ 5280)) ⌝ }
+    requires { ⌜ Admitted (contentsOf b) × (SideMoves b 1 5 2 6 (movesIn (now adds)) (movesIn (now dels)) × ((length (now table) ≡ 5280) × (now facts ≡ b .facts))) ⌝ }
     requires { ⌜ Driving (contentsOf b) (b .sizes .crews) (now rows) ups (now up) at (now down) ⌝ }
     ensures { λ r. ⌜ Searched (contentsOf b) (now (up .exit)) (now (down .exit)) (r .found) (ups + r .ups) (r .at) ⌝ }
 {
@@ -237,7 +241,7 @@ fn person_level(
     let mut deleted = [512u16; 160];
     let q = b.query;
     flags::bad_flags(q, k, k, false, &mut bad);
-    flags::start_flags(b, k, &mut s);
+    flags::start_flags(facts, k, q.person, k, &mut s);
     allow_all(&mut u);
     flags::person_table(rows, table);
     level::settle(
@@ -274,16 +278,18 @@ fn all_levels(
     requires { ⌜ (length (now up) ≡ 26400) × (length (now down) ≡ 26400) ⌝ }
     ensures { λ r. ⌜ Searched (contentsOf b) (now (up .exit)) (now (down .exit)) (r .found) (r .ups) (r .at) ⌝ }
 {
+    let facts = b.facts;
     let juniors = b.juniors;
     let mut reach = [false; 5120];
     let mut rows = [false; 5120];
     let mut table = [false; 5280];
     let mut added = [512u16; 160];
     let mut deleted = [512u16; 160];
-    fill_reach(&juniors, &mut reach);
+    fill_reach(&juniors, b.sizes.crews, &mut reach);
     flags::first_rows(&mut rows);
     let r = crew_levels(
         b,
+        &facts,
         &juniors,
         gains,
         losses,
@@ -298,7 +304,18 @@ fn all_levels(
     if !r.found {
         return r;
     }
-    let p = person_level(b, adds, dels, &rows, &mut table, r.ups, up, r.at, down);
+    let p = person_level(
+        b,
+        &facts,
+        adds,
+        dels,
+        &rows,
+        &mut table,
+        r.ups,
+        up,
+        r.at,
+        down,
+    );
     if !p.found {
         return p;
     }

@@ -16,6 +16,10 @@ Inv-loop rows j table₀ row f₀ table f = (f ≤ 160) × Written table₀ 5120
 abbrev μ-loop : tie.MeasureT-loop
 μ-loop rows j table₀ row f₀ table f = 160 - f
 
+-- The places that the answers name, each seen from a later one.
+abbrev start : tie.After-shared-slice-known Inv-loop μ-loop → tie.Start Inv-loop μ-loop
+start c = c .before .before .before .before
+
 mul-row : tie.Need-mul-row Inv-loop μ-loop
 mul-row c = search needs
 
@@ -32,13 +36,13 @@ add-more : tie.Need-add-more Inv-loop μ-loop
 add-more c = search needs
 
 shared-slice-read-more : tie.Need-shared-slice-read-more Inv-loop μ-loop
-shared-slice-read-more c = omega (arith, c .before .before .before .before .pre .0, c .before .before .before .before .pre .1 .0)
+shared-slice-read-more c = omega (arith, start c .pre .0, start c .pre .1 .0)
 
 add-table : tie.Need-add-table Inv-loop μ-loop
 add-table c = search needs
 
 slice-write-table : tie.Need-slice-write-table Inv-loop μ-loop
-slice-write-table c = omega (arith, c .before .before .before .loop .inv .1 .size, c .before .before .before .before .pre .1 .1)
+slice-write-table c = omega (arith, c .before .before .before .loop .inv .1 .size, start c .pre .1 .1)
 
 add-f : tie.Need-add-f Inv-loop μ-loop
 add-f c = search needs
@@ -47,7 +51,15 @@ loop-less : tie.Need-loop-less Inv-loop μ-loop
 loop-less c = search needs
 
 loop-again : tie.Need-loop-again Inv-loop μ-loop
-loop-again c = (omega arith, written-more (getD (c .before .before .before .loop .table) (5120 + c .before .before .before .loop .f) false || getD (c .before .before .before .before .args .rows .now) (160 * c .before .before .before .before .args .j + c .before .before .before .loop .f) false) (5120 + c .before .before .before .loop .f) (c .before .before .before .loop .inv .1) refl (omega (arith, c .before .before .before .before .pre .1 .1)) (rw (c .before .before .before .loop .inv .1 .above (5120 + c .before .before .before .loop .f) (omega arith)) refl))
+loop-again c =
+    let at-start = c .before .before .before .before in (
+      omega arith,
+      written-more (getD (c .before .before .before .loop .table)
+          (5120 + c .before .before .before .loop .f) false || getD (at-start .args .rows .now)
+          (160 * at-start .args .j + c .before .before .before .loop .f) false) (5120 + c .before .before .before .loop .f)
+          (c .before .before .before .loop .inv .1) refl (omega (arith, at-start .pre .1 .1))
+          (rw (c .before .before .before .loop .inv .1 .above (5120 + c .before .before .before .loop .f) (omega arith)) refl),
+    )
 
 same-length : tie.Need-same-length Inv-loop μ-loop
 same-length c = c .before .loop .inv .1 .size

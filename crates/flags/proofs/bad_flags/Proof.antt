@@ -1,57 +1,113 @@
--- `flags::bad_flags` meets its contract: the invariant says that the first f flags are written; the measure is how many are left. Assumes nothing.
-use Prim.Native.Nat.{_≤_, _-_}
+-- `flags::bad_flags` meets its contract: mode 01, the person, a crew that is not below a listed one, a crew that is. Assumes nothing.
+use mathlib.Core.Path.{_∙_}
 use native.Mathlib.Omega.{arith}
-use Rattle.flags.specs.Flags.{Written, badFlag}
-use Rattle.flags.proofs.FlagLaws.{written-none, written-more, written-end}
-use borrow.Author.Needs.{needs}
+use borrow.Author.Tests.{not-true, not-false}
+use Rattle.flags.proofs.BadLaws.{bad-none, bad-apart, bad-crew, bad-person}
 use Rattle.flags.proofs.bad_flags.Statement.{statement}
 use Rattle.flags.proofs.bad_flags.Tie as tie
 
-abbrev Inv-loop : tie.InvT-loop
-Inv-loop q crews k below bad₀ f₀ bad f = (f ≤ 160) × Written bad₀ 0 (badFlag q crews k below) f bad
+-- The places that the answers name, each seen from a later one.
+abbrev start : tie.After-clear-flags → tie.Start
+start c = c .before .before .before
 
-abbrev μ-loop : tie.MeasureT-loop
-μ-loop q crews k below bad₀ f₀ bad f = 160 - f
+abbrev after-clear-flags : tie.Else1 → tie.After-clear-flags
+after-clear-flags c = c .before .before .before .before
 
-loop-holds : tie.Need-loop-holds Inv-loop μ-loop
-loop-holds c = (omega arith, written-none _ 0 _)
+abbrev after-clear-flags-from-then1 : tie.Then1 → tie.After-clear-flags
+after-clear-flags-from-then1 c = c .before .before .before .before
 
-is-bad-requires : tie.Need-is-bad-requires Inv-loop μ-loop
-is-bad-requires c κs = c .before .before .before .pre .0
+abbrev else3 : tie.After-slice-known5 → tie.Else3
+else3 c = c .before .before .before .before
 
-cast-bad : tie.Need-cast-bad Inv-loop μ-loop
-cast-bad c = search needs
+abbrev after-add-banned : tie.After-add-lacking-arg → tie.After-add-banned
+after-add-banned c = c .before .before .before
 
-slice-write-bad : tie.Need-slice-write-bad Inv-loop μ-loop
-slice-write-bad c = omega (arith, c .before .before .loop .inv .1 .size, c .before .before .before .before .pre .1)
+clear-flags-requires : tie.Need-clear-flags-requires
+clear-flags-requires c κs = omega (arith, c .before .before .pre .1)
 
-add-f : tie.Need-add-f Inv-loop μ-loop
-add-f c = search needs
+same-length : tie.Need-same-length
+same-length c = after-clear-flags-from-then1 c .clear-flags .ensures .size
 
-loop-less : tie.Need-loop-less Inv-loop μ-loop
-loop-less c = search needs
+returns : tie.Need-returns
+returns c =
+    let at-start = start (after-clear-flags-from-then1 c) in
+    bad-none (at-start .args .q) (at-start .args .crews) (at-start .args .k) (at-start .args .below)
+    (after-clear-flags-from-then1 c .clear-flags .ensures) (c .if1 .taken)
 
-loop-again : tie.Need-loop-again Inv-loop μ-loop
-loop-again c = (omega arith, written-more (c .is-bad .result) (c .before .before .loop .f) (c .before .before .loop .inv .1) (omega arith) (omega (arith, c .before .before .before .before .pre .1)) (c .is-bad .ensures))
+add-banned-requires : tie.Need-add-banned-requires
+add-banned-requires c κs =
+    let at-clear-flags = after-clear-flags (c .before .before) in
+    let at-start = start at-clear-flags in
+    (at-start .pre .0, at-clear-flags .clear-flags .ensures .size ∙ at-start .pre .1)
 
-same-length : tie.Need-same-length Inv-loop μ-loop
-same-length c = c .before .loop .inv .1 .size
+add-lacking-requires : tie.Need-add-lacking-requires
+add-lacking-requires c κs =
+    let at-clear-flags = after-clear-flags (after-add-banned c .before .before .before) in (
+      omega arith,
+      omega (
+        arith,
+        c .before .before .before .add-banned .ensures .size,
+        at-clear-flags .clear-flags .ensures .size,
+        start at-clear-flags .pre .1,
+      ),
+    )
 
-returns : tie.Need-returns Inv-loop μ-loop
-returns c = written-end (c .before .loop .inv .1) (omega (arith, c .before .loop .inv .0, c .loop-test .left))
+same-length-2 : tie.Need-same-length-2
+same-length-2 c =
+    let at-add-banned = after-add-banned (c .before .before .before) in
+    let at-clear-flags = after-clear-flags (at-add-banned .before .before .before) in
+    c .before .before .add-lacking .ensures .size ∙ at-add-banned .add-banned .ensures .size ∙ at-clear-flags .clear-flags .ensures .size
+
+returns-2 : tie.Need-returns-2
+returns-2 c =
+    let at-add-banned = after-add-banned (c .before .before .before) in
+    let at-clear-flags = after-clear-flags (at-add-banned .before .before .before) in
+    let at-start = start at-clear-flags in
+    bad-person (at-start .args .q) (at-start .args .crews) (at-start .args .k) (at-start .args .below)
+    (at-clear-flags .clear-flags .ensures) (at-add-banned .before .before .before .if1 .left)
+    (at-add-banned .before .before .if2 .taken) (at-add-banned .add-banned .ensures) (c .before .before .add-lacking .ensures)
+
+same-length-3 : tie.Need-same-length-3
+same-length-3 c = after-clear-flags (c .before .before) .clear-flags .ensures .size
+
+returns-3 : tie.Need-returns-3
+returns-3 c =
+    let at-clear-flags = after-clear-flags (c .before .before) in
+    let at-start = start at-clear-flags in
+    bad-apart (at-start .args .q) (at-start .args .crews) (at-start .args .k) (at-start .args .below)
+    (at-clear-flags .clear-flags .ensures) (c .before .if2 .left) (not-true (at-start .args .below) (c .if3 .taken))
+
+add-banned-requires-2 : tie.Need-add-banned-requires-2
+add-banned-requires-2 c κs =
+    let at-clear-flags = after-clear-flags (c .before .before .before) in
+    let at-start = start at-clear-flags in
+    (at-start .pre .0, at-clear-flags .clear-flags .ensures .size ∙ at-start .pre .1)
+
+same-length-4 : tie.Need-same-length-4
+same-length-4 c =
+    c .before .before .add-banned2 .ensures .size ∙ after-clear-flags (else3 c .before .before) .clear-flags .ensures .size
+
+returns-4 : tie.Need-returns-4
+returns-4 c =
+    let at-clear-flags = after-clear-flags (else3 c .before .before) in
+    let at-start = start at-clear-flags in
+    bad-crew (at-start .args .q) (at-start .args .crews) (at-start .args .k) (at-start .args .below)
+    (at-clear-flags .clear-flags .ensures) (else3 c .before .before .if1 .left) (else3 c .before .if2 .left)
+    (not-false (at-start .args .below) (else3 c .if3 .left)) (c .before .before .add-banned2 .ensures)
 
 pub bad-flags-spec : {M : Type 1} → statement M
 bad-flags-spec =
     tie.close
     (tie.spec
-    Inv-loop
-    μ-loop
-    loop-holds
-    is-bad-requires
-    cast-bad
-    slice-write-bad
-    add-f
-    loop-less
-    loop-again
+    clear-flags-requires
     same-length
-    returns)
+    returns
+    add-banned-requires
+    add-lacking-requires
+    same-length-2
+    returns-2
+    same-length-3
+    returns-3
+    add-banned-requires-2
+    same-length-4
+    returns-4)

@@ -15,23 +15,47 @@ Inv-loop juniors k rows table₀ direct j₀ table j = (j ≤ k) × Written tabl
 abbrev μ-loop : tie.MeasureT-loop
 μ-loop juniors k rows table₀ direct j₀ table j = k - j
 
+-- The places that the answers name, each seen from a later one.
+abbrev entry : tie.After-clear-flags-arg Inv-loop μ-loop → tie.Start Inv-loop μ-loop
+entry c = c .before .before .before .before .before
+
+abbrev after-clear-flags : tie.At-loop Inv-loop μ-loop → tie.After-clear-flags Inv-loop μ-loop
+after-clear-flags c = c .before .before .before
+
+abbrev loop-head : tie.Then1 Inv-loop μ-loop → tie.At-loop Inv-loop μ-loop
+loop-head c = c .before .before .before
+
+abbrev then1 : tie.After-table2 Inv-loop μ-loop → tie.Then1 Inv-loop μ-loop
+then1 c = c .before .before .before
+
 mul-direct : tie.Need-mul-direct Inv-loop μ-loop
 mul-direct c = search needs
 
 shared-slice-read-direct : tie.Need-shared-slice-read-direct Inv-loop μ-loop
 shared-slice-read-direct c = search needs
 
-clear-last-requires : tie.Need-clear-last-requires Inv-loop μ-loop
-clear-last-requires c κs = c .before .before .before .before .before .pre .1 .1 .1
+clear-flags-requires : tie.Need-clear-flags-requires Inv-loop μ-loop
+clear-flags-requires c κs = omega (arith, entry c .pre .1 .1 .1)
 
 loop-holds : tie.Need-loop-holds Inv-loop μ-loop
-loop-holds c = let start = c .before .before .before .before .before .before .before .before .args in (omega arith, juniors-none (start .juniors .now) (start .k) (start .rows .now) (c .before .before .clear-last .ensures))
+loop-holds c =
+    let start = entry (c .before .before .before) .args in
+    (omega arith, juniors-none (start .juniors .now) (start .k) (start .rows .now) (c .before .before .clear-flags .ensures))
 
 has-requires : tie.Need-has-requires Inv-loop μ-loop
 has-requires c κs = search needs
 
 add-last-requires : tie.Need-add-last-requires Inv-loop μ-loop
-add-last-requires c κs = (omega (arith, c .before .before .before .loop-test .taken, c .before .before .before .before .before .before .before .before .before .before .before .before .before .pre .0), (c .before .before .before .before .before .before .before .before .before .before .before .before .before .pre .1 .1 .0, c .before .before .before .before .loop .inv .1 .size ∙ c .before .before .before .before .before .before .before .clear-last .ensures .size ∙ c .before .before .before .before .before .before .before .before .before .before .before .before .before .pre .1 .1 .1))
+add-last-requires c κs =
+    let at-loop = loop-head (c .before) in
+    let at-clear-flags = after-clear-flags at-loop in
+    let at-start = entry (at-clear-flags .before) in (
+      omega (arith, c .before .before .before .loop-test .taken, at-start .pre .0),
+      (
+        at-start .pre .1 .1 .0,
+        at-loop .loop .inv .1 .size ∙ at-clear-flags .clear-flags .ensures .size ∙ at-start .pre .1 .1 .1,
+      ),
+    )
 
 add-j : tie.Need-add-j Inv-loop μ-loop
 add-j c = search needs
@@ -40,7 +64,16 @@ loop-less : tie.Need-loop-less Inv-loop μ-loop
 loop-less c = search needs
 
 loop-again : tie.Need-loop-again Inv-loop μ-loop
-loop-again c = let start = c .before .before .before .before .before .before .before .before .before .before .before .before .before .before .before .before .args in (omega arith, juniors-add (start .juniors .now) (start .k) (start .rows .now) (c .before .before .before .before .before .before .before .loop .j) (junior-member (start .juniors .now) (start .k) (c .before .before .before .before .before .before .before .loop .j) ∙ sym (c .before .before .before .before .before .has .ensures) ∙ c .before .before .before .before .if1 .taken) (c .before .before .before .before .before .before .before .loop .inv .1) (c .before .before .add-last .ensures))
+loop-again c =
+    let at-then1 = then1 (c .before) in
+    let at-loop = loop-head at-then1 in
+    let start = entry (after-clear-flags at-loop .before) .args in (
+      omega arith,
+      juniors-add (start .juniors .now) (start .k) (start .rows .now) (at-loop .loop .j)
+          (junior-member (start .juniors .now) (start .k)
+          (at-loop .loop .j) ∙ sym (at-then1 .before .has .ensures) ∙ at-then1 .if1 .taken) (at-loop .loop .inv .1)
+          (c .before .before .add-last .ensures),
+    )
 
 add-j-2 : tie.Need-add-j-2 Inv-loop μ-loop
 add-j-2 c = search needs
@@ -49,13 +82,26 @@ loop-less-2 : tie.Need-loop-less-2 Inv-loop μ-loop
 loop-less-2 c = search needs
 
 loop-again-2 : tie.Need-loop-again-2 Inv-loop μ-loop
-loop-again-2 c = let start = c .before .before .before .before .before .before .before .before .before .before .before .before .args in (omega arith, juniors-skip (start .juniors .now) (start .k) (start .rows .now) (c .before .before .before .loop .j) (junior-member (start .juniors .now) (start .k) (c .before .before .before .loop .j) ∙ sym (c .before .has .ensures) ∙ c .if1 .left) (c .before .before .before .loop .inv .1))
+loop-again-2 c =
+    let start = entry (after-clear-flags (c .before .before .before) .before) .args in (
+      omega arith,
+      juniors-skip (start .juniors .now) (start .k) (start .rows .now) (c .before .before .before .loop .j)
+          (junior-member (start .juniors .now) (start .k)
+          (c .before .before .before .loop .j) ∙ sym (c .before .has .ensures) ∙ c .if1 .left)
+          (c .before .before .before .loop .inv .1),
+    )
 
 same-length : tie.Need-same-length Inv-loop μ-loop
-same-length c = c .before .loop .inv .1 .size ∙ c .before .before .before .before .clear-last .ensures .size
+same-length c = c .before .loop .inv .1 .size ∙ after-clear-flags (c .before) .clear-flags .ensures .size
 
 returns : tie.Need-returns Inv-loop μ-loop
-returns c = let start = c .before .before .before .before .before .before .before .before .before .before .args in let last : c .before .loop .j ≡ start .k = omega (arith, c .before .loop .inv .0, c .loop-test .left) in crew-table-all (start .juniors .now) (start .k) (start .rows .now) (c .before .before .before .before .before .before .before .before .before .before .pre .1 .1 .1) (written-over (c .before .before .before .before .clear-last .ensures) (rw last at (c .before .loop .inv .1)))
+returns c =
+    let at-clear-flags = c .before .before .before .before in
+    let at-start = at-clear-flags .before .before .before .before .before .before in
+    let start = at-start .args in
+    let last : c .before .loop .j ≡ start .k = omega (arith, c .before .loop .inv .0, c .loop-test .left) in
+    crew-table-all (start .juniors .now) (start .k) (start .rows .now) (at-start .pre .1 .1 .1)
+    (written-over (at-clear-flags .clear-flags .ensures) (rw last at (c .before .loop .inv .1)))
 
 pub crew-table-spec : {M : Type 1} → statement M
 crew-table-spec =
@@ -65,7 +111,7 @@ crew-table-spec =
     μ-loop
     mul-direct
     shared-slice-read-direct
-    clear-last-requires
+    clear-flags-requires
     loop-holds
     has-requires
     add-last-requires

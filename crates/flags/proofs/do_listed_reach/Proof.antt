@@ -38,7 +38,11 @@ shared-slice-read-reached : tie.Need-shared-slice-read-reached Inv-loop μ-loop
 shared-slice-read-reached c = search needs
 
 returns : tie.Need-returns Inv-loop μ-loop
-returns c = let start = c .before .before .before .before .before .before .args in sym (any-from (listedReaches (start .listed) (start .rows .now) (start .c)) 32 (c .before .before .before .before .loop .d) (rw (← c .before .before .has .ensures) (c .if1 .taken)) (c .before .before .before .loop-test .taken))
+returns c =
+    let at-loop = c .before .before .before .before in
+    let start = at-loop .before .before .args in
+    sym (any-from (listedReaches (start .listed) (start .rows .now) (start .c)) 32 (at-loop .loop .d)
+    (rw (← c .before .before .has .ensures) (c .if1 .taken)) (c .before .before .before .loop-test .taken))
 
 add-d : tie.Need-add-d Inv-loop μ-loop
 add-d c = search needs
@@ -47,7 +51,13 @@ loop-less : tie.Need-loop-less Inv-loop μ-loop
 loop-less c = search needs
 
 loop-again : tie.Need-loop-again Inv-loop μ-loop
-loop-again c = let start = c .before .before .before .before .before .before .args in (omega arith, any-next (listedReaches (start .listed) (start .rows .now) (start .c)) (c .before .before .before .before .loop .d) (c .before .before .before .before .loop .inv .1) (rw (← c .before .before .has .ensures) (c .if1 .left)))
+loop-again c =
+    let at-loop = c .before .before .before .before in
+    let start = at-loop .before .before .args in (
+      omega arith,
+      any-next (listedReaches (start .listed) (start .rows .now) (start .c)) (at-loop .loop .d)
+          (at-loop .loop .inv .1) (rw (← c .before .before .has .ensures) (c .if1 .left)),
+    )
 
 returns-2 : tie.Need-returns-2 Inv-loop μ-loop
 returns-2 c = let last : c .before .loop .d ≡ 32 = omega (arith, c .before .loop .inv .0, c .loop-test .left) in sym (ap (anyBelow _) (sym last) ∙ c .before .loop .inv .1)

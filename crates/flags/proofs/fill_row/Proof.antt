@@ -1,62 +1,75 @@
--- `flags::fill_row` meets its contract: the invariant says that the first f flags of row k are written; the measure is how many are left. Assumes nothing.
-use mathlib.Core.Path.{refl}
-use Prim.Native.Nat.{_+_, _*_, _≤_, _-_}
+-- `flags::fill_row` meets its contract: two copies, and the own crew. Assumes nothing.
+use mathlib.Core.Path.{_∙_}
 use native.Mathlib.Omega.{arith}
-use Rattle.flags.specs.Flags.{Written, rowFlag}
-use Rattle.flags.proofs.FlagLaws.{written-none, written-more, written-end}
+use lib.ListN.{length-set}
+use Rattle.flags.proofs.FlagLaws.{row-all}
 use borrow.Author.Needs.{needs}
 use Rattle.flags.proofs.fill_row.Statement.{statement}
 use Rattle.flags.proofs.fill_row.Tie as tie
 
-abbrev Inv-loop : tie.InvT-loop
-Inv-loop table k x rows₀ f₀ rows f = (f ≤ 160) × Written rows₀ (160 * k) (rowFlag table k x) f rows
+-- The places that the answers name, each seen from a later one.
+abbrev start : tie.After-copy-flags-arg → tie.Start
+start c = c .before .before .before .before
 
-abbrev μ-loop : tie.MeasureT-loop
-μ-loop table k x rows₀ f₀ rows f = 160 - f
+abbrev after-copy-flags : tie.After-copy-flags-arg2 → tie.After-copy-flags
+after-copy-flags c = c .before .before .before
 
-loop-holds : tie.Need-loop-holds Inv-loop μ-loop
-loop-holds c = (omega arith, written-none _ _ _)
+mul-row : tie.Need-mul-row
+mul-row c = search needs
 
-row-flag-requires : tie.Need-row-flag-requires Inv-loop μ-loop
-row-flag-requires c κs = (c .loop-test .taken, (c .before .before .before .before .before .pre .1 .0, c .before .before .before .before .before .pre .1 .1 .0))
+copy-flags-requires : tie.Need-copy-flags-requires
+copy-flags-requires c κs = (omega (arith, start c .pre .1 .0), omega (arith, start c .pre .0, start c .pre .1 .1 .1))
 
-mul-rows : tie.Need-mul-rows Inv-loop μ-loop
-mul-rows c = search needs
+add-copy-flags : tie.Need-add-copy-flags
+add-copy-flags c = search needs
 
-add-rows : tie.Need-add-rows Inv-loop μ-loop
+copy-flags-requires-2 : tie.Need-copy-flags-requires-2
+copy-flags-requires-2 c κs =
+    let at-start = start (after-copy-flags c .before) in (
+      omega (arith, at-start .pre .1 .1 .0),
+      omega (arith, at-start .pre .0, at-start .pre .1 .1 .1, c .before .before .before .copy-flags .ensures .size),
+    )
+
+add-rows : tie.Need-add-rows
 add-rows c = search needs
 
-slice-write-rows : tie.Need-slice-write-rows Inv-loop μ-loop
-slice-write-rows c = omega (arith, c .before .before .loop .inv .1 .size, c .before .before .before .before .before .before .pre .0, c .before .before .before .before .before .before .pre .1 .1 .1)
+add-rows-2 : tie.Need-add-rows-2
+add-rows-2 c = search needs
 
-add-f : tie.Need-add-f Inv-loop μ-loop
-add-f c = search needs
+slice-write-rows : tie.Need-slice-write-rows
+slice-write-rows c =
+    let at-copy-flags = after-copy-flags (c .before .before .before) in
+    let at-start = start (at-copy-flags .before) in
+    omega (
+      arith,
+      at-start .pre .0,
+      at-start .pre .1 .1 .1,
+      at-copy-flags .copy-flags .ensures .size,
+      c .before .before .copy-flags2 .ensures .size,
+    )
 
-loop-less : tie.Need-loop-less Inv-loop μ-loop
-loop-less c = search needs
+same-length : tie.Need-same-length
+same-length c =
+    simp length-set
+    (c .before .before .copy-flags2 .ensures .size ∙ after-copy-flags (c .before .before .before) .copy-flags .ensures .size)
 
-loop-again : tie.Need-loop-again Inv-loop μ-loop
-loop-again c = (omega arith, written-more (c .row-flag .result) (160 * c .before .before .before .before .before .before .args .k + c .before .before .loop .f) (c .before .before .loop .inv .1) refl (omega (arith, c .before .before .before .before .before .before .pre .0, c .before .before .before .before .before .before .pre .1 .1 .1)) (c .row-flag .ensures))
-
-same-length : tie.Need-same-length Inv-loop μ-loop
-same-length c = c .before .loop .inv .1 .size
-
-returns : tie.Need-returns Inv-loop μ-loop
-returns c = written-end (c .before .loop .inv .1) (omega (arith, c .before .loop .inv .0, c .loop-test .left))
+returns : tie.Need-returns
+returns c =
+    let at-copy-flags = after-copy-flags (c .before .before .before) in
+    let at-start = start (at-copy-flags .before) in
+    row-all (at-start .args .x .now) (at-start .args .table .now) (at-start .args .k) (at-start .pre .0) (at-start .pre .1 .1 .1)
+    (at-copy-flags .copy-flags .ensures) (c .before .before .copy-flags2 .ensures)
 
 pub fill-row-spec : {M : Type 1} → statement M
 fill-row-spec =
     tie.close
     (tie.spec
-    Inv-loop
-    μ-loop
-    loop-holds
-    row-flag-requires
-    mul-rows
+    mul-row
+    copy-flags-requires
+    add-copy-flags
+    copy-flags-requires-2
     add-rows
+    add-rows-2
     slice-write-rows
-    add-f
-    loop-less
-    loop-again
     same-length
     returns)

@@ -1,42 +1,69 @@
--- `flags::first_rows` meets its contract: the invariant says that the first i flags are written; the measure is how many are left. Assumes nothing.
-use mathlib.Core.Path.{refl}
+-- `flags::first_rows` meets its contract: all is cleared; the invariant says that the rows below row c have their own crew and nothing
+-- else; the measure is how many rows are left. Assumes nothing.
+use mathlib.Core.Path.{_≡_, _∙_}
 use Prim.Native.Nat.{_≤_, _-_}
-use Rattle.flags.specs.Flags.{Written}
-use Rattle.flags.proofs.FlagLaws.{written-none, written-more, written-end, isOwn, first-rows-all}
-use borrow.Author.Needs.{needs}
 use native.Mathlib.Omega.{arith}
+use Rattle.flags.specs.Flags.{Written}
+use Rattle.flags.proofs.FlagLaws.{isOwnBelow, own-none, own-more, first-rows-all}
+use borrow.Author.Needs.{needs}
 use Rattle.flags.proofs.first_rows.Statement.{statement}
 use Rattle.flags.proofs.first_rows.Tie as tie
 
 abbrev Inv-loop : tie.InvT-loop
-Inv-loop rows₀ i₀ rows i = (i ≤ 5120) × Written rows₀ 0 isOwn i rows
+Inv-loop rows₀ c₀ rows c = (c ≤ 32) × Written rows₀ 0 (isOwnBelow c) 5120 rows
 
 abbrev μ-loop : tie.MeasureT-loop
-μ-loop rows₀ i₀ rows i = 5120 - i
+μ-loop rows₀ c₀ rows c = 32 - c
+
+-- The places that the answers name, each seen from a later one.
+abbrev after-clear-flags : tie.At-loop Inv-loop μ-loop → tie.After-clear-flags Inv-loop μ-loop
+after-clear-flags c = c .before .before .before
+
+clear-flags-requires : tie.Need-clear-flags-requires Inv-loop μ-loop
+clear-flags-requires c κs = omega (arith, c .before .before .pre)
 
 loop-holds : tie.Need-loop-holds Inv-loop μ-loop
-loop-holds c = (omega arith, written-none _ 0 isOwn)
+loop-holds c = (omega arith, own-none (c .before .before .clear-flags .ensures))
+
+mul-rows : tie.Need-mul-rows Inv-loop μ-loop
+mul-rows c = search needs
 
 add-rows : tie.Need-add-rows Inv-loop μ-loop
 add-rows c = search needs
 
 slice-write-rows : tie.Need-slice-write-rows Inv-loop μ-loop
-slice-write-rows c = omega (arith, c .before .loop .inv .1 .size, c .before .before .pre)
+slice-write-rows c =
+    let at-clear-flags = after-clear-flags (c .before) in
+    omega (
+      arith,
+      c .before .loop .inv .1 .size,
+      at-clear-flags .clear-flags .ensures .size,
+      at-clear-flags .before .before .before .pre,
+    )
 
-add-i : tie.Need-add-i Inv-loop μ-loop
-add-i c = search needs
+add-c : tie.Need-add-c Inv-loop μ-loop
+add-c c = search needs
 
 loop-less : tie.Need-loop-less Inv-loop μ-loop
 loop-less c = search needs
 
 loop-again : tie.Need-loop-again Inv-loop μ-loop
-loop-again c = (omega arith, written-more (isOwn (c .before .loop .i)) (c .before .loop .i) (c .before .loop .inv .1) (omega arith) (omega (arith, c .before .before .pre)) refl)
+loop-again c =
+    let at-clear-flags = after-clear-flags (c .before) in (
+      omega arith,
+      own-more (c .before .loop .c) (c .loop-test .taken)
+          (at-clear-flags .clear-flags .ensures .size ∙ at-clear-flags .before .before .before .pre) (c .before .loop .inv .1),
+    )
 
 same-length : tie.Need-same-length Inv-loop μ-loop
-same-length c = c .before .loop .inv .1 .size
+same-length c = c .before .loop .inv .1 .size ∙ after-clear-flags (c .before) .clear-flags .ensures .size
 
 returns : tie.Need-returns Inv-loop μ-loop
-returns c = first-rows-all (c .before .before .pre) (written-end (c .before .loop .inv .1) (omega (arith, c .before .loop .inv .0, c .loop-test .left)))
+returns c =
+    let at-clear-flags = c .before .before .before .before in
+    let last : c .before .loop .c ≡ 32 = omega (arith, c .before .loop .inv .0, c .loop-test .left) in
+    first-rows-all (at-clear-flags .clear-flags .ensures .size ∙ at-clear-flags .before .before .before .pre)
+    (rw last at (c .before .loop .inv .1))
 
 pub first-rows-spec : {M : Type 1} → statement M
 first-rows-spec =
@@ -44,10 +71,12 @@ first-rows-spec =
     (tie.spec
     Inv-loop
     μ-loop
+    clear-flags-requires
     loop-holds
+    mul-rows
     add-rows
     slice-write-rows
-    add-i
+    add-c
     loop-less
     loop-again
     same-length

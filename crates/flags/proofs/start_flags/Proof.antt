@@ -1,23 +1,143 @@
--- `flags::start_flags` meets its contract: the flags written are the tracked starting facts. Assumes nothing.
-use Rattle.frames.specs.Book.{contentsOf}
-use Rattle.flags.proofs.FlagLaws.{start-all}
+-- `flags::start_flags` meets its contract: a crew without a place, a crew, a person without a place, a person. Assumes nothing.
+use mathlib.Core.Path.{_∙_}
+use native.Mathlib.Omega.{arith}
+use Rattle.flags.proofs.FlagLaws.{start-no-crew, start-crew, start-no-person, start-person}
 use borrow.Author.Needs.{needs}
 use Rattle.flags.proofs.start_flags.Statement.{statement}
 use Rattle.flags.proofs.start_flags.Tie as tie
 
-slice-aggregate-write-start : tie.Need-slice-aggregate-write-start
-slice-aggregate-write-start c = search needs
+-- The places that the answers name, each seen from a later one.
+abbrev start : tie.After-clear-flags → tie.Start
+start c = c .before .before .before .before
 
-write-start-requires : tie.Need-write-start-requires
-write-start-requires c κs = search needs
+abbrev after-clear-flags : tie.After-slice-known2 → tie.After-clear-flags
+after-clear-flags c = c .before .before
+
+abbrev after-clear-flags-from-else3 : tie.Else3 → tie.After-clear-flags
+after-clear-flags-from-else3 c = c .before .before .before .before .before
+
+abbrev else2 : tie.After-slice-known3 → tie.Else2
+else2 c = c .before .before .before .before
+
+abbrev else3 : tie.After-write-values2 → tie.Else3
+else3 c = c .before .before
+
+abbrev after-write-values2 : tie.After-slice-known5 → tie.After-write-values2
+after-write-values2 c = c .before .before .before .before .before .before
+
+clear-flags-requires : tie.Need-clear-flags-requires
+clear-flags-requires c κs = omega (arith, c .before .before .before .pre)
 
 same-length : tie.Need-same-length
-same-length c = search needs
+same-length c = after-clear-flags (c .before .before) .clear-flags .ensures .size
 
 returns : tie.Need-returns
-unfolding contentsOf
-returns c = start-all (contentsOf (c .before .before .before .before .before .before .before .before .before .args .b)) (c .before .before .before .before .before .before .before .before .before .args .k) (c .before .before .before .before .before .before .before .before .before .pre .1 .0) (c .before .before .before .before .before .before .before .before .before .pre .1 .1) (c .before .before .write-start .ensures)
+returns c =
+    let at-clear-flags = after-clear-flags (c .before .before) in
+    let at-start = start at-clear-flags in
+    start-no-crew (at-start .args .facts .now) (at-start .args .crews) (at-start .args .person) (at-start .args .k)
+    (at-clear-flags .clear-flags .ensures) (c .before .if1 .taken) (c .if2 .taken)
+
+mul-write-values : tie.Need-mul-write-values
+mul-write-values c = search needs
+
+add-write-values : tie.Need-add-write-values
+add-write-values c = search needs
+
+write-values-requires : tie.Need-write-values-requires
+write-values-requires c κs =
+    let at-clear-flags = after-clear-flags (c .before .before .before) in
+    (omega (arith, c .before .if2 .left), at-clear-flags .clear-flags .ensures .size ∙ start at-clear-flags .pre)
+
+same-length-2 : tie.Need-same-length-2
+same-length-2 c =
+    c .before .before .write-values .ensures .size ∙ after-clear-flags (else2 c .before .before) .clear-flags .ensures .size
+
+returns-2 : tie.Need-returns-2
+returns-2 c =
+    let at-clear-flags = after-clear-flags (else2 c .before .before) in
+    let at-start = start at-clear-flags in
+    start-crew (at-start .args .facts .now) (at-start .args .crews) (at-start .args .person) (at-start .args .k)
+    (at-clear-flags .clear-flags .ensures) (else2 c .before .if1 .taken) (else2 c .if2 .left)
+    (c .before .before .write-values .ensures)
+
+cast-p : tie.Need-cast-p
+cast-p c = search needs
+
+same-length-3 : tie.Need-same-length-3
+same-length-3 c = after-clear-flags (c .before .before .before) .clear-flags .ensures .size
+
+returns-3 : tie.Need-returns-3
+returns-3 c =
+    let at-clear-flags = after-clear-flags (c .before .before .before) in
+    let at-start = start at-clear-flags in
+    start-no-person (at-start .args .facts .now) (at-start .args .crews) (at-start .args .person) (at-start .args .k)
+    (at-clear-flags .clear-flags .ensures) (c .before .before .if1 .left) (c .if3 .taken)
+
+mul-write-values-2 : tie.Need-mul-write-values-2
+mul-write-values-2 c = search needs
+
+write-values-requires-2 : tie.Need-write-values-requires-2
+write-values-requires-2 c κs =
+    let at-clear-flags = after-clear-flags-from-else3 (c .before) in
+    (omega (arith, c .before .if3 .left), at-clear-flags .clear-flags .ensures .size ∙ start at-clear-flags .pre)
+
+mul-write-set : tie.Need-mul-write-set
+mul-write-set c = search needs
+
+add-write-set : tie.Need-add-write-set
+add-write-set c = search needs
+
+write-set-requires : tie.Need-write-set-requires
+write-set-requires c κs =
+    let at-else3 = else3 (c .before .before .before) in
+    let at-clear-flags = after-clear-flags-from-else3 at-else3 in (
+      omega (arith, at-else3 .if3 .left),
+      (
+        omega arith,
+        omega (
+          arith,
+          c .before .before .before .write-values2 .ensures .size,
+          at-clear-flags .clear-flags .ensures .size,
+          start at-clear-flags .pre,
+        ),
+      ),
+    )
+
+same-length-4 : tie.Need-same-length-4
+same-length-4 c =
+    let at-write-values2 = after-write-values2 c in
+    let at-clear-flags = after-clear-flags-from-else3 (at-write-values2 .before .before) in
+    c .before .before .write-set .ensures .size ∙ at-write-values2 .write-values2 .ensures .size ∙ at-clear-flags .clear-flags .ensures .size
+
+returns-4 : tie.Need-returns-4
+returns-4 c =
+    let at-else3 = else3 (after-write-values2 c) in
+    let at-clear-flags = after-clear-flags-from-else3 (after-write-values2 c .before .before) in
+    let at-start = start at-clear-flags in
+    start-person (at-start .args .facts .now) (at-start .args .crews) (at-start .args .person) (at-start .args .k)
+    (at-clear-flags .clear-flags .ensures) (at-else3 .before .before .if1 .left) (at-else3 .if3 .left)
+    (after-write-values2 c .write-values2 .ensures) (c .before .before .write-set .ensures)
 
 pub start-flags-spec : {M : Type 1} → statement M
 start-flags-spec =
-    tie.close (tie.spec slice-aggregate-write-start write-start-requires same-length returns)
+    tie.close
+    (tie.spec
+    clear-flags-requires
+    same-length
+    returns
+    mul-write-values
+    add-write-values
+    write-values-requires
+    same-length-2
+    returns-2
+    cast-p
+    same-length-3
+    returns-3
+    mul-write-values-2
+    write-values-requires-2
+    mul-write-set
+    add-write-set
+    write-set-requires
+    same-length-4
+    returns-4)

@@ -7,7 +7,7 @@ use native.Mathlib.Omega.{arith}
 use lib.ListN.{getD-replicate}
 use Rattle.frames.specs.Book.{Contents, contentsOf}
 use Rattle.planner.specs.Scan.{NoRun, Searched}
-use Rattle.planner.proofs.DriveLaws.{drive-first}
+use Rattle.planner.proofs.DriveLaws.{drive-first, crews-apart}
 use Rattle.planner.proofs.StepLaws.{no-found, was-found}
 use borrow.Author.Needs.{needs}
 use Rattle.planner.proofs.all_levels.Statement.{statement}
@@ -18,13 +18,19 @@ none-found e never = record { written = λ f. absurd (true≢false (sym f ∙ e)
 
 -- The places that the answers name, each seen from a later one.
 abbrev after-fill-reach : tie.After-crew-levels-arg2 → tie.After-fill-reach
-after-fill-reach c = c .before .before .before .before .before .before .before .before .before .before .before .before
+after-fill-reach c = c .before .before .before .before .before .before .before .before .before .before .before .before .before
+
+abbrev entry : tie.After-reach → tie.Start
+entry c = c .before .before .before .before .before .before .before .before .before .before
+
+abbrev after-reach : tie.After-facts2 → tie.After-reach
+after-reach c = c .before .before .before .before .before .before
 
 abbrev start : tie.After-crew-levels-arg2 → tie.Start
-start c = after-fill-reach c .before .before .before .before .before .before .before .before .before .before
+start c = entry (after-fill-reach c .before)
 
 abbrev after-first-rows : tie.After-table → tie.After-first-rows
-after-first-rows c = c .before .before .before .before .before .before .before
+after-first-rows c = c .before .before .before .before .before .before .before .before
 
 abbrev after-table2 : tie.After-struct-known → tie.After-table2
 after-table2 c = c .before .before .before .before .before
@@ -33,7 +39,7 @@ abbrev after-crew-levels : tie.After-struct-known → tie.After-crew-levels
 after-crew-levels c = after-table2 c .before .before .before .before
 
 abbrev else1 : tie.After-table3 → tie.Else1
-else1 c = c .before .before
+else1 c = c .before .before .before
 
 abbrev after-person-level : tie.After-struct-known2 → tie.After-person-level
 after-person-level c = c .before .before .before .before .before .before
@@ -45,7 +51,10 @@ slice-aggregate-fill-reach-2 : tie.Need-slice-aggregate-fill-reach-2
 slice-aggregate-fill-reach-2 c = search needs
 
 fill-reach-requires : tie.Need-fill-reach-requires
-fill-reach-requires c κs = search needs
+unfolding contentsOf
+fill-reach-requires c κs =
+    let ok = entry c .pre .0 .0 in
+    (ok .edge-room, (refl, (ok .sized .crews-most, crews-apart (contentsOf (entry c .args .b)) ok)))
 
 slice-aggregate-first-rows : tie.Need-slice-aggregate-first-rows
 slice-aggregate-first-rows c = search needs
@@ -54,7 +63,8 @@ first-rows-requires : tie.Need-first-rows-requires
 first-rows-requires c κs = search needs
 
 slice-aggregate-crew-levels : tie.Need-slice-aggregate-crew-levels
-slice-aggregate-crew-levels c = search needs
+unfolding contentsOf
+slice-aggregate-crew-levels c = sym (entry (after-reach c) .pre .0 .0 .facts-room)
 
 slice-aggregate-crew-levels-2 : tie.Need-slice-aggregate-crew-levels-2
 slice-aggregate-crew-levels-2 c = search needs
@@ -71,6 +81,9 @@ slice-aggregate-crew-levels-5 c = search needs
 slice-aggregate-crew-levels-6 : tie.Need-slice-aggregate-crew-levels-6
 slice-aggregate-crew-levels-6 c = search needs
 
+slice-aggregate-crew-levels-7 : tie.Need-slice-aggregate-crew-levels-7
+slice-aggregate-crew-levels-7 c = search needs
+
 crew-levels-requires : tie.Need-crew-levels-requires
 unfolding contentsOf
 crew-levels-requires c κs =
@@ -81,7 +94,7 @@ crew-levels-requires c κs =
           start c .pre .0 .1 .0,
           (
             at-first-rows .before .before .before .fill-reach .ensures .0,
-            (at-first-rows .before .before .before .fill-reach .ensures .1, refl),
+            (at-first-rows .before .before .before .fill-reach .ensures .1, (refl, refl)),
           ),
         ),
       ),
@@ -107,10 +120,16 @@ returns c =
     (after-crew-levels (c .before) .crew-levels .ensures .stuck (no-found _ (c .if1 .taken)))
 
 slice-aggregate-person-level : tie.Need-slice-aggregate-person-level
-slice-aggregate-person-level c = search needs
+unfolding contentsOf
+slice-aggregate-person-level c =
+    let at-crew-levels = after-crew-levels (c .before .before) in
+    sym (start (at-crew-levels .before) .pre .0 .0 .facts-room)
 
 slice-aggregate-person-level-2 : tie.Need-slice-aggregate-person-level-2
 slice-aggregate-person-level-2 c = search needs
+
+slice-aggregate-person-level-3 : tie.Need-slice-aggregate-person-level-3
+slice-aggregate-person-level-3 c = search needs
 
 person-level-requires : tie.Need-person-level-requires
 unfolding contentsOf
@@ -118,7 +137,7 @@ person-level-requires c κs =
     let at-else1 = else1 (c .before .before) in
     let at-crew-levels = after-crew-levels (at-else1 .before) in
     let at-start = start (at-crew-levels .before) in (
-      (at-start .pre .0 .0, (at-start .pre .0 .1 .1, after-table2 (at-else1 .before) .table2 .given)),
+      (at-start .pre .0 .0, (at-start .pre .0 .1 .1, (after-table2 (at-else1 .before) .table2 .given, refl))),
       at-crew-levels .crew-levels .ensures .settled (was-found _ (at-else1 .if1 .left)),
     )
 
@@ -133,8 +152,8 @@ returns-2 c =
     none-found (no-found _ (c .if2 .taken))
     (after-person-level (c .before) .person-level .ensures .stuck (no-found _ (c .if2 .taken)))
 
-add-t48 : tie.Need-add-t48
-add-t48 c =
+add-t53 : tie.Need-add-t53
+add-t53 c =
     omega (
       arith,
       after-person-level (c .before .before .before) .person-level .ensures .written
@@ -170,17 +189,19 @@ all-levels-spec =
     slice-aggregate-crew-levels-4
     slice-aggregate-crew-levels-5
     slice-aggregate-crew-levels-6
+    slice-aggregate-crew-levels-7
     crew-levels-requires
     same-length
     same-length-2
     returns
     slice-aggregate-person-level
     slice-aggregate-person-level-2
+    slice-aggregate-person-level-3
     person-level-requires
     same-length-3
     same-length-4
     returns-2
-    add-t48
+    add-t53
     same-length-5
     same-length-6
     returns-3)

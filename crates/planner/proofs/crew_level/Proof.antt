@@ -4,7 +4,7 @@ use Prim.Native.Nat.{_≤_}
 use native.Mathlib.Omega.{arith}
 use lib.ListN.{length}
 use Rattle.frames.specs.Book.{contentsOf}
-use Rattle.flags.proofs.FlagLaws.{small-wants, filled-row}
+use Rattle.flags.proofs.FlagLaws.{small-wants, start-flags, filled-row}
 use Rattle.flags.proofs.BadLaws.{bad-all}
 use Rattle.planner.proofs.StepLaws.{room-up, room-below, room-down, starts-allowed, crew-scanned}
 use borrow.Author.Needs.{needs}
@@ -13,10 +13,10 @@ use Rattle.planner.proofs.crew_level.Tie as tie
 
 -- The places that the answers name, each seen from a later one.
 abbrev entry : tie.After-slice-known6 → tie.Start
-entry c = c .before .before .before .before .before .before .before .before .before .before
+entry c = c .before .before .before .before .before .before .before .before .before .before .before
 
 abbrev entry-from-bad : tie.After-bad → tie.Start
-entry-from-bad c = c .before .before .before .before .before .before .before .before .before .before .before .before .before .before
+entry-from-bad c = c .before .before .before .before .before .before .before .before .before .before .before .before .before .before .before
 
 abbrev after-bad-flags : tie.After-crew-table-arg2 → tie.After-bad-flags
 after-bad-flags c = c .before .before .before .before .before .before .before .before .before
@@ -60,10 +60,7 @@ slice-aggregate-start-flags : tie.Need-slice-aggregate-start-flags
 slice-aggregate-start-flags c = search needs
 
 start-flags-requires : tie.Need-start-flags-requires
-unfolding contentsOf
-start-flags-requires c κs =
-    let pre = entry-from-bad (c .before .before .before) .pre .0 in
-    (pre .0, (omega (arith, pre .1 .0), refl))
+start-flags-requires c κs = refl
 
 slice-aggregate-allow-all : tie.Need-slice-aggregate-allow-all
 slice-aggregate-allow-all c = search needs
@@ -76,7 +73,7 @@ unfolding contentsOf
 crew-table-requires c κs =
     let pre = entry-from-bad (after-bad-flags c .before) .pre in (
       omega (arith, pre .0 .1 .0, pre .0 .0 .sized .crews-most),
-      (ap length (pre .0 .1 .1 .1 .1 .1) ∙ pre .0 .0 .edge-room, (pre .1 .1 .0 .rows-right .size, pre .1 .0 .size)),
+      (ap length (pre .0 .1 .1 .1 .1 .1 .0) ∙ pre .0 .0 .edge-room, (pre .1 .1 .0 .rows-right .size, pre .1 .0 .size)),
     )
 
 slice-aggregate-settle : tie.Need-slice-aggregate-settle
@@ -164,16 +161,18 @@ returns c =
     let at-allow-all = at-crew-table .before .before .before .before in
     let at-bad-flags = at-allow-all .before .before .before .before .before .before in
     let at-is-below-listed = at-bad-flags .before .before .before .before in
-    let start = at-is-below-listed .before .before .before .before .before .before .before .before .before .before .before in
+    let start = at-is-below-listed .before .before .before .before .before .before .before .before .before .before .before .before in
     let pre = start .pre in
-    let same = pre .0 .1 .1 .1 .1 .1 in
+    let same = pre .0 .1 .1 .1 .1 .1 .0 in
+    let same-facts = pre .0 .1 .1 .1 .1 .1 .1 in
+    let begun = start-flags (start .args .b) same-facts (omega (arith, pre .0 .1 .0)) refl (at-allow-all .before .before .before .start-flags .ensures) in
     let made = at-crew-table .crew-table .ensures in
     let drive = pre .1 .1 .0 in
     let bads = bad-all (contentsOf (start .args .b)) (small-wants (pre .0 .0)) (start .args .k)
     (at-is-below-listed .is-below-listed .result) (omega (arith, pre .0 .1 .0))
     (λ h. at-is-below-listed .is-below-listed .ensures) refl (at-bad-flags .bad-flags .ensures) in (
       crew-scanned (start .args .b) (pre .0 .0) (start .args .k) (pre .0 .1 .0) (pre .0 .1 .1 .0) drive (pre .1 .0)
-          (rw same at made) bads (at-allow-all .before .before .before .start-flags .ensures) (at-allow-all .allow-all .ensures)
+          (rw same at made) bads begun (at-allow-all .allow-all .ensures)
           (at-settle .settle .ensures)
           (rw same at (filled-row (drive .rows-right .size) made (c .before .before .fill-row .ensures)))
           (at-down .before .before .up .given ∙ drive .size-up) (at-down .down .given ∙ drive .size-down),

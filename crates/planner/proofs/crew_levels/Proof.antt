@@ -24,15 +24,15 @@ scanned : {b : Contents} {k n : ℕ} {rows : List Bool} {ups at : ℕ} {up down 
 scanned {b} {k} {n} {rows} {ups} {at} {up} {down} d e = record { settled = λ f. subst (λ (i : ℕ). Driving b i rows ups up at down) e d; stuck = λ f. absurd (true≢false f) }
 
 abbrev Inv-loop : tie.InvT-loop
-Inv-loop b juniors adds dels added₀ deleted₀ reach rows₀ table₀ up₀ down₀ n ups₀ at₀ k₀ added deleted rows table up down ups at k =
+Inv-loop b facts juniors adds dels added₀ deleted₀ reach rows₀ table₀ up₀ down₀ n ups₀ at₀ k₀ added deleted rows table up down ups at k =
     (k ≤ n) × (BlankTable table × (Driving (contentsOf b) k rows ups up at down × ((length added ≡ 160) × (length deleted ≡ 160))))
 
 abbrev μ-loop : tie.MeasureT-loop
-μ-loop b juniors adds dels added₀ deleted₀ reach rows₀ table₀ up₀ down₀ n ups₀ at₀ k₀ added deleted rows table up down ups at k = n - k
+μ-loop b facts juniors adds dels added₀ deleted₀ reach rows₀ table₀ up₀ down₀ n ups₀ at₀ k₀ added deleted rows table up down ups at k = n - k
 
 -- The places that the answers name, each seen from a later one.
 abbrev start : tie.After-slice-known6 Inv-loop μ-loop → tie.Start Inv-loop μ-loop
-start c = c .before .before .before .before .before .before .before .before .before .before
+start c = c .before .before .before .before .before .before .before .before .before .before .before
 
 abbrev loop-turn : tie.After-crew-level-arg6 Inv-loop μ-loop → tie.In-loop Inv-loop μ-loop
 loop-turn c = c .before .before .before .before .before .before

@@ -3,7 +3,7 @@ use mathlib.Core.Path.{refl, _∙_}
 use mathlib.Core.Bool.{false}
 use native.Mathlib.Omega.{arith}
 use Rattle.frames.specs.Book.{contentsOf}
-use Rattle.flags.proofs.FlagLaws.{small-wants}
+use Rattle.flags.proofs.FlagLaws.{small-wants, start-flags}
 use Rattle.flags.proofs.BadLaws.{bad-all}
 use Rattle.planner.proofs.StepLaws.{room-up, room-below, room-down, starts-allowed, person-searched}
 use borrow.Author.Needs.{needs}
@@ -12,7 +12,7 @@ use Rattle.planner.proofs.person_level.Tie as tie
 
 -- The places that the answers name, each seen from a later one.
 abbrev entry : tie.After-bad → tie.Start
-entry c = c .before .before .before .before .before .before .before .before
+entry c = c .before .before .before .before .before .before .before .before .before
 
 abbrev after-bad-flags : tie.After-allow-all → tie.After-bad-flags
 after-bad-flags c = c .before .before .before .before .before .before
@@ -37,8 +37,7 @@ slice-aggregate-start-flags : tie.Need-slice-aggregate-start-flags
 slice-aggregate-start-flags c = search needs
 
 start-flags-requires : tie.Need-start-flags-requires
-unfolding contentsOf
-start-flags-requires c κs = (entry (c .before .before .before) .pre .0 .0, (omega arith, refl))
+start-flags-requires c κs = refl
 
 slice-aggregate-allow-all : tie.Need-slice-aggregate-allow-all
 slice-aggregate-allow-all c = search needs
@@ -49,7 +48,7 @@ allow-all-requires c κs = search needs
 person-table-requires : tie.Need-person-table-requires
 person-table-requires c κs =
     let at-start = entry (after-bad-flags (c .before .before) .before) in
-    (at-start .pre .1 .rows-right .size, at-start .pre .0 .1 .1)
+    (at-start .pre .1 .rows-right .size, at-start .pre .0 .1 .1 .0)
 
 slice-aggregate-settle : tie.Need-slice-aggregate-settle
 slice-aggregate-settle c = search needs
@@ -118,11 +117,12 @@ returns c =
     let start = entry (at-bad-flags .before) in
     let pre = start .pre in
     let drive = pre .1 in
+    let same-facts = pre .0 .1 .1 .1 in
+    let begun = start-flags (start .args .b) same-facts (omega arith) refl (after-start-flags (at-person-table .before .before .before) .start-flags .ensures) in
     let bads = bad-all (contentsOf (start .args .b)) (small-wants (pre .0 .0)) (start .args .b .sizes .crews) false (omega arith)
     (λ h. absurd (omega arith)) refl (at-bad-flags .bad-flags .ensures) in
     person-searched (start .args .b) (pre .0 .0) (pre .0 .1 .0) drive (at-person-table .person-table .ensures) bads
-    (after-start-flags (at-person-table .before .before .before) .start-flags .ensures)
-    (at-person-table .before .before .before .allow-all .ensures) (at-settle .settle .ensures)
+    begun (at-person-table .before .before .before .allow-all .ensures) (at-settle .settle .ensures)
     (c .before .before .before .up .given ∙ drive .size-up) (c .before .down .given ∙ drive .size-down)
 
 pub person-level-spec : {M : Type 1} → statement M
