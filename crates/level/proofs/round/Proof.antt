@@ -1,7 +1,6 @@
 -- A round: additions closed, forbidden facts left out, deletions closed backwards (`rounded`). Assumes nothing.
 use mathlib.Core.Path.{sym, _∙_}
 use Rattle.level.proofs.SettleLaws.{ready, ready-back, rounded}
-use borrow.Author.Needs.{needs}
 use Rattle.level.proofs.round.Statement.{statement}
 use Rattle.level.proofs.round.Tie as tie
 
@@ -58,10 +57,10 @@ back-requires c κs =
     )
 
 same-length : tie.Need-same-length
-same-length c = search needs
+same-length c = c .before .before .before .before .before .before .before .before .before .before .before .before .before .before .before .before .before .before .before .before .before .before .before .before .before .before .added .given
 
 same-length-2 : tie.Need-same-length-2
-same-length-2 c = search needs
+same-length-2 c = c .before .before .before .before .before .deleted .given
 
 same-length-3 : tie.Need-same-length-3
 same-length-3 c =
@@ -69,16 +68,16 @@ same-length-3 c =
     at-close .close .ensures .whole .size ∙ sym (start (after-build (at-close .before) .before) .pre .1 .0 .size-x)
 
 same-length-4 : tie.Need-same-length-4
-same-length-4 c = search needs
+same-length-4 c = c .before .before .before .y2 .given ∙ c .before .before .before .before .before .before .before .before .before .before .before .before .y .given
 
 same-length-5 : tie.Need-same-length-5
-same-length-5 c = search needs
+same-length-5 c = c .before .before .before .before .before .before .before .before .before .before .before .before .before .before .before .before .before .d .given
 
 same-length-6 : tie.Need-same-length-6
-same-length-6 c = search needs
+same-length-6 c = c .before .before .before .before .before .before .before .before .before .before .before .before .before .before .before .before .before .before .before .before .before .before .up .given
 
 same-length-7 : tie.Need-same-length-7
-same-length-7 c = search needs
+same-length-7 c = c .before .down .given
 
 returns : tie.Need-returns
 returns c =

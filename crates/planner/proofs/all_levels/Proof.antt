@@ -26,6 +26,12 @@ entry c = c .before .before .before .before .before .before .before .before .bef
 abbrev after-reach : tie.After-facts2 → tie.After-reach
 after-reach c = c .before .before .before .before .before .before
 
+abbrev reached : tie.After-reach3 → tie.After-fill-reach
+reached c = c .before .before .before .before .before .before .before .before .before
+
+abbrev begun : tie.After-rows3 → tie.After-first-rows
+begun c = c .before .before .before .before .before .before .before
+
 abbrev start : tie.After-crew-levels-arg2 → tie.Start
 start c = entry (after-fill-reach c .before)
 
@@ -48,7 +54,7 @@ slice-aggregate-fill-reach : tie.Need-slice-aggregate-fill-reach
 slice-aggregate-fill-reach c = search needs
 
 slice-aggregate-fill-reach-2 : tie.Need-slice-aggregate-fill-reach-2
-slice-aggregate-fill-reach-2 c = search needs
+slice-aggregate-fill-reach-2 c = refl
 
 fill-reach-requires : tie.Need-fill-reach-requires
 unfolding contentsOf
@@ -57,10 +63,10 @@ fill-reach-requires c κs =
     (ok .edge-room, (refl, (ok .sized .crews-most, crews-apart (contentsOf (entry c .args .b)) ok)))
 
 slice-aggregate-first-rows : tie.Need-slice-aggregate-first-rows
-slice-aggregate-first-rows c = search needs
+slice-aggregate-first-rows c = refl
 
 first-rows-requires : tie.Need-first-rows-requires
-first-rows-requires c κs = search needs
+first-rows-requires c κs = refl
 
 slice-aggregate-crew-levels : tie.Need-slice-aggregate-crew-levels
 unfolding contentsOf
@@ -70,19 +76,19 @@ slice-aggregate-crew-levels-2 : tie.Need-slice-aggregate-crew-levels-2
 slice-aggregate-crew-levels-2 c = search needs
 
 slice-aggregate-crew-levels-3 : tie.Need-slice-aggregate-crew-levels-3
-slice-aggregate-crew-levels-3 c = search needs
+slice-aggregate-crew-levels-3 c = refl
 
 slice-aggregate-crew-levels-4 : tie.Need-slice-aggregate-crew-levels-4
-slice-aggregate-crew-levels-4 c = search needs
+slice-aggregate-crew-levels-4 c = refl
 
 slice-aggregate-crew-levels-5 : tie.Need-slice-aggregate-crew-levels-5
-slice-aggregate-crew-levels-5 c = search needs
+slice-aggregate-crew-levels-5 c = sym (reached c .fill-reach .ensures .0)
 
 slice-aggregate-crew-levels-6 : tie.Need-slice-aggregate-crew-levels-6
-slice-aggregate-crew-levels-6 c = search needs
+slice-aggregate-crew-levels-6 c = sym (begun c .first-rows .ensures .size)
 
 slice-aggregate-crew-levels-7 : tie.Need-slice-aggregate-crew-levels-7
-slice-aggregate-crew-levels-7 c = search needs
+slice-aggregate-crew-levels-7 c = refl
 
 crew-levels-requires : tie.Need-crew-levels-requires
 unfolding contentsOf
@@ -109,10 +115,10 @@ crew-levels-requires c κs =
     )
 
 same-length : tie.Need-same-length
-same-length c = search needs
+same-length c = c .before .before .before .before .before .up .given
 
 same-length-2 : tie.Need-same-length-2
-same-length-2 c = search needs
+same-length-2 c = c .before .before .before .down .given
 
 returns : tie.Need-returns
 returns c =
@@ -126,10 +132,10 @@ slice-aggregate-person-level c =
     sym (start (at-crew-levels .before) .pre .0 .0 .facts-room)
 
 slice-aggregate-person-level-2 : tie.Need-slice-aggregate-person-level-2
-slice-aggregate-person-level-2 c = search needs
+slice-aggregate-person-level-2 c = sym (after-table2 (c .before .before .before) .before .rows4 .given)
 
 slice-aggregate-person-level-3 : tie.Need-slice-aggregate-person-level-3
-slice-aggregate-person-level-3 c = search needs
+slice-aggregate-person-level-3 c = sym (after-table2 (else1 c .before) .table2 .given)
 
 person-level-requires : tie.Need-person-level-requires
 unfolding contentsOf
@@ -142,10 +148,10 @@ person-level-requires c κs =
     )
 
 same-length-3 : tie.Need-same-length-3
-same-length-3 c = search needs
+same-length-3 c = c .before .before .before .before .before .up2 .given ∙ c .before .before .before .before .before .before .before .before .before .before .before .before .before .before .before .before .before .before .up .given
 
 same-length-4 : tie.Need-same-length-4
-same-length-4 c = search needs
+same-length-4 c = c .before .before .before .down2 .given ∙ c .before .before .before .before .before .before .before .before .before .before .before .before .before .before .before .before .down .given
 
 returns-2 : tie.Need-returns-2
 returns-2 c =
@@ -161,10 +167,10 @@ add-t53 c =
     )
 
 same-length-5 : tie.Need-same-length-5
-same-length-5 c = search needs
+same-length-5 c = c .before .before .before .before .before .before .before .up2 .given ∙ c .before .before .before .before .before .before .before .before .before .before .before .before .before .before .before .before .before .before .before .before .up .given
 
 same-length-6 : tie.Need-same-length-6
-same-length-6 c = search needs
+same-length-6 c = c .before .before .before .before .before .down2 .given ∙ c .before .before .before .before .before .before .before .before .before .before .before .before .before .before .before .before .before .before .down .given
 
 returns-3 : tie.Need-returns-3
 returns-3 c =

@@ -1,5 +1,5 @@
 -- `planner::crew_level` meets its contract: the flags and the table are the crew's, and the level comes to a settled set or is stuck. Assumes nothing.
-use mathlib.Core.Path.{refl, ap, _∙_}
+use mathlib.Core.Path.{refl, sym, ap, _∙_}
 use Prim.Native.Nat.{_≤_}
 use native.Mathlib.Omega.{arith}
 use lib.ListN.{length}
@@ -7,7 +7,6 @@ use Rattle.frames.specs.Book.{contentsOf}
 use Rattle.flags.proofs.FlagLaws.{small-wants, start-flags, filled-row}
 use Rattle.flags.proofs.BadLaws.{bad-all}
 use Rattle.planner.proofs.StepLaws.{room-up, room-below, room-down, starts-allowed, crew-scanned}
-use borrow.Author.Needs.{needs}
 use Rattle.planner.proofs.crew_level.Statement.{statement}
 use Rattle.planner.proofs.crew_level.Tie as tie
 
@@ -50,23 +49,23 @@ is-below-listed-requires c κs =
     (omega (arith, pre .1 .0, pre .0 .sized .crews-most), (pre .1 .1 .1 .0, pre .1 .1 .1 .1 .0))
 
 slice-aggregate-bad-flags : tie.Need-slice-aggregate-bad-flags
-slice-aggregate-bad-flags c = search needs
+slice-aggregate-bad-flags c = refl
 
 bad-flags-requires : tie.Need-bad-flags-requires
 unfolding contentsOf
 bad-flags-requires c κs = (small-wants (entry-from-bad c .pre .0 .0), refl)
 
 slice-aggregate-start-flags : tie.Need-slice-aggregate-start-flags
-slice-aggregate-start-flags c = search needs
+slice-aggregate-start-flags c = refl
 
 start-flags-requires : tie.Need-start-flags-requires
 start-flags-requires c κs = refl
 
 slice-aggregate-allow-all : tie.Need-slice-aggregate-allow-all
-slice-aggregate-allow-all c = search needs
+slice-aggregate-allow-all c = refl
 
 allow-all-requires : tie.Need-allow-all-requires
-allow-all-requires c κs = search needs
+allow-all-requires c κs = refl
 
 crew-table-requires : tie.Need-crew-table-requires
 unfolding contentsOf
@@ -77,22 +76,22 @@ crew-table-requires c κs =
     )
 
 slice-aggregate-settle : tie.Need-slice-aggregate-settle
-slice-aggregate-settle c = search needs
+slice-aggregate-settle c = sym (c .before .before .before .before .before .before .before .before .before .before .before .before .before .before .before .before .bad-flags .ensures .size)
 
 slice-aggregate-settle-2 : tie.Need-slice-aggregate-settle-2
-slice-aggregate-settle-2 c = search needs
+slice-aggregate-settle-2 c = sym (c .before .before .before .before .before .before .before .before .before .before .before .before .before .before .start-flags .ensures .size)
 
 slice-aggregate-settle-3 : tie.Need-slice-aggregate-settle-3
-slice-aggregate-settle-3 c = search needs
+slice-aggregate-settle-3 c = sym (c .before .before .before .before .before .before .before .before .before .before .before .before .allow-all .ensures .size)
 
 slice-aggregate-settle-4 : tie.Need-slice-aggregate-settle-4
-slice-aggregate-settle-4 c = search needs
+slice-aggregate-settle-4 c = refl
 
 slice-aggregate-settle-5 : tie.Need-slice-aggregate-settle-5
-slice-aggregate-settle-5 c = search needs
+slice-aggregate-settle-5 c = refl
 
 slice-aggregate-settle-6 : tie.Need-slice-aggregate-settle-6
-slice-aggregate-settle-6 c = search needs
+slice-aggregate-settle-6 c = refl
 
 settle-requires : tie.Need-settle-requires
 unfolding contentsOf
@@ -122,7 +121,7 @@ settle-requires c κs =
     )
 
 slice-aggregate-fill-row : tie.Need-slice-aggregate-fill-row
-slice-aggregate-fill-row c = search needs
+slice-aggregate-fill-row c = sym (after-x2 c .x2 .given)
 
 fill-row-requires : tie.Need-fill-row-requires
 unfolding contentsOf

@@ -1,12 +1,11 @@
 -- `planner::person_level` meets its contract: the flags and the table are the person's, and the level comes to the best plan or is stuck. Assumes nothing.
-use mathlib.Core.Path.{refl, _∙_}
+use mathlib.Core.Path.{refl, sym, _∙_}
 use mathlib.Core.Bool.{false}
 use native.Mathlib.Omega.{arith}
 use Rattle.frames.specs.Book.{contentsOf}
 use Rattle.flags.proofs.FlagLaws.{small-wants, start-flags}
 use Rattle.flags.proofs.BadLaws.{bad-all}
 use Rattle.planner.proofs.StepLaws.{room-up, room-below, room-down, starts-allowed, person-searched}
-use borrow.Author.Needs.{needs}
 use Rattle.planner.proofs.person_level.Statement.{statement}
 use Rattle.planner.proofs.person_level.Tie as tie
 
@@ -27,23 +26,23 @@ abbrev after-settle : tie.After-down → tie.After-settle
 after-settle c = c .before .before .before .before .before .before .before .before .before
 
 slice-aggregate-bad-flags : tie.Need-slice-aggregate-bad-flags
-slice-aggregate-bad-flags c = search needs
+slice-aggregate-bad-flags c = refl
 
 bad-flags-requires : tie.Need-bad-flags-requires
 unfolding contentsOf
 bad-flags-requires c κs = (small-wants (entry c .pre .0 .0), refl)
 
 slice-aggregate-start-flags : tie.Need-slice-aggregate-start-flags
-slice-aggregate-start-flags c = search needs
+slice-aggregate-start-flags c = refl
 
 start-flags-requires : tie.Need-start-flags-requires
 start-flags-requires c κs = refl
 
 slice-aggregate-allow-all : tie.Need-slice-aggregate-allow-all
-slice-aggregate-allow-all c = search needs
+slice-aggregate-allow-all c = refl
 
 allow-all-requires : tie.Need-allow-all-requires
-allow-all-requires c κs = search needs
+allow-all-requires c κs = refl
 
 person-table-requires : tie.Need-person-table-requires
 person-table-requires c κs =
@@ -51,28 +50,28 @@ person-table-requires c κs =
     (at-start .pre .1 .rows-right .size, at-start .pre .0 .1 .1 .0)
 
 slice-aggregate-settle : tie.Need-slice-aggregate-settle
-slice-aggregate-settle c = search needs
+slice-aggregate-settle c = refl
 
 slice-aggregate-settle-2 : tie.Need-slice-aggregate-settle-2
-slice-aggregate-settle-2 c = search needs
+slice-aggregate-settle-2 c = refl
 
 slice-aggregate-settle-3 : tie.Need-slice-aggregate-settle-3
-slice-aggregate-settle-3 c = search needs
+slice-aggregate-settle-3 c = sym (c .before .before .before .before .before .before .before .before .before .before .before .before .before .before .before .bad-flags .ensures .size)
 
 slice-aggregate-settle-4 : tie.Need-slice-aggregate-settle-4
-slice-aggregate-settle-4 c = search needs
+slice-aggregate-settle-4 c = sym (c .before .before .before .before .before .before .before .before .before .before .before .before .before .start-flags .ensures .size)
 
 slice-aggregate-settle-5 : tie.Need-slice-aggregate-settle-5
-slice-aggregate-settle-5 c = search needs
+slice-aggregate-settle-5 c = sym (c .before .before .before .before .before .before .before .before .before .before .before .allow-all .ensures .size)
 
 slice-aggregate-settle-6 : tie.Need-slice-aggregate-settle-6
-slice-aggregate-settle-6 c = search needs
+slice-aggregate-settle-6 c = refl
 
 slice-aggregate-settle-7 : tie.Need-slice-aggregate-settle-7
-slice-aggregate-settle-7 c = search needs
+slice-aggregate-settle-7 c = refl
 
 slice-aggregate-settle-8 : tie.Need-slice-aggregate-settle-8
-slice-aggregate-settle-8 c = search needs
+slice-aggregate-settle-8 c = refl
 
 settle-requires : tie.Need-settle-requires
 unfolding contentsOf
@@ -100,13 +99,13 @@ settle-requires c κs =
     )
 
 same-length : tie.Need-same-length
-same-length c = search needs
+same-length c = c .before .before .before .before .before .before .before .before .before .before .before .before .before .before .before .before .before .before .before .before .before .before .before .table .given
 
 same-length-2 : tie.Need-same-length-2
-same-length-2 c = search needs
+same-length-2 c = c .before .before .before .up .given
 
 same-length-3 : tie.Need-same-length-3
-same-length-3 c = search needs
+same-length-3 c = c .before .down .given
 
 returns : tie.Need-returns
 unfolding contentsOf
