@@ -9,21 +9,23 @@ use native.Mathlib.Numerals.{add-one}
 use native.Mathlib.Omega.{arith}
 use lib.Dec.{eqb}
 use lib.ListN.{length, take, drop, set, length-set, length-drop, drop-of-length-le}
-use lib.Seq.{take-suc-set, length-take-le}
+use lib.Seq.{take-suc-set, take-all, length-take-le}
 use borrow.Author.Tests.{eqb-true, ne-eqb}
 use Rattle.lines.specs.Digits.{byteAt, frameOf, malformed}
 use Rattle.lines.specs.Lines.{Line, ended, lines}
 use Rattle.lines.proofs.DigitLaws.{well-long}
 use Rattle.lines.proofs.LineLaws.{line-ended, line-unended}
-use Rattle.lines.specs.declared.Frame.the-variants.{Malformed as NoFrame, Bytes}
+use Rattle.lines.specs.declared.Frame.the-variants.{Malformed as NoFrame, Bytes, Long}
 use Rattle.reader.specs.declared.Read.{Read}
 use Rattle.reader.specs.Reading.{lineEnd, lineOf, FrameRead}
-use Rattle.reader.proofs.ReadLaws.{read-bytes, read-malformed}
+use Rattle.reader.proofs.ReadLaws.{read-bytes, read-long, read-malformed}
 use Rattle.gate.specs.Gate.{verdict, lineVerdict}
 use Rattle.gate.specs.declared.Known.{Known}
 use Rattle.gate.specs.declared.Fault.{Fault}
 use Rattle.gate.specs.declared.Fault.the-variants.{Malformed, Misplaced}
 use Rattle.gate.specs.declared.Verdict.the-variants.{Good, Bad}
+use Rattle.gate.specs.Inner.Long.{longFault}
+use Rattle.gate.proofs.LongLaws.{long-bad}
 use Rattle.gate.proofs.PassedLaws.{sizes-passed, edge-passed, rule-passed}
 use Rattle.frames.specs.declared.Rule.{Rule}
 use Rattle.frames.specs.declared.Query.{Query}
@@ -209,6 +211,18 @@ module _ {book : List ℕ} {k : Known} {q : Query} {m fs : List ℕ} {rs : List 
 
     pub line-less : {n : ℕ} → r .frame ≡ Bytes n → i < length book → length book - r .next .at < length book - i
     line-less e h = rw (p .next) (omega (arith, read-bytes p e .0, h))
+
+    -- Only the front of its frame was read: no frame as long is good.
+    pub long-refused : {n : ℕ} → r .frame ≡ Long n → length after ≡ 64 → refused (BadLine (longFault k after n) l) ≡ walk nothing 1 (lines book)
+    long-refused {n} e size =
+        let read = read-long p e in
+        let front = read .1 .1 in
+        let x = frameOf (line book i) in
+        let kept : take 64 x ≡ after = sym (front .front) ∙ take-all 64 after (omega (arith, size)) in
+        let same : longFault k (take 64 x) (length x) ≡ longFault k after n =
+        ap (λ (w : List ℕ). longFault k w (length x)) kept ∙ ap (longFault k after) (sym (front .count)) in
+        line-bad (record { ended = read .0; well = read .1 .0; frame = refl }) _
+        (long-bad k x (omega (arith, front .over, front .count)) ∙ ap Bad same)
 
     -- No frame was read of it: it is unended or malformed.
     pub unread-bad : i < length book → r .frame ≡ NoFrame → refused (BadLine Malformed l) ≡ walk nothing 1 (lines book)

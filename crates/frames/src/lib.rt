@@ -363,15 +363,22 @@ fn read_lines(book: &[u8]) -> Reading
     let mut facts = [0u8; 1792];
     let none = no_rule();
     let mut rules = [none; 512];
-    let mut frame = [0u8; 32768];
+    let mut frame = [0u8; 64];
     let mut digits = [0u8; 256];
     lines::fill_digits(&mut digits);
     let mut cursor = lines::opening_line();
     while cursor.at < book.len() {
         let read = reader::read_frame(book, cursor, &digits, &mut frame);
         let decoded = read.frame;
-        let lines::Frame::Bytes(n) = decoded else {
-            return turned_back(Refusal::BadLine(gate::Fault::Malformed, cursor.line));
+        let n = match decoded {
+            lines::Frame::Malformed => {
+                return turned_back(Refusal::BadLine(gate::Fault::Malformed, cursor.line));
+            }
+            lines::Frame::Long(n) => {
+                let fault = gate::long_fault(known, &frame, n);
+                return turned_back(Refusal::BadLine(fault, cursor.line));
+            }
+            lines::Frame::Bytes(n) => n,
         };
         let x = &frame[..n];
         let verdict = gate::judge_frame(known, x);

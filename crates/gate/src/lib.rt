@@ -6,6 +6,7 @@ ghost use Prim.Native.Nat.{_+_, _-_, _*_, _<_, _≤_};
 ghost use lib.ListN.{length};
 ghost use Rattle.lines.specs.Digits.{byteAt};
 ghost use Rattle.gate.specs.Gate.{faultNumber, between, allBelow, valuesOf, isPerson, isCrew, isAttr, isValue, isCrewField, pairAt, quadAt, misplaced, lengthOf, mislengthed, sizesGood, sizesVerdict, edgeVerdict, headGood, termGood, termGoodAt, ruleGood, valueTermAt, foreign, ruleVerdict, factGood, factVerdict, wantGoodAt, crewsGood, queryGood, risesAt, queryVerdict, fieldsVerdict, verdict};
+ghost use Rattle.gate.specs.Inner.Long.{dueLength, longFault};
 
 // How many persons, crews, attributes, and values of each attribute.
 pub struct Sizes {
@@ -139,14 +140,21 @@ fn length_of(kind: u8, mode: u8, n: u8) -> usize
     6 + 3 * m + 0
 }
 
-fn is_mislengthed(x: &[u8]) -> bool
-    ensures { λ r. ⌜ r ≡ mislengthed (now (x .entry)) ⌝ }
+// The length that a frame's first bytes give.
+fn due_length(x: &[u8]) -> usize
+    ensures { λ r. ⌜ r ≡ dueLength (now (x .entry)) ⌝ }
 {
-    let n = length_of(
+    length_of(
         lines::byte_at(x, 0),
         lines::byte_at(x, 1),
         lines::byte_at(x, 5),
-    );
+    )
+}
+
+fn is_mislengthed(x: &[u8]) -> bool
+    ensures { λ r. ⌜ r ≡ mislengthed (now (x .entry)) ⌝ }
+{
+    let n = due_length(x);
     x.len() != n
 }
 
@@ -416,4 +424,19 @@ pub fn judge_frame(k: Known, x: &[u8]) -> Verdict
         return Verdict::Bad(Fault::Mislengthed);
     }
     fields_verdict(k, x)
+}
+
+// The lowest refusal of a frame of n bytes, over 64, by its first 64 alone: it is misplaced, or has another length than its kind's, or has
+// it by an n or q over 8.
+pub fn long_fault(k: Known, x: &[u8], n: usize) -> Fault
+    ensures { λ r. ⌜ r ≡ longFault k (now (x .entry)) n ⌝ }
+{
+    if is_misplaced(k, lines::byte_at(x, 0)) {
+        return Fault::Misplaced;
+    }
+    let due = due_length(x);
+    if n != due {
+        return Fault::Mislengthed;
+    }
+    Fault::Outside
 }

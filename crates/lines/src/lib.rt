@@ -2,7 +2,7 @@
 ghost use mathlib.Core.Path.{_≡_};
 ghost use Prim.Native.Nat.{_+_, _*_, _<_, _≤_};
 ghost use lib.ListN.{length, drop};
-ghost use Rattle.lines.specs.Digits.{digit, character, byteAt, Decoded};
+ghost use Rattle.lines.specs.Digits.{digit, character, isDigit, all, byteAt, Decoded};
 ghost use Rattle.lines.specs.Lines.{toEnd, opening, following};
 ghost use Rattle.lines.specs.Inner.Front.{Tabled, firstLine, Begun, isEnd};
 
@@ -85,14 +85,15 @@ pub fn character_of(d: u8) -> u8
     ALPHABET[i]
 }
 
-// What an ended line writes: nothing, by refusal 2, or a frame of some bytes.
+// What an ended line writes: nothing, by refusal 2; a frame of so many bytes; or one of over 64, of which only the first 64 are kept.
 pub enum Frame {
     Malformed,
     Bytes(usize),
+    Long(usize),
 }
 
 // Writes the line's frame to the front of `frame`, unless the line is empty, has an odd number of digits, or another character.
-pub fn decode(x: &[u8], frame: &mut [u8]) -> Frame
+fn decode_short(x: &[u8], frame: &mut [u8]) -> Frame
     requires { ⌜ (length (now x) ≤ 65536) × (length (now x) ≤ 2 * length (now frame)) ⌝ }
     ensures { λ r. ⌜ Decoded (now (x .entry)) r (now (frame .entry)) (now (frame .exit)) ⌝ }
 {
@@ -116,6 +117,48 @@ pub fn decode(x: &[u8], frame: &mut [u8]) -> Frame
         k += 1;
     }
     Frame::Bytes(k)
+}
+
+// Whether all characters are digits.
+fn are_digits(x: &[u8]) -> bool
+    ensures { λ r. ⌜ r ≡ all isDigit (now (x .entry)) ⌝ }
+{
+    let mut i: usize = 0;
+    while i < x.len() {
+        let d = digit_of(x[i]);
+        if d >= 16 {
+            return false;
+        }
+        i += 1;
+    }
+    true
+}
+
+// The same of a line of over 128 characters, whose frame is too long for every kind: its first 64 bytes tell which refusal is due.
+fn decode_long(x: &[u8], frame: &mut [u8]) -> Frame
+    requires { ⌜ (128 < length (now x)) × (length (now frame) ≡ 64) ⌝ }
+    ensures { λ r. ⌜ Decoded (now (x .entry)) r (now (frame .entry)) (now (frame .exit)) ⌝ }
+{
+    if x.len() % 2 == 1 {
+        return Frame::Malformed;
+    }
+    if !are_digits(x) {
+        return Frame::Malformed;
+    }
+    let front = &x[..128];
+    decode_short(front, frame);
+    Frame::Long(x.len() / 2)
+}
+
+// What a line writes to a buffer of 64 bytes.
+pub fn decode(x: &[u8], frame: &mut [u8]) -> Frame
+    requires { ⌜ length (now frame) ≡ 64 ⌝ }
+    ensures { λ r. ⌜ Decoded (now (x .entry)) r (now (frame .entry)) (now (frame .exit)) ⌝ }
+{
+    if 128 < x.len() {
+        return decode_long(x, frame);
+    }
+    decode_short(x, frame)
 }
 
 // The smaller of two numbers.

@@ -8,13 +8,13 @@ use native.Mathlib.Decide.{decLt}
 use native.Mathlib.Omega.{arith}
 use lib.ListN.{length, take, drop, length-drop}
 use lib.Seq.{take-all}
-use Rattle.lines.specs.Digits.{malformed, InFront, Decoded}
+use Rattle.lines.specs.Digits.{malformed, InFront, FrontOnly, Decoded}
 use Rattle.lines.specs.Lines.{toEnd}
 use Rattle.lines.specs.Inner.Front.{firstLine, Begun, isEnd}
 use Rattle.lines.specs.declared.Cursor.{Cursor}
 use Rattle.lines.specs.declared.Frame.{Frame}
-use Rattle.lines.specs.declared.Frame.the-variants.{Malformed, Bytes}
-use Rattle.lines.proofs.FrameLaws.{decoded-frame, decoded-malformed, front-ends, front-written}
+use Rattle.lines.specs.declared.Frame.the-variants.{Malformed, Bytes, Long}
+use Rattle.lines.proofs.FrameLaws.{decoded-frame, decoded-long, decoded-malformed, front-ends, front-written}
 use Rattle.lines.proofs.LineLaws.{end-at}
 use Rattle.reader.specs.declared.Line.{Line}
 use Rattle.reader.specs.declared.Read.{Read}
@@ -51,9 +51,10 @@ read-over book at before between l after same p =
       ended = λ h. record { written = p .ended h .written; size = p .ended h .size ∙ same };
     }
 
-abbrev HasBytes : Frame → Type 0
-HasBytes Malformed = ⊥
-HasBytes (Bytes n) = Unit
+abbrev HasFrame : Frame → Type 0
+HasFrame Malformed = ⊥
+HasFrame (Bytes n) = Unit
+HasFrame (Long n) = Unit
 
 module _ {book : List ℕ} {c : Cursor} {before : List ℕ} {r : Read} {after : List ℕ} (p : FrameRead book c before r after) where
   -- Where the line ends, and its characters.
@@ -64,15 +65,19 @@ module _ {book : List ℕ} {c : Cursor} {before : List ℕ} {r : Read} {after : 
   line = lineOf book (c .at) end
 
   pub read-size : length after ≡ length before
-  read-size = dite (decLt end (length book)) (λ (h : end < length book). p .line .ended h .size) (λ (h : end < length book → ⊥). p .line .unended (omega (arith, h)) .1)
+  read-size = dite (decLt end (length book)) (λ (h : end < length book). p .line .ended h .size)
+      (λ (h : end < length book → ⊥). p .line .unended (omega (arith, h)) .1)
 
   -- Only an ended line has a frame.
-  read-ended : {n : ℕ} → r .frame ≡ Bytes n → end < length book
-  read-ended {n} e = dite (decLt end (length book)) (λ (h : end < length book). h)
-      (λ (h : end < length book → ⊥). absurd (subst HasBytes (sym e ∙ p .line .unended (omega (arith, h)) .0) tt))
+  read-ended : HasFrame (r .frame) → end < length book
+  read-ended f = dite (decLt end (length book)) (λ (h : end < length book). h)
+      (λ (h : end < length book → ⊥). absurd (subst HasFrame (p .line .unended (omega (arith, h)) .0) f))
 
   pub read-bytes : {n : ℕ} → r .frame ≡ Bytes n → (end < length book) × ((malformed line ≡ false) × InFront line n after)
-  read-bytes e = (read-ended e, decoded-frame (p .line .ended (read-ended e)) e)
+  read-bytes e = let h = read-ended (subst HasFrame (sym e) tt) in (h, decoded-frame (p .line .ended h) e)
+
+  pub read-long : {n : ℕ} → r .frame ≡ Long n → (end < length book) × ((malformed line ≡ false) × FrontOnly line n after)
+  read-long e = let h = read-ended (subst HasFrame (sym e) tt) in (h, decoded-long (p .line .ended h) e)
 
   pub read-malformed : r .frame ≡ Malformed → end < length book → malformed line ≡ true
   read-malformed e h = decoded-malformed (p .line .ended h) e

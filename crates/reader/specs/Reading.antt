@@ -19,7 +19,7 @@ abbrev pub lineOf : List ℕ → ℕ → ℕ → List ℕ
 lineOf book at end = take (end - at) (drop at book)
 
 -- "each line ended by byte 0A": an unended line is malformed; an ended one writes its frame to the buffer's front, unless it is
--- malformed. What a malformed line leaves in the buffer is not said.
+-- malformed. Nothing is said of what an unended or malformed line leaves in the buffer.
 pub record LineRead (book : List ℕ) (at : ℕ) (before : List ℕ) (line : Line) (after : List ℕ) : Type 0 where
   pub ends : line .end ≡ lineEnd book at
   pub unended : length book ≤ line .end → (line .frame ≡ Malformed) × (length after ≡ length before)

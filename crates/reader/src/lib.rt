@@ -20,7 +20,7 @@ pub struct Read {
 
 // The line that starts at `at`, by two passes: its end is found, then an ended line is decoded.
 fn any_line_at(book: &[u8], at: usize, frame: &mut [u8]) -> Line
-    requires { ⌜ (at ≤ length (now book)) × ((length (now book) ≤ 65536) × (32768 ≤ length (now frame))) ⌝ }
+    requires { ⌜ (at ≤ length (now book)) × ((length (now book) ≤ 65536) × (length (now frame) ≡ 64)) ⌝ }
     ensures { λ l. ⌜ LineRead (now (book .entry)) at (now (frame .entry)) l (now (frame .exit)) ⌝ }
 {
     let end = lines::line_end(book, at);
@@ -40,7 +40,7 @@ fn any_line_at(book: &[u8], at: usize, frame: &mut [u8]) -> Line
 
 // The line that starts at `at`; its frame is written to the front of `frame`. One pass serves an ended line of up to 64 bytes.
 fn line_at<'a>(book: &'a [u8], at: usize, digits: &'a [u8], frame: &mut [u8]) -> Line
-    requires { ⌜ (at ≤ length (now book)) × ((length (now book) ≤ 65536) × ((32768 ≤ length (now frame)) × Tabled (now digits))) ⌝ }
+    requires { ⌜ (at ≤ length (now book)) × ((length (now book) ≤ 65536) × ((length (now frame) ≡ 64) × Tabled (now digits))) ⌝ }
     ensures { λ l. ⌜ LineRead (now (book .entry)) at (now (frame .entry)) l (now (frame .exit)) ⌝ }
 {
     let x = &book[at..];
@@ -93,7 +93,7 @@ pub fn place<'a>(r: Reader<'a>) -> Cursor
 
 // The line there; its frame is written to the front of `frame`.
 pub fn current<'a>(r: Reader<'a>, digits: &'a [u8], frame: &mut [u8]) -> Line
-    requires { ⌜ (r .at ≤ length (now (r .book))) × ((length (now (r .book)) ≤ 65536) × ((32768 ≤ length (now frame)) × Tabled (now digits))) ⌝ }
+    requires { ⌜ (r .at ≤ length (now (r .book))) × ((length (now (r .book)) ≤ 65536) × ((length (now frame) ≡ 64) × Tabled (now digits))) ⌝ }
     ensures { λ l. ⌜ LineRead (now (r .entry .book)) (r .entry .at) (now (frame .entry)) l (now (frame .exit)) ⌝ }
 {
     line_at(r.book, r.at, digits, frame)
@@ -110,7 +110,7 @@ pub fn next<'a>(r: Reader<'a>, end: usize) -> Reader<'a>
 
 // The frame at a cursor, and the cursor of the line behind it: plain parameters, so that no caller needs a walk.
 pub fn read_frame<'a>(book: &'a [u8], c: Cursor, digits: &'a [u8], frame: &mut [u8]) -> Read
-    requires { ⌜ (c .at ≤ length (now book)) × ((length (now book) ≤ 65536) × ((32768 ≤ length (now frame)) × (Tabled (now digits) × (c .line ≤ 65536)))) ⌝ }
+    requires { ⌜ (c .at ≤ length (now book)) × ((length (now book) ≤ 65536) × ((length (now frame) ≡ 64) × (Tabled (now digits) × (c .line ≤ 65536)))) ⌝ }
     ensures { λ r. ⌜ FrameRead (now (book .entry)) c (now (frame .entry)) r (now (frame .exit)) ⌝ }
 {
     let r = new(book, c);

@@ -8,57 +8,52 @@ use native.Mathlib.Omega.{arith}
 use lib.ListN.{length, set}
 use lib.Seq.{length-take-le}
 use Rattle.reader.proofs.ReadLaws.{read-size, read-bytes}
+use Rattle.gate.specs.declared.Fault.{Fault}
 use Rattle.gate.proofs.PassedLaws.{rule-passed}
 use Rattle.facts.specs.Facts.{noFacts}
-use Rattle.frames.specs.Book.{answerOf, contentsOf, listed, nothing}
-use Rattle.frames.proofs.WalkLaws.{held, Held, at-end-good, at-end-bad, unread-bad, line-framed, line-less, line-bad}
+use Rattle.frames.specs.declared.Refusal.the-variants.{BadLine}
+use Rattle.frames.specs.Book.{refused, answerOf, contentsOf, listed, nothing}
+use Rattle.frames.proofs.WalkLaws.{held, Held, at-end-good, at-end-bad, unread-bad, long-refused, line-framed, line-less, line-bad}
 use Rattle.frames.proofs.WalkLaws.{edge-good, fact-good, rule-good, other-good, edge-small}
 use Rattle.frames.proofs.read_lines.Statement.{statement}
 use Rattle.frames.proofs.read_lines.Tie as tie
 
 abbrev Inv-loop : tie.InvT-loop
 Inv-loop book known₀ query₀ juniors₀ facts₀ rules₀ frame₀ digits cursor₀ known query juniors facts rules frame cursor =
-    Held book known query juniors facts rules (cursor .at) (cursor .line) × (length frame ≡ 32768)
+    Held book known query juniors facts rules (cursor .at) (cursor .line) × (length frame ≡ 64)
 
 abbrev μ-loop : tie.MeasureT-loop
 μ-loop book known₀ query₀ juniors₀ facts₀ rules₀ frame₀ digits cursor₀ known query juniors facts rules frame cursor = length book - cursor .at
 
--- The places of a turn: its frame's kind is known, the frame is found good, it is decoded, the line is read, the turn begins.
-abbrev good-at : tie.After-byte-at Inv-loop μ-loop → tie.After-enum-told2 Inv-loop μ-loop
-good-at b = b .before .before
+-- The places of a turn, each from a later one: it begins, its test is passed, its line is read, a frame is there, the frame is judged,
+-- it is found good, its kind is known.
+abbrev at-loop : tie.After-read-frame Inv-loop μ-loop → tie.At-loop Inv-loop μ-loop
+at-loop r = r .before .before .before .before .before
+
+abbrev tested-at : tie.After-read-frame Inv-loop μ-loop → tie.Then1 Inv-loop μ-loop
+tested-at r = r .before .before .before
+
+abbrev read-at : tie.After-decoded2 Inv-loop μ-loop → tie.After-read-frame Inv-loop μ-loop
+read-at d = d .before .before .before
+
+abbrev framed-at : tie.After-judge-frame Inv-loop μ-loop → tie.After-decoded2 Inv-loop μ-loop
+framed-at j = j .before .before .before
 
 abbrev judged-at : tie.After-byte-at Inv-loop μ-loop → tie.After-judge-frame Inv-loop μ-loop
 judged-at b = b .before .before .before .before
 
-abbrev decoded-at : tie.After-judge-frame Inv-loop μ-loop → tie.After-decoded Inv-loop μ-loop
-decoded-at j = j .before .before .before
+abbrev good-at : tie.After-byte-at Inv-loop μ-loop → tie.After-enum-told2 Inv-loop μ-loop
+good-at b = b .before .before
 
-abbrev read-at : tie.After-decoded Inv-loop μ-loop → tie.After-read-frame Inv-loop μ-loop
-read-at d = d .before .before .before
+abbrev kind-at : tie.Else3 Inv-loop μ-loop → tie.After-byte-at Inv-loop μ-loop
+kind-at c = c .before .before
 
-abbrev taken-at : tie.After-read-frame Inv-loop μ-loop → tie.Then1 Inv-loop μ-loop
-taken-at r = r .before .before .before
+-- The loop and the start, before a line is read.
+abbrev loop-before : tie.After-frame Inv-loop μ-loop → tie.At-loop Inv-loop μ-loop
+loop-before c = c .before .before .before .before
 
-abbrev at-loop : tie.After-read-frame Inv-loop μ-loop → tie.At-loop Inv-loop μ-loop
-at-loop r = r .before .before .before .before .before
-
-abbrev start : tie.After-fill-digits Inv-loop μ-loop → tie.Start Inv-loop μ-loop
-start c = c .before .before .before .before .before
-
-abbrev at-loop-from-frame : tie.After-frame Inv-loop μ-loop → tie.At-loop Inv-loop μ-loop
-at-loop-from-frame c = c .before .before .before .before
-
-abbrev read-at-from-turned-back : tie.After-turned-back Inv-loop μ-loop → tie.After-read-frame Inv-loop μ-loop
-read-at-from-turned-back c = c .before .before .before .before
-
-abbrev decoded-at-from-else2 : tie.Else2 Inv-loop μ-loop → tie.After-decoded Inv-loop μ-loop
-decoded-at-from-else2 c = c .before .before .before .before .before .before .before .before
-
-abbrev judged-at-from-turned-back2 : tie.After-turned-back2 Inv-loop μ-loop → tie.After-judge-frame Inv-loop μ-loop
-judged-at-from-turned-back2 c = c .before .before .before .before
-
-abbrev after-byte-at : tie.Else3 Inv-loop μ-loop → tie.After-byte-at Inv-loop μ-loop
-after-byte-at c = c .before .before
+abbrev start-before : tie.After-fill-digits Inv-loop μ-loop → tie.Start Inv-loop μ-loop
+start-before c = c .before .before .before .before .before
 
 no-query-requires : tie.Need-no-query-requires Inv-loop μ-loop
 no-query-requires c κs = search needs
@@ -97,16 +92,13 @@ slice-aggregate-read-frame-2 c = search needs
 
 read-frame-requires : tie.Need-read-frame-requires Inv-loop μ-loop
 read-frame-requires c κs =
-    let looped = at-loop-from-frame c in
+    let looped = loop-before c in
     let filled = looped .before .before in
     let inv = looped .loop .inv in
-    let most = start filled .pre in (
+    let most = start-before filled .pre in (
       inv .0 .within,
       (most, (omega (arith, inv .1), (filled .fill-digits .ensures, omega (arith, inv .0 .lined, inv .0 .within, most)))),
     )
-
-enum-known-decoded : tie.Need-enum-known-decoded Inv-loop μ-loop
-enum-known-decoded c = search needs
 
 enum-told : tie.Need-enum-told Inv-loop μ-loop
 enum-told c = search needs
@@ -116,20 +108,44 @@ turned-back-requires c κs = search needs
 
 returns : tie.Need-returns Inv-loop μ-loop
 returns c =
-    let r = read-at-from-turned-back c in
-    c .turned-back .ensures ∙ unread-bad (at-loop r .loop .inv .0) (r .read-frame .ensures) (taken-at r .if1 .taken)
-    (c .before .enum-told .given .1)
+    let told = c .before in
+    let r = told .before .before .before in
+    c .turned-back .ensures ∙ unread-bad (at-loop r .loop .inv .0) (r .read-frame .ensures) (tested-at r .if1 .taken) (told .enum-told .given .1)
+
+enum-known-decoded : tie.Need-enum-known-decoded Inv-loop μ-loop
+enum-known-decoded c = search needs
+
+slice-aggregate-long-fault : tie.Need-slice-aggregate-long-fault Inv-loop μ-loop
+slice-aggregate-long-fault c = search needs
+
+long-fault-requires : tie.Need-long-fault-requires Inv-loop μ-loop
+long-fault-requires c κs = search needs
+
+turned-back-requires-2 : tie.Need-turned-back-requires-2 Inv-loop μ-loop
+turned-back-requires-2 c κs = search needs
+
+returns-2 : tie.Need-returns-2 Inv-loop μ-loop
+returns-2 c =
+    let faulted = c .before in
+    let long = faulted .before .before .before in
+    let r = long .before .before .before in
+    let at = at-loop r .loop in
+    c .turned-back2 .ensures ∙ ap (λ (f : Fault). refused (BadLine f (at .cursor .line))) (faulted .long-fault .ensures)
+    ∙ long-refused (at .inv .0) (r .read-frame .ensures) (long .decoded .given .1) (read-size (r .read-frame .ensures) ∙ at .inv .1)
+
+enum-known-decoded-2 : tie.Need-enum-known-decoded-2 Inv-loop μ-loop
+enum-known-decoded-2 c = search needs
 
 array-share-prefix-frame : tie.Need-array-share-prefix-frame Inv-loop μ-loop
 array-share-prefix-frame c =
-    let r = read-at (c .before) in
-    let read = r .read-frame .ensures in
-    omega (arith, read-bytes read (c .before .decoded .given .1) .1 .1 .fits, read-size read, at-loop r .loop .inv .1)
+    let d = c .before in
+    let read = read-at d .read-frame .ensures in
+    omega (arith, read-bytes read (d .decoded2 .given .1) .1 .1 .fits, read-size read, at-loop (read-at d) .loop .inv .1)
 
 slice-aggregate-x : tie.Need-slice-aggregate-x Inv-loop μ-loop
 slice-aggregate-x c =
     let d = c .before .before in
-    sym (length-take-le _ _ (read-bytes (read-at d .read-frame .ensures) (d .decoded .given .1) .1 .1 .fits))
+    sym (length-take-le _ _ (read-bytes (read-at d .read-frame .ensures) (d .decoded2 .given .1) .1 .1 .fits))
 
 judge-frame-requires : tie.Need-judge-frame-requires Inv-loop μ-loop
 judge-frame-requires c κs = search needs
@@ -137,18 +153,17 @@ judge-frame-requires c κs = search needs
 enum-known-verdict : tie.Need-enum-known-verdict Inv-loop μ-loop
 enum-known-verdict c = search needs
 
-turned-back-requires-2 : tie.Need-turned-back-requires-2 Inv-loop μ-loop
-turned-back-requires-2 c κs = search needs
+turned-back-requires-3 : tie.Need-turned-back-requires-3 Inv-loop μ-loop
+turned-back-requires-3 c κs = search needs
 
-returns-2 : tie.Need-returns-2 Inv-loop μ-loop
-returns-2 c =
-    let j = judged-at-from-turned-back2 c in
-    let d = decoded-at j in
+returns-3 : tie.Need-returns-3 Inv-loop μ-loop
+returns-3 c =
+    let told = c .before .before in
+    let j = told .before .before in
+    let d = framed-at j in
     let inv = at-loop (read-at d) .loop .inv .0 in
-    let verdict = c .before .before .verdict .given in
-    c .turned-back2 .ensures
-    ∙ line-bad inv (line-framed inv (read-at d .read-frame .ensures) (d .decoded .given .1)) (verdict .0 .0)
-    (sym (j .judge-frame .ensures) ∙ verdict .1)
+    let framed = line-framed inv (read-at d .read-frame .ensures) (d .decoded2 .given .1) in
+    c .turned-back3 .ensures ∙ line-bad inv framed (told .verdict .given .0 .0) (sym (j .judge-frame .ensures) ∙ told .verdict .given .1)
 
 enum-told-2 : tie.Need-enum-told-2 Inv-loop μ-loop
 enum-told-2 c = search needs
@@ -159,26 +174,26 @@ byte-at-requires c κs = search needs
 enter-edge-requires : tie.Need-enter-edge-requires Inv-loop μ-loop
 enter-edge-requires c κs =
     let b = c .before .before in
-    let at = at-loop (read-at (decoded-at (judged-at b))) .loop in
+    let at = at-loop (read-at (framed-at (judged-at b))) .loop in
     let good = sym (judged-at b .judge-frame .ensures) ∙ good-at b .enum-told2 .given .1 in
     let kind = sym (b .byte-at .ensures) ∙ c .before .if2 .taken in
     ((kind, edge-small (at .known) _ good (at .inv .0 .crewed) kind), at .inv .0 .edged)
 
 loop-less : tie.Need-loop-less Inv-loop μ-loop
 loop-less c =
-    let d = decoded-at (judged-at (c .before .before .before)) in
+    let d = framed-at (judged-at (c .before .before .before)) in
     let r = read-at d in
-    line-less (at-loop r .loop .inv .0) (r .read-frame .ensures) (d .decoded .given .1) (taken-at r .if1 .taken)
+    line-less (at-loop r .loop .inv .0) (r .read-frame .ensures) (d .decoded2 .given .1) (tested-at r .if1 .taken)
 
 loop-again : tie.Need-loop-again Inv-loop μ-loop
 loop-again c =
     let b = c .before .before .before in
-    let d = decoded-at (judged-at b) in
+    let d = framed-at (judged-at b) in
     let read = read-at d .read-frame .ensures in
     let at = at-loop (read-at d) .loop in
     let good = sym (judged-at b .judge-frame .ensures) ∙ good-at b .enum-told2 .given .1 in
     let kind = b .byte-at .ensures in
-    let turn = edge-good (at .inv .0) (line-framed (at .inv .0) read (d .decoded .given .1)) good in
+    let turn = edge-good (at .inv .0) (line-framed (at .inv .0) read (d .decoded2 .given .1)) good in
     rw (read .next) (turn (sym kind ∙ c .before .before .if2 .taken) (c .enter-edge .ensures), read-size read ∙ at .inv .1)
 
 enter-fact-requires : tie.Need-enter-fact-requires Inv-loop μ-loop
@@ -186,19 +201,19 @@ enter-fact-requires c κs = let b = c .before .before .before in sym (b .byte-at
 
 loop-less-2 : tie.Need-loop-less-2 Inv-loop μ-loop
 loop-less-2 c =
-    let d = decoded-at-from-else2 (c .before .before .before) in
+    let d = framed-at (judged-at (c .before .before .before .before)) in
     let r = read-at d in
-    line-less (at-loop r .loop .inv .0) (r .read-frame .ensures) (d .decoded .given .1) (taken-at r .if1 .taken)
+    line-less (at-loop r .loop .inv .0) (r .read-frame .ensures) (d .decoded2 .given .1) (tested-at r .if1 .taken)
 
 loop-again-2 : tie.Need-loop-again-2 Inv-loop μ-loop
 loop-again-2 c =
     let b = c .before .before .before .before in
-    let d = decoded-at (judged-at b) in
+    let d = framed-at (judged-at b) in
     let read = read-at d .read-frame .ensures in
     let at = at-loop (read-at d) .loop in
     let good = sym (judged-at b .judge-frame .ensures) ∙ good-at b .enum-told2 .given .1 in
     let kind = b .byte-at .ensures in
-    let turn = fact-good (at .inv .0) (line-framed (at .inv .0) read (d .decoded .given .1)) good in
+    let turn = fact-good (at .inv .0) (line-framed (at .inv .0) read (d .decoded2 .given .1)) good in
     rw (read .next) (turn (sym kind ∙ c .before .before .if3 .taken) (c .enter-fact .ensures), read-size read ∙ at .inv .1)
 
 rule-of-requires : tie.Need-rule-of-requires Inv-loop μ-loop
@@ -206,36 +221,36 @@ rule-of-requires c κs = search needs
 
 mul-rules : tie.Need-mul-rules Inv-loop μ-loop
 mul-rules c =
-    let b = after-byte-at (c .before .before) in
+    let b = kind-at (c .before .before) in
     let good = sym (judged-at b .judge-frame .ensures) ∙ good-at b .enum-told2 .given .1 in
-    let known = at-loop (read-at (decoded-at (judged-at b))) .loop .known in
+    let known = at-loop (read-at (framed-at (judged-at b))) .loop .known in
     omega (arith, rule-passed known _ good (sym (b .byte-at .ensures) ∙ c .before .if4 .taken) .1 .1)
 
 array-set-from-rules : tie.Need-array-set-from-rules Inv-loop μ-loop
 array-set-from-rules c =
-    let b = after-byte-at (c .before .before) in
+    let b = kind-at (c .before .before) in
     let good = sym (judged-at b .judge-frame .ensures) ∙ good-at b .enum-told2 .given .1 in
-    let known = at-loop (read-at (decoded-at (judged-at b))) .loop .known in
+    let known = at-loop (read-at (framed-at (judged-at b))) .loop .known in
     rule-passed known _ good (sym (b .byte-at .ensures) ∙ c .before .if4 .taken) .1 .1
 
 known-after-requires : tie.Need-known-after-requires Inv-loop μ-loop
-known-after-requires c κs = at-loop (read-at (decoded-at-from-else2 (c .before .before .before))) .loop .inv .0 .counted
+known-after-requires c κs = at-loop (read-at (framed-at (judged-at (c .before .before .before .before)))) .loop .inv .0 .counted
 
 loop-less-3 : tie.Need-loop-less-3 Inv-loop μ-loop
 loop-less-3 c =
-    let d = decoded-at (judged-at (after-byte-at (c .before .before .before))) in
+    let d = framed-at (judged-at (kind-at (c .before .before .before))) in
     let r = read-at d in
-    line-less (at-loop r .loop .inv .0) (r .read-frame .ensures) (d .decoded .given .1) (taken-at r .if1 .taken)
+    line-less (at-loop r .loop .inv .0) (r .read-frame .ensures) (d .decoded2 .given .1) (tested-at r .if1 .taken)
 
 loop-again-3 : tie.Need-loop-again-3 Inv-loop μ-loop
 loop-again-3 c =
-    let b = c .before .before .before .before .before in
-    let d = decoded-at (judged-at b) in
+    let b = kind-at (c .before .before .before) in
+    let d = framed-at (judged-at b) in
     let read = read-at d .read-frame .ensures in
     let at = at-loop (read-at d) .loop in
     let good = sym (judged-at b .judge-frame .ensures) ∙ good-at b .enum-told2 .given .1 in
     let kind = b .byte-at .ensures in
-    let turn = rule-good (at .inv .0) (line-framed (at .inv .0) read (d .decoded .given .1)) good in
+    let turn = rule-good (at .inv .0) (line-framed (at .inv .0) read (d .decoded2 .given .1)) good in
     rw (read .next) (
       turn (sym kind ∙ c .before .before .if4 .taken) (c .known-after .ensures)
           (ap (set (at .rules) (at .known .count)) (c .before .rule-of .ensures)),
@@ -246,42 +261,42 @@ query-after-requires : tie.Need-query-after-requires Inv-loop μ-loop
 query-after-requires c κs = search needs
 
 known-after-requires-2 : tie.Need-known-after-requires-2 Inv-loop μ-loop
-known-after-requires-2 c κs = at-loop (read-at (decoded-at-from-else2 (c .before .before .before))) .loop .inv .0 .counted
+known-after-requires-2 c κs = at-loop (read-at (framed-at (judged-at (c .before .before .before .before)))) .loop .inv .0 .counted
 
 loop-less-4 : tie.Need-loop-less-4 Inv-loop μ-loop
 loop-less-4 c =
-    let d = decoded-at (judged-at (after-byte-at (c .before .before .before))) in
+    let d = framed-at (judged-at (kind-at (c .before .before .before))) in
     let r = read-at d in
-    line-less (at-loop r .loop .inv .0) (r .read-frame .ensures) (d .decoded .given .1) (taken-at r .if1 .taken)
+    line-less (at-loop r .loop .inv .0) (r .read-frame .ensures) (d .decoded2 .given .1) (tested-at r .if1 .taken)
 
 loop-again-4 : tie.Need-loop-again-4 Inv-loop μ-loop
 loop-again-4 c =
-    let at-else2 = c .before .before .before .before in
-    let b = at-else2 .before in
-    let d = decoded-at (judged-at b) in
+    let other = c .before .before .before in
+    let b = kind-at other in
+    let d = framed-at (judged-at b) in
     let read = read-at d .read-frame .ensures in
     let at = at-loop (read-at d) .loop in
     let good = sym (judged-at b .judge-frame .ensures) ∙ good-at b .enum-told2 .given .1 in
     let kind = b .byte-at .ensures in
-    let turn = other-good (at .inv .0) (line-framed (at .inv .0) read (d .decoded .given .1)) good in
+    let turn = other-good (at .inv .0) (line-framed (at .inv .0) read (d .decoded2 .given .1)) good in
     rw (read .next) (
-      turn (λ z. at-else2 .if2 .left (kind ∙ z)) (λ z. c .before .before .before .if3 .left (kind ∙ z))
+      turn (λ z. other .before .if2 .left (kind ∙ z)) (λ z. other .if3 .left (kind ∙ z))
           (λ z. c .before .before .if4 .left (kind ∙ z))
           (c .known-after2 .ensures) (c .before .query-after .ensures),
       read-size read ∙ at .inv .1,
     )
 
-turned-back-requires-3 : tie.Need-turned-back-requires-3 Inv-loop μ-loop
-turned-back-requires-3 c κs = search needs
-
-returns-3 : tie.Need-returns-3 Inv-loop μ-loop
-returns-3 c =
-    let ended = c .before .before .before in
-    c .turned-back3 .ensures ∙ at-end-bad (ended .before .before .loop .inv .0) (ended .if1 .left) (not-true _ (c .before .if5 .taken))
+turned-back-requires-4 : tie.Need-turned-back-requires-4 Inv-loop μ-loop
+turned-back-requires-4 c κs = search needs
 
 returns-4 : tie.Need-returns-4 Inv-loop μ-loop
-unfolding answerOf contentsOf listed held
 returns-4 c =
+    let ended = c .before .before .before in
+    c .turned-back4 .ensures ∙ at-end-bad (ended .before .before .loop .inv .0) (ended .if1 .left) (not-true _ (c .before .if5 .taken))
+
+returns-5 : tie.Need-returns-5 Inv-loop μ-loop
+unfolding answerOf contentsOf listed held
+returns-5 c =
     let ended = c .before .before .before in
     at-end-good (ended .before .before .loop .inv .0) (ended .if1 .left) (not-false _ (c .before .if5 .left))
 
@@ -299,16 +314,21 @@ read-lines-spec =
     slice-aggregate-read-frame
     slice-aggregate-read-frame-2
     read-frame-requires
-    enum-known-decoded
     enum-told
     turned-back-requires
     returns
+    enum-known-decoded
+    slice-aggregate-long-fault
+    long-fault-requires
+    turned-back-requires-2
+    returns-2
+    enum-known-decoded-2
     array-share-prefix-frame
     slice-aggregate-x
     judge-frame-requires
     enum-known-verdict
-    turned-back-requires-2
-    returns-2
+    turned-back-requires-3
+    returns-3
     enum-told-2
     byte-at-requires
     enter-edge-requires
@@ -327,6 +347,6 @@ read-lines-spec =
     known-after-requires-2
     loop-less-4
     loop-again-4
-    turned-back-requires-3
-    returns-3
-    returns-4)
+    turned-back-requires-4
+    returns-4
+    returns-5)

@@ -1,17 +1,11 @@
 -- `reader::any_line_at` meets its contract: the line's end is found once, and an ended line is decoded. Assumes nothing.
-use Prim.Native.Nat.{_-_}
 use native.Mathlib.Omega.{arith}
 use mathlib.Core.Path.{refl}
-use lib.ListN.{drop, length-drop}
-use lib.Seq.{length-take-le}
 use borrow.Author.Needs.{needs}
 use Rattle.reader.proofs.any_line_at.Statement.{statement}
 use Rattle.reader.proofs.any_line_at.Tie as tie
 
--- The places that the answers name, each seen from a later one.
-abbrev entry : tie.After-x → tie.Start
-entry c = c .before .before .before .before .before
-
+-- The test of the line's end, seen from the decoded line.
 abbrev else1 : tie.After-frame → tie.Else1
 else1 c = c .before .before .before .before
 
@@ -31,12 +25,7 @@ part-x-end : tie.Need-part-x-end
 part-x-end c = search needs
 
 decode-requires : tie.Need-decode-requires
-decode-requires c κs =
-    let start = entry (c .before) in
-    let size = length-take-le (c .before .before .before .line-end .result - start .args .at)
-    (drop (start .args .at) (start .args .book .now))
-    (omega (arith, length-drop (start .args .at) (start .args .book .now), c .before .before .if1 .left)) in
-    (omega (arith, size, c .before .before .if1 .left, start .pre), omega (arith, size, c .before .before .if1 .left, start .pre))
+decode-requires c κs = search needs
 
 same-length : tie.Need-same-length
 same-length c = c .before .before .decode .ensures .size

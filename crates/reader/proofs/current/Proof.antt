@@ -115,7 +115,7 @@ module _ {M : Type 1} (𝓤 : URA M) (H : Heap 𝓤) (A : Atoms 𝓤) (W : Given
 
   -- what is asked, and what is said of a line and a last list
   abbrev Asked : Type 0
-  Asked = (d .at ≤ length (now (d .book))) × ((length (now (d .book)) ≤ 65536) × ((32768 ≤ length (now x)) × Tabled (now t)))
+  Asked = (d .at ≤ length (now (d .book))) × ((length (now (d .book)) ≤ 65536) × ((length (now x) ≡ 64) × Tabled (now t)))
 
   abbrev Said : Line → List ℕ → Type 0
   Said l zs = LineRead (now (d .book)) (d .at) (now x) l zs

@@ -199,11 +199,11 @@ module _ {M : Type 1} (𝓤 : URA M) (H : Heap 𝓤) (A : Atoms 𝓤) (W : Given
   Own r u = T.the-row α .own r (u ∷ [])
 
   abbrev Asked : Type 0
-  Asked = (c .at ≤ length (now s)) × ((length (now s) ≤ 65536) × ((32768 ≤ length (now x)) × (Tabled (now t) × (c .line ≤ 65536))))
+  Asked = (c .at ≤ length (now s)) × ((length (now s) ≤ 65536) × ((length (now x) ≡ 64) × (Tabled (now t) × (c .line ≤ 65536))))
 
   -- what is asked of the buffer and of the table
   abbrev Ready : Type 0
-  Ready = (32768 ≤ length (now x)) × Tabled (now t)
+  Ready = (length (now x) ≡ 64) × Tabled (now t)
 
   exits : (d : Read) (u : Val) (zs : List ℕ) → FrameRead (now s) c (now x) d zs → length zs ≡ length (now x) → ent 𝓤 (⋆ 𝓤 H A (T₀ ∷ T₁ ∷ ‵ (finally u8 (x .name) zs) ∷ ‵ (D.the-row .own d (u ∷ [])) ∷ [])) (Post u)
   exits d u zs e n =

@@ -1,4 +1,4 @@
--- `lines::decode` meets its contract. The invariant `Decoding` says that k bytes of the frame are written and that the characters
+-- `lines::decode_short` meets its contract. The invariant `Decoding` says that k bytes of the frame are written and that the characters
 -- from 2 × k on decide the rest; the measure is what is left of the line. Assumes nothing.
 use mathlib.Core.Path.{refl, sym}
 use Prim.Native.Nat.{_-_}
@@ -7,8 +7,8 @@ use lib.ListN.{length}
 use Rattle.lines.proofs.DigitLaws.{malformed-empty, malformed-odd}
 use Rattle.lines.proofs.FrameLaws.{Decoding, decode-none, decode-high, decode-low, decode-more, decode-all}
 use borrow.Author.Needs.{needs}
-use Rattle.lines.proofs.decode.Statement.{statement}
-use Rattle.lines.proofs.decode.Tie as tie
+use Rattle.lines.proofs.decode_short.Statement.{statement}
+use Rattle.lines.proofs.decode_short.Tie as tie
 
 abbrev Inv-loop : tie.InvT-loop
 Inv-loop x frame₀ k₀ frame k = Decoding x frame₀ k frame
@@ -119,8 +119,8 @@ same-length-3 c = c .before .loop .inv .begun .size
 returns-5 : tie.Need-returns-5 Inv-loop μ-loop
 returns-5 c = decode-all _ _ _ _ (c .before .loop .inv) (c .loop-test .left)
 
-pub decode-spec : {M : Type 1} → statement M
-decode-spec =
+pub decode-short-spec : {M : Type 1} → statement M
+decode-short-spec =
     tie.close
     (tie.spec
     Inv-loop
