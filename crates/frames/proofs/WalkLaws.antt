@@ -119,16 +119,13 @@ module _ (s : State) (l : ℕ) (x : List ℕ) (ls : List Line) where
   unfolding walk lineVerdict
   walk-malformed m = rw m refl
 
--- Where the line at place i ends, and its characters.
-abbrev end : List ℕ → ℕ → ℕ
-end book i = lineEnd book i
-
+-- The characters of the line at place i.
 abbrev line : List ℕ → ℕ → List ℕ
 line book i = lineOf book i (lineEnd book i)
 
 -- The line at place i is ended, and x is its frame.
 pub record Framed (book : List ℕ) (i : ℕ) (x : List ℕ) : Type 0 where
-  pub ended : end book i < length book
+  pub ended : lineEnd book i < length book
   pub well : malformed (line book i) ≡ false
   pub frame : x ≡ frameOf (line book i)
 
@@ -143,25 +140,25 @@ module _ {book : List ℕ} {k : Known} {q : Query} {m fs : List ℕ} {rs : List 
   at-end-bad h is = sym (inv .left ∙ rw (drop-of-length-le book {i = i} h, is) refl)
 
   -- The line at i: unended, malformed, bad, or good.
-  unended-bad : i < length book → length book ≤ end book i → refused (BadLine Malformed l) ≡ walk nothing 1 (lines book)
+  unended-bad : i < length book → length book ≤ lineEnd book i → refused (BadLine Malformed l) ≡ walk nothing 1 (lines book)
   unfolding walk
-  unended-bad h o = sym (inv .left ∙ rw (line-unended book i (end book i) refl h o) refl)
+  unended-bad h o = sym (inv .left ∙ rw (line-unended book i (lineEnd book i) refl h o) refl)
 
-  line-malformed : end book i < length book → malformed (line book i) ≡ true → refused (BadLine Malformed l) ≡ walk nothing 1 (lines book)
+  line-malformed : lineEnd book i < length book → malformed (line book i) ≡ true → refused (BadLine Malformed l) ≡ walk nothing 1 (lines book)
   line-malformed h ill =
-      sym (inv .left ∙ (ap (walk (held k q m fs rs) l) (line-ended book i (end book i) refl h) ∙ walk-malformed (held k q m fs rs) l _ _ ill))
+      sym (inv .left ∙ (ap (walk (held k q m fs rs) l) (line-ended book i (lineEnd book i) refl h) ∙ walk-malformed (held k q m fs rs) l _ _ ill))
 
   module _ {x : List ℕ} (p : Framed book i x) where
     pub line-bad : (f : Fault) → verdict k x ≡ Bad f → refused (BadLine f l) ≡ walk nothing 1 (lines book)
     unfolding held
     line-bad f v =
-        sym (inv .left ∙ (ap (walk (held k q m fs rs) l) (line-ended book i (end book i) refl (p .ended))
+        sym (inv .left ∙ (ap (walk (held k q m fs rs) l) (line-ended book i (lineEnd book i) refl (p .ended))
         ∙ walk-bad (held k q m fs rs) l _ _ f (p .well) (ap (verdict k) (sym (p .frame)) ∙ v)))
 
     module _ (good : verdict k x ≡ Good) where
       line-good : (k′ : Known) (q′ : Query) (m′ fs′ : List ℕ) (rs′ : List Rule)
           → k′ ≡ knownAfter k x → q′ ≡ queryAfter q x → m′ ≡ juniorsAfter m x → fs′ ≡ factsAfter fs x → Stored k rs x rs′
-          → Held book k′ q′ m′ fs′ rs′ (end book i + 1) (l + 1)
+          → Held book k′ q′ m′ fs′ rs′ (lineEnd book i + 1) (l + 1)
       unfolding held enter
       line-good k′ q′ m′ fs′ rs′ ek eq em ef st =
           let h = p .ended in
@@ -170,44 +167,44 @@ module _ {book : List ℕ} {k : Known} {q : Query} {m fs : List ℕ} {rs : List 
           record {
             within = omega arith;
             lined =
-                let size = length-take-le (end book i - i) (drop i book) (omega (arith, h, length-drop i book)) in
+                let size = length-take-le (lineEnd book i - i) (drop i book) (omega (arith, h, length-drop i book)) in
                 omega (arith, inv .lined, size, well-long (line book i) (p .well));
             counted = rw ek (rules .1 .0);
             crewed = rw ek (crews-kept k x good (inv .crewed));
             edged = ap length em ∙ juniors-length m x ∙ inv .edged;
             roomed = rules .1 .1;
-            left = inv .left ∙ ap (walk (held k q m fs rs) l) (line-ended book i (end book i) refl h)
-                ∙ walk-on (held k q m fs rs) l (line book i) (lines (drop (end book i + 1) book)) (p .well) (ap (verdict k) (sym (p .frame)) ∙ good)
-                ∙ ap (λ (w : List ℕ). walk (enter (held k q m fs rs) w) (l + 1) (lines (drop (end book i + 1) book))) (sym (p .frame))
+            left = inv .left ∙ ap (walk (held k q m fs rs) l) (line-ended book i (lineEnd book i) refl h)
+                ∙ walk-on (held k q m fs rs) l (line book i) (lines (drop (lineEnd book i + 1) book)) (p .well) (ap (verdict k) (sym (p .frame)) ∙ good)
+                ∙ ap (λ (w : List ℕ). walk (enter (held k q m fs rs) w) (l + 1) (lines (drop (lineEnd book i + 1) book))) (sym (p .frame))
                 ∙ rw (ek, eq, em, ef, rules .0) refl;
           }
 
       -- The same by the frame's kind: only what its kind enters has changed.
-      pub edge-good : {m′ : List ℕ} → byteAt x 0 ≡ 2 → m′ ≡ juniorsAfter m x → Held book k q m′ fs rs (end book i + 1) (l + 1)
+      pub edge-good : {m′ : List ℕ} → byteAt x 0 ≡ 2 → m′ ≡ juniorsAfter m x → Held book k q m′ fs rs (lineEnd book i + 1) (l + 1)
       edge-good {m′} kind em =
           line-good k q m′ fs rs (known-kept x k (λ z. omega arith) (λ z. omega arith) (λ z. omega arith)) (query-kept x q (λ z. omega arith)) em
           (facts-kept x fs (λ z. omega arith)) (inr ((λ z. omega arith), refl))
 
-      pub fact-good : {fs′ : List ℕ} → byteAt x 0 ≡ 4 → fs′ ≡ factsAfter fs x → Held book k q m fs′ rs (end book i + 1) (l + 1)
+      pub fact-good : {fs′ : List ℕ} → byteAt x 0 ≡ 4 → fs′ ≡ factsAfter fs x → Held book k q m fs′ rs (lineEnd book i + 1) (l + 1)
       fact-good {fs′} kind ef =
           line-good k q m fs′ rs (known-kept x k (λ z. omega arith) (λ z. omega arith) (λ z. omega arith)) (query-kept x q (λ z. omega arith))
           (juniors-kept x m (λ z. omega arith)) ef (inr ((λ z. omega arith), refl))
 
       pub rule-good : {k′ : Known} {rs′ : List Rule} → byteAt x 0 ≡ 3 → k′ ≡ knownAfter k x → rs′ ≡ set rs (k .count) (ruleOf x)
-          → Held book k′ q m fs rs′ (end book i + 1) (l + 1)
+          → Held book k′ q m fs rs′ (lineEnd book i + 1) (l + 1)
       rule-good {k′} {rs′} kind ek er =
           line-good k′ q m fs rs′ ek (query-kept x q (λ z. omega arith)) (juniors-kept x m (λ z. omega arith))
           (facts-kept x fs (λ z. omega arith)) (inl (kind, er))
 
       pub other-good : {k′ : Known} {q′ : Query} → (byteAt x 0 ≡ 2 → ⊥) → (byteAt x 0 ≡ 4 → ⊥) → (byteAt x 0 ≡ 3 → ⊥)
-          → k′ ≡ knownAfter k x → q′ ≡ queryAfter q x → Held book k′ q′ m fs rs (end book i + 1) (l + 1)
+          → k′ ≡ knownAfter k x → q′ ≡ queryAfter q x → Held book k′ q′ m fs rs (lineEnd book i + 1) (l + 1)
       other-good {k′} {q′} two four three ek eq =
           line-good k′ q′ m fs rs ek eq (juniors-kept x m two) (facts-kept x fs four) (inr (three, refl))
 
   module _ {before : List ℕ} {r : Read} {after : List ℕ} (p : FrameRead book (record { at = i; line = l }) before r after) where
     -- A frame was read of the line at i: the line is ended, and the reader's next place is behind its 0A.
     pub line-framed : {n : ℕ} → r .frame ≡ Bytes n → Framed book i (take n after)
-    line-framed e = let line = read-bytes p e in record { ended = line .0; well = line .1 .0; frame = line .1 .1 .front }
+    line-framed e = let read = read-bytes p e in record { ended = read .0; well = read .1 .0; frame = read .1 .1 .front }
 
     pub line-less : {n : ℕ} → r .frame ≡ Bytes n → i < length book → length book - r .next .at < length book - i
     line-less e h = rw (p .next) (omega (arith, read-bytes p e .0, h))
@@ -227,5 +224,5 @@ module _ {book : List ℕ} {k : Known} {q : Query} {m fs : List ℕ} {rs : List 
     -- No frame was read of it: it is unended or malformed.
     pub unread-bad : i < length book → r .frame ≡ NoFrame → refused (BadLine Malformed l) ≡ walk nothing 1 (lines book)
     unread-bad h none =
-        dite (decLt (end book i) (length book)) (λ (k : end book i < length book). line-malformed k (read-malformed p none k))
-        (λ (k : end book i < length book → ⊥). unended-bad h (omega (arith, k)))
+        dite (decLt (lineEnd book i) (length book)) (λ (k : lineEnd book i < length book). line-malformed k (read-malformed p none k))
+        (λ (k : lineEnd book i < length book → ⊥). unended-bad h (omega (arith, k)))

@@ -386,6 +386,7 @@ fn read_lines(book: &[u8]) -> Reading
             return turned_back(Refusal::BadLine(f, cursor.line));
         }
         cursor = read.next;
+        // Of a good frame only what its kind enters is touched.
         let kind = lines::byte_at(x, 0);
         if kind == 2 {
             enter_edge(&mut juniors, x);

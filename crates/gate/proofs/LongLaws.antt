@@ -13,7 +13,8 @@ use Rattle.gate.specs.declared.Known.{Known}
 use Rattle.gate.specs.declared.Fault.the-variants.{Misplaced, Mislengthed, Outside}
 use Rattle.gate.specs.declared.Verdict.{Verdict}
 use Rattle.gate.specs.declared.Verdict.the-variants.{Bad}
-use Rattle.gate.specs.Gate.{misplaced, lengthOf, mislengthed, sizesVerdict, edgeVerdict, factVerdict, ruleGood, ruleVerdict, queryGood, queryVerdict, fieldsVerdict, verdict}
+use Rattle.gate.specs.Gate.{misplaced, lengthOf, mislengthed, ruleGood, queryGood}
+use Rattle.gate.specs.Gate.{sizesVerdict, edgeVerdict, factVerdict, ruleVerdict, queryVerdict, fieldsVerdict, verdict}
 use Rattle.gate.specs.Inner.Long.{dueLength, longFault}
 
 -- A row of tests of which the middle one fails.

@@ -37,25 +37,6 @@ pub fn digit_of(c: u8) -> u8
     }
 }
 
-// The values of all characters as a table, so that a character's value is one look-up.
-pub fn fill_digits(table: &mut [u8; 256])
-    requires { ⌜ length (now table) ≡ 256 ⌝ }
-    ensures { λ _. ⌜ Tabled (now (table .exit)) ⌝ }
-{
-    let mut c: usize = 0;
-    while c < 256 {
-        table[c] = digit_of(c as u8);
-        c += 1;
-    }
-}
-
-// A character as a place in the table.
-fn wide(c: u8) -> usize
-    ensures { λ r. ⌜ (r ≡ c) × (r < 256) ⌝ }
-{
-    c as usize
-}
-
 // The same table the other way: the character of each value.
 const ALPHABET: [u8; 16] = [
     48,
@@ -134,7 +115,7 @@ fn are_digits(x: &[u8]) -> bool
     true
 }
 
-// The same of a line of over 128 characters, whose frame is too long for every kind: its first 64 bytes tell which refusal is due.
+// Of a line of over 128 characters only the first 64 bytes are written: no good frame is as long, and they tell which refusal is due.
 fn decode_long(x: &[u8], frame: &mut [u8]) -> Frame
     requires { ⌜ (128 < length (now x)) × (length (now frame) ≡ 64) ⌝ }
     ensures { λ r. ⌜ Decoded (now (x .entry)) r (now (frame .entry)) (now (frame .exit)) ⌝ }
@@ -150,7 +131,7 @@ fn decode_long(x: &[u8], frame: &mut [u8]) -> Frame
     Frame::Long(x.len() / 2)
 }
 
-// What a line writes to a buffer of 64 bytes.
+// Writes the line's frame, or the first 64 bytes of a longer one, to a buffer of 64 bytes, unless the line is malformed.
 pub fn decode(x: &[u8], frame: &mut [u8]) -> Frame
     requires { ⌜ length (now frame) ≡ 64 ⌝ }
     ensures { λ r. ⌜ Decoded (now (x .entry)) r (now (frame .entry)) (now (frame .exit)) ⌝ }
@@ -159,6 +140,25 @@ pub fn decode(x: &[u8], frame: &mut [u8]) -> Frame
         return decode_long(x, frame);
     }
     decode_short(x, frame)
+}
+
+// The values of all characters as a table, so that a character's value is one look-up.
+pub fn fill_digits(table: &mut [u8; 256])
+    requires { ⌜ length (now table) ≡ 256 ⌝ }
+    ensures { λ _. ⌜ Tabled (now (table .exit)) ⌝ }
+{
+    let mut c: usize = 0;
+    while c < 256 {
+        table[c] = digit_of(c as u8);
+        c += 1;
+    }
+}
+
+// A character as a place in the table.
+fn wide(c: u8) -> usize
+    ensures { λ r. ⌜ (r ≡ c) × (r < 256) ⌝ }
+{
+    c as usize
 }
 
 // The smaller of two numbers.

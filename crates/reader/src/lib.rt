@@ -18,7 +18,7 @@ pub struct Read {
     pub next: Cursor,
 }
 
-// The line that starts at `at`, by two passes: its end is found, then an ended line is decoded.
+// Any line that starts at `at`, in two passes: its end is found, then an ended line is decoded.
 fn any_line_at(book: &[u8], at: usize, frame: &mut [u8]) -> Line
     requires { ⌜ (at ≤ length (now book)) × ((length (now book) ≤ 65536) × (length (now frame) ≡ 64)) ⌝ }
     ensures { λ l. ⌜ LineRead (now (book .entry)) at (now (frame .entry)) l (now (frame .exit)) ⌝ }
@@ -38,7 +38,8 @@ fn any_line_at(book: &[u8], at: usize, frame: &mut [u8]) -> Line
     }
 }
 
-// The line that starts at `at`; its frame is written to the front of `frame`. One pass serves an ended line of up to 64 bytes.
+// The line that starts at `at`; its frame is written to the front of `frame`. One pass serves an ended line of up to 64 bytes; any
+// other is read anew, in two.
 fn line_at<'a>(book: &'a [u8], at: usize, digits: &'a [u8], frame: &mut [u8]) -> Line
     requires { ⌜ (at ≤ length (now book)) × ((length (now book) ≤ 65536) × ((length (now frame) ≡ 64) × Tabled (now digits))) ⌝ }
     ensures { λ l. ⌜ LineRead (now (book .entry)) at (now (frame .entry)) l (now (frame .exit)) ⌝ }

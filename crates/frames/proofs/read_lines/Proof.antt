@@ -70,7 +70,8 @@ opening-line-requires c κs = search needs
 loop-holds : tie.Need-loop-holds Inv-loop μ-loop
 unfolding held nothing noFacts
 loop-holds c =
-    let queried = c .before .before .before .before in
+    let filled = c .before in
+    let queried = filled .before .before .before in
     rw (c .opening-line .ensures) (
       record {
         within = omega arith;
@@ -201,13 +202,15 @@ enter-fact-requires c κs = let b = c .before .before .before in sym (b .byte-at
 
 loop-less-2 : tie.Need-loop-less-2 Inv-loop μ-loop
 loop-less-2 c =
-    let d = framed-at (judged-at (c .before .before .before .before)) in
+    let other = c .before .before .before in
+    let d = framed-at (judged-at (other .before)) in
     let r = read-at d in
     line-less (at-loop r .loop .inv .0) (r .read-frame .ensures) (d .decoded2 .given .1) (tested-at r .if1 .taken)
 
 loop-again-2 : tie.Need-loop-again-2 Inv-loop μ-loop
 loop-again-2 c =
-    let b = c .before .before .before .before in
+    let other = c .before .before .before in
+    let b = other .before in
     let d = framed-at (judged-at b) in
     let read = read-at d .read-frame .ensures in
     let at = at-loop (read-at d) .loop in
@@ -234,7 +237,7 @@ array-set-from-rules c =
     rule-passed known _ good (sym (b .byte-at .ensures) ∙ c .before .if4 .taken) .1 .1
 
 known-after-requires : tie.Need-known-after-requires Inv-loop μ-loop
-known-after-requires c κs = at-loop (read-at (framed-at (judged-at (c .before .before .before .before)))) .loop .inv .0 .counted
+known-after-requires c κs = at-loop (read-at (framed-at (judged-at (kind-at (c .before .before))))) .loop .inv .0 .counted
 
 loop-less-3 : tie.Need-loop-less-3 Inv-loop μ-loop
 loop-less-3 c =
@@ -261,7 +264,7 @@ query-after-requires : tie.Need-query-after-requires Inv-loop μ-loop
 query-after-requires c κs = search needs
 
 known-after-requires-2 : tie.Need-known-after-requires-2 Inv-loop μ-loop
-known-after-requires-2 c κs = at-loop (read-at (framed-at (judged-at (c .before .before .before .before)))) .loop .inv .0 .counted
+known-after-requires-2 c κs = at-loop (read-at (framed-at (judged-at (kind-at (c .before .before))))) .loop .inv .0 .counted
 
 loop-less-4 : tie.Need-loop-less-4 Inv-loop μ-loop
 loop-less-4 c =

@@ -24,10 +24,8 @@ are-digits-requires c κs = search needs
 returns-2 : tie.Need-returns-2
 returns-2 c =
     let a = c .before in
-    record {
-      written = malformed-even _ (λ z. omega (arith, z, entry a .pre .0)) (a .before .if1 .left) ∙ ap not (sym (a .are-digits .ensures) ∙ not-true _ (c .if2 .taken));
-      size = refl;
-    }
+    let ill = sym (a .are-digits .ensures) ∙ not-true _ (c .if2 .taken) in
+    record { written = malformed-even _ (λ z. omega (arith, z, entry a .pre .0)) (a .before .if1 .left) ∙ ap not ill; size = refl }
 
 slice-aggregate-front : tie.Need-slice-aggregate-front
 slice-aggregate-front c =
@@ -46,8 +44,9 @@ same-length c = search needs
 returns-3 : tie.Need-returns-3
 returns-3 c =
     let d = c .before .before in
-    let a = d .before .before .before .before in
-    let digits = sym (a .are-digits .ensures) ∙ not-false _ (d .before .before .before .if2 .left) in
+    let tested = d .before .before .before in
+    let a = tested .before in
+    let digits = sym (a .are-digits .ensures) ∙ not-false _ (tested .if2 .left) in
     long-written _ _ _ _ (entry a .pre .0) (a .before .if1 .left) digits (d .decode-short .ensures)
 
 pub decode-long-spec : {M : Type 1} → statement M

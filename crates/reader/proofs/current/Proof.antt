@@ -1,4 +1,7 @@
--- `reader::current` meets its contract: a walk of its MIR, by hand, with the reader and the digits' table at one lifetime and a `&mut [u8]` at another. The reader is taken apart, and its slice and its place are passed on to `line_at`, with the table. The buffer is passed on at its own lifetime, share and name: it is given up for good, and what `line_at` says of the last list is what `current` says of it.
+-- `reader::current` meets its contract: a walk of its MIR, by hand, with the reader and the digits' table at one lifetime and a
+-- `&mut [u8]` at another. The reader is taken apart, and its slice and its place are passed on to `line_at`, with the table. The
+-- buffer is passed on at its own lifetime, share and name: it is given up for good, and what `line_at` says of the last list is
+-- what `current` says of it.
 -- Assumes nothing.
 use mathlib.Core.Path.{_≡_, refl}
 use Prim.Native.Nat.{ℕ, _≤_, _<_, _^_}

@@ -1,5 +1,9 @@
--- `reader::read_frame` meets its contract: a walk of its MIR, by hand, with the book and the digits' table at one lifetime and a `&mut [u8]` at another. A reader that `new` returns is held in a local: `current` reads its line into the buffer, `next` moves it, and `place` says where it then stands. All that the proof knows of the functions called is that each meets its contract.
--- The reader is Copy: one copy of what it owns goes to `current`, the other to `next`. The table goes to `current` beside the buffer. The buffer is passed on at its own lifetime, share and name: it is given up for good, and what `current` says of the last list is what `read_frame` says of it.
+-- `reader::read_frame` meets its contract: a walk of its MIR, by hand, with the book and the digits' table at one lifetime and a
+-- `&mut [u8]` at another. A reader that `new` returns is held in a local: `current` reads its line into the buffer, `next` moves
+-- it, and `place` says where it then stands. All that the proof knows of the functions called is that each meets its contract.
+-- The reader is Copy: one copy of what it owns goes to `current`, the other to `next`. The table goes to `current` beside the
+-- buffer. The buffer is passed on at its own lifetime, share and name: it is given up for good, and what `current` says of the
+-- last list is what `read_frame` says of it.
 -- In a local of a body MIR erases the lifetime of the struct's type, so the value is shown to have the type at `erased`.
 -- Assumes nothing.
 use mathlib.Core.Path.{_≡_, refl, sym, ap, subst, _∙_}
