@@ -64,7 +64,8 @@ backs-none m x {T} {y} w f e u h =
     ∙ first-of-three (getD y (m .fact) false) (getD x (m .fact) false) (flagsWith m T y) e (sym (direct-low x (m .fact) (f .fact)) ∙ u) (flags-with w f ∙ h)
 
 -- The invariant before the first move.
-pub back-first : (ms : Moves) (p : ℕ) {T bad x y : List Bool} {size end : ℕ} (out : List ℕ) → ReadyBack T bad x y size end → KeptBack ms p T bad x y end out out end
+pub back-first : (ms : Moves) (p : ℕ) {T bad x y : List Bool} {size end : ℕ} (out : List ℕ) → ReadyBack T bad x y size end
+    → KeptBack ms p T bad x y end out out end
 unfolding asks
 back-first ms p {T} {bad} {x} {y} {size} {end} out r =
     let e : end - end ≡ 0 = omega arith in
@@ -76,7 +77,8 @@ back-first ms p {T} {bad} {x} {y} {size} {end} out r =
       back = rw (e, r .starts) (back-none (world T ms ms p));
     }
 
-module _ {ms : Moves} {p : ℕ} {T bad x y : List Bool} {end : ℕ} {out₀ out : List ℕ} {at : ℕ} (k : KeptBack ms p T bad x y end out₀ out at) (sound : Sound ms) where
+module _ {ms : Moves} {p : ℕ} {T bad x y : List Bool} {end : ℕ} {out₀ out : List ℕ} {at : ℕ}
+    (k : KeptBack ms p T bad x y end out₀ out at) (sound : Sound ms) where
   -- A move of the list that does not fire.
   pub backs-not : {m : Move} {i : ℕ} {r : Bool} → i < ms .count → m ≡ moveAt ms i → r ≡ backsIn m T x y → r ≡ false → backsIn (moveAt ms i) T x y ≡ false
   backs-not l same t h = rw same at (sym t ∙ h)
@@ -95,6 +97,7 @@ module _ {ms : Moves} {p : ℕ} {T bad x y : List Bool} {end : ℕ} {out₀ out 
       let e = sym t ∙ h in
       let f = listed-fine sound l same in
       let left = back-left l same t h in
+      let holds = subst (λ (o : Move). met T (put (direct y) (m .fact) true) o ≡ true) same (backs-met m x (k .whole) f e) in
       let n₁ : end - (at - 1) ≡ (end - at) + 1 = omega (arith, k .down) in
       let n₂ : (at - 1) + 1 ≡ at = omega arith in
       record {
@@ -104,7 +107,7 @@ module _ {ms : Moves} {p : ℕ} {T bad x y : List Bool} {end : ℕ} {out₀ out 
         stands = λ j g. w .there j (omega (arith, k .down)) ∙ k .stands j g;
         back = rw (n₁, asks-front (end - at) w, n₂, put-direct pz (f .fact))
             (back-more (world T ms ms p) (askOf p m) (backs-new m T x y f e) (backs-in m T x y f e)
-            (record { index = i; listed = l; same = ap (askOf p) same; holds = subst (λ (o : Move). met T (put (direct y) (m .fact) true) o ≡ true) same (backs-met m x (k .whole) f e); known = f .fact }) (k .back));
+            (record { index = i; listed = l; same = ap (askOf p) same; holds = holds; known = f .fact }) (k .back));
       }
 
   -- When no move fires the sweep is closed.

@@ -70,7 +70,8 @@ fires-none m allowed {T} {x} w f e u h =
     ∙ first-of-three (getD x (m .fact) false) (getD allowed (m .fact) false) (flagsMet m x) e (sym (direct-low allowed (m .fact) (f .fact)) ∙ u) (flags-met w f ∙ h)
 
 -- The invariant before the first move.
-pub kept-first : (ms : Moves) (p : ℕ) {T allowed x : List Bool} {size start : ℕ} (out : List ℕ) → Ready T allowed x size start → Kept ms p T allowed x x start out out 0
+pub kept-first : (ms : Moves) (p : ℕ) {T allowed x : List Bool} {size start : ℕ} (out : List ℕ) → Ready T allowed x size start
+    → Kept ms p T allowed x x start out out 0
 unfolding asks
 kept-first ms p out r = record {
   whole = r .whole;
@@ -83,9 +84,11 @@ kept-first ms p out r = record {
 pub listed-fine : {ms : Moves} {m : Move} {i : ℕ} → Sound ms → i < ms .count → m ≡ moveAt ms i → Fine m
 listed-fine {ms} {m} {i} sound l same = rw same (sound .fine i l)
 
-module _ {ms : Moves} {p : ℕ} {T allowed x₀ x : List Bool} {start : ℕ} {out₀ out : List ℕ} {n : ℕ} (k : Kept ms p T allowed x₀ x start out₀ out n) (sound : Sound ms) where
+module _ {ms : Moves} {p : ℕ} {T allowed x₀ x : List Bool} {start : ℕ} {out₀ out : List ℕ} {n : ℕ}
+    (k : Kept ms p T allowed x₀ x start out₀ out n) (sound : Sound ms) where
   -- A move of the list that does not fire.
-  pub fires-not : {m : Move} {i : ℕ} {r : Bool} → i < ms .count → m ≡ moveAt ms i → r ≡ firesIn m allowed x → r ≡ false → firesIn (moveAt ms i) allowed x ≡ false
+  pub fires-not : {m : Move} {i : ℕ} {r : Bool} → i < ms .count → m ≡ moveAt ms i → r ≡ firesIn m allowed x → r ≡ false
+      → firesIn (moveAt ms i) allowed x ≡ false
   fires-not l same t h = rw same at (sym t ∙ h)
 
   -- Where a move fires there is room for its request.
@@ -107,7 +110,8 @@ module _ {ms : Moves} {p : ℕ} {T allowed x₀ x : List Bool} {start : ℕ} {ou
         stands = λ j h. w .there j (omega arith) ∙ k .stands j h;
         added = rw (asks-more start n w, put-direct pz (f .fact))
             (add-more (world T ms ms p) {q = askOf p m} (fires-new m allowed x f e) (fires-allowed m allowed x f e)
-            (record { index = i; listed = l; same = ap (askOf p) same; holds = rw same at (fires-met m allowed (k .whole) f e); known = f .fact }) (k .added));
+            (record { index = i; listed = l; same = ap (askOf p) same; holds = rw same at (fires-met m allowed (k .whole) f e); known = f .fact })
+            (k .added));
       }
 
   -- When no move fires the sweep is closed.

@@ -1,5 +1,5 @@
--- How a sweep goes round its moves, whichever way it tests them. Moves may be named to be tried first: nothing is claimed of the names, as a turn may take the sweep to any move while it calls none quiet.
--- When as many moves are quiet as there are, none fires.
+-- How a sweep goes round its moves, whatever its test: the last `quiet` moves before the one that it looks at do not fire, and when all are quiet none fires.
+-- Some moves may be named, to be tried first. Nothing is claimed of the names: a turn may take the sweep to any move, if it calls no move quiet there.
 use mathlib.Core.Path.{_≡_, refl}
 use mathlib.Core.Logic.{_⊎_, inl, inr, ⊎-elim, by-cases, dite}
 use mathlib.Core.Bool.{Bool, false}
@@ -23,10 +23,12 @@ window-none n i j h w = ⊎-elim (λ (a : (j < i) × (i ≤ j + 0)). omega arith
 -- One quiet move more.
 pub window-next : {n i r : ℕ} (quiet j : ℕ) → Next i n r → i < n → j < n → Window n r (quiet + 1) j → (j ≡ i) ⊎ Window n i quiet j
 window-next {n} {i} {r} quiet j x h l w = by-cases (ℕ-discrete j i) (λ e. inl e) (λ e. inr (dite (ℕ-discrete (i + 1) n)
-    (λ (t : i + 1 ≡ n). let z : r ≡ 0 = x .turn t in ⊎-elim (λ (a : (j < r) × (r ≤ j + (quiet + 1))). absurd (omega arith)) (λ (a : n + r ≤ j + (quiet + 1)). inl (omega arith, omega arith)) w)
-    (λ (t : i + 1 ≡ n → ⊥). let z : r ≡ i + 1 = x .step t in ⊎-elim (λ (a : (j < r) × (r ≤ j + (quiet + 1))). inl (omega arith, omega arith)) (λ (a : n + r ≤ j + (quiet + 1)). inr (omega arith)) w)))
+    (λ (t : i + 1 ≡ n). let z : r ≡ 0 = x .turn t in
+    ⊎-elim (λ (a : (j < r) × (r ≤ j + (quiet + 1))). absurd (omega arith)) (λ (a : n + r ≤ j + (quiet + 1)). inl (omega arith, omega arith)) w)
+    (λ (t : i + 1 ≡ n → ⊥). let z : r ≡ i + 1 = x .step t in
+    ⊎-elim (λ (a : (j < r) × (r ≤ j + (quiet + 1))). inl (omega arith, omega arith)) (λ (a : n + r ≤ j + (quiet + 1)). inr (omega arith)) w)))
 
--- A turn that stays where it is, or goes to a move by a name.
+-- A turn stays where the sweep stands, or goes to a move by its name.
 pub turn-stays : {n tried i tried′ : ℕ} (quiet : ℕ) → i < n → tried ≤ tried′ → tried′ ≤ 160 → Turned n tried i quiet tried′ i quiet
 turn-stays quiet l o m = record { fits = l; onward = o; names = m; goes = inl (refl, refl) }
 
@@ -75,7 +77,7 @@ pub turn-quiet : {n tried i quiet tried′ i′ quiet′ : ℕ} → Turned n tri
 turn-quiet {n} {tried} {i} {quiet} {tried′} {i′} {quiet′} t q =
     ⊎-elim (λ (g : (i′ ≡ i) × (quiet′ ≡ quiet)). omega (arith, g .1)) (λ (g : (tried < tried′) × (quiet′ ≡ 0)). omega (arith, g .1)) (t .goes)
 
--- The measure of a sweep that may fire `left` times more: a move that fires pays for all names and a whole round, a name for a round, a quiet move for one step.
+-- The measure of a sweep that may fire `left` times more: a move that fires pays for all names and a round, a name for a round, a quiet move for a step.
 abbrev pub steps-left : ℕ → ℕ → ℕ → ℕ → ℕ
 steps-left n left tried quiet = (161 * left + (160 - tried)) * (n + 1) + (n - quiet)
 
@@ -88,10 +90,12 @@ rounds-less n a b c d l h = go (b - suc a) (omega arith)
 
 -- A move that fires brings the end nearer.
 pub fired-less : (n quiet tried tried′ : ℕ) {left left′ : ℕ} → left′ < left → steps-left n left′ tried′ 0 < steps-left n left tried quiet
-fired-less n quiet tried tried′ {left} {left′} l = rounds-less n (161 * left′ + (160 - tried′)) (161 * left + (160 - tried)) (n - 0) (n - quiet) (omega arith) (omega arith)
+fired-less n quiet tried tried′ {left} {left′} l =
+    rounds-less n (161 * left′ + (160 - tried′)) (161 * left + (160 - tried)) (n - 0) (n - quiet) (omega arith) (omega arith)
 
 -- So does one that does not.
-pub quiet-less : {n tried i quiet tried′ i′ quiet′ : ℕ} (left : ℕ) → Turned n tried i quiet tried′ i′ quiet′ → quiet < n → steps-left n left tried′ (quiet′ + 1) < steps-left n left tried quiet
+pub quiet-less : {n tried i quiet tried′ i′ quiet′ : ℕ} (left : ℕ) → Turned n tried i quiet tried′ i′ quiet′ → quiet < n
+    → steps-left n left tried′ (quiet′ + 1) < steps-left n left tried quiet
 quiet-less {n} {tried} {i} {quiet} {tried′} {i′} {quiet′} left t q =
     by-cases (decLt tried tried′)
     (λ l. rounds-less n (161 * left + (160 - tried′)) (161 * left + (160 - tried)) (n - (quiet′ + 1)) (n - quiet) (omega (arith, l, t .names)) (omega arith))

@@ -24,7 +24,8 @@ pub record Next (i n r : ℕ) : Type 0 where
   pub turn : i + 1 ≡ n → r ≡ 0
   pub step : (i + 1 ≡ n → ⊥) → r ≡ i + 1
 
--- How a sweep of `n` moves that stands at `i`, with `quiet` moves before it quiet and `tried` of the 160 names tried, goes on at `i′`: from where it stands, or, by one name more, at any move, none quiet.
+-- How a sweep of `n` moves that stands at `i`, with `quiet` moves before it quiet and `tried` of the 160 names tried, goes on at `i′`:
+-- from where it stands, or, by a name more, at any move, none quiet before it.
 pub record Turned (n tried i quiet tried′ i′ quiet′ : ℕ) : Type 0 where
   pub fits : i′ < n
   pub onward : tried ≤ tried′

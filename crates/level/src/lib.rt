@@ -163,7 +163,7 @@ pub fn chosen(r: Rule, one: u8, two: u8, roles: u32) -> bool
 
 // ---------------------------------------------------------------- the flags of a subject
 
-// A term's place as an index.
+// A term's place, or a move's number, as an index.
 fn wide(x: u16) -> usize
     ensures { λ r. ⌜ r ≡ x ⌝ }
 {
@@ -289,7 +289,8 @@ pub struct Turn {
     pub quiet: usize,
 }
 
-// Where the sweep goes on: at the move that the next name gives, none quiet before it; or, when no name is left, where it stands. A name that no move has ends the names.
+// Where the sweep goes on: at the move that the next name gives, none quiet before it; or, when no name is left, where it stands.
+// A name that no move has ends the names.
 fn turn_at(names: &[u16], tried: usize, i: usize, quiet: usize, count: usize) -> Turn
     requires { ⌜ (length (now names) ≡ 160) × ((tried ≤ 160) × (i < count)) ⌝ }
     ensures { λ r. ⌜ Turned count tried i quiet (r .tried) (r .i) (r .quiet) ⌝ }
@@ -313,7 +314,8 @@ fn turn_at(names: &[u16], tried: usize, i: usize, quiet: usize, count: usize) ->
 }
 
 // Adds to `x` what the moves can add within `allowed`, until nothing is left, and notes each request in `out` from request `start` on. Returns how many.
-// `added` names the moves that fired last time, in their order, by their numbers (512: none). They are tried first, and the moves that fire now are named in it.
+// `added` has the numbers of the moves that fired last time, in their order (512: none). They are tried first, as most fire again, and those that fire
+// now are written over the front; what stands behind them stays, for a later level that goes further. A wrong name costs one trial and no more.
 pub fn close(
     adds: &[u16],
     added: &mut [u16],
@@ -400,7 +402,7 @@ pub fn backs(m: Move, table: &[bool], x: &[bool], y: &[bool]) -> bool
 }
 
 // Puts back into `y` what of `x` the moves can delete, until nothing is left, and notes each request in `out`, downwards from request `end`. Returns where the notes begin.
-// `deleted` names the moves that were put back last time, as `added` does for `close`.
+// `deleted` has the numbers of the moves that were put back last time, as `added` has for `close`.
 pub fn back(
     dels: &[u16],
     deleted: &mut [u16],
@@ -572,6 +574,7 @@ pub struct Outcome {
 }
 
 // The level: rounds until what was put in can all be put back, or a starting fact is lost. `u` is what is allowed at first; `y` and `d` are room to work in.
+// `added` and `deleted` name the moves to try first, and in the end those of the last round.
 pub fn settle(
     adds: &[u16],
     dels: &[u16],

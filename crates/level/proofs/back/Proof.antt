@@ -1,5 +1,5 @@
--- The sweep that puts deletions back. Its invariant is `KeptBack`, with `Backing`: the last `quiet` moves before `i` put nothing back. Turns and measure are those of `close`; the notes go downwards from `end`.
--- Assumes nothing.
+-- The sweep that puts deletions back. Its invariant is `KeptBack`, and `Backing`: the last `quiet` moves before `i` put nothing back. Its turns and its
+-- measure are those of `close`; its notes go downwards from `end`. Assumes nothing.
 use mathlib.Core.Path.{_≡_, sym, _∙_}
 use Prim.Native.Nat.{_+_, _-_, _<_}
 use native.Mathlib.Omega.{arith}
@@ -18,7 +18,7 @@ Inv-loop dels deleted₀ subject table bad x y₀ end out₀ count at₀ quiet�
 abbrev μ-loop : tie.MeasureT-loop
 μ-loop dels deleted₀ subject table bad x y₀ end out₀ count at₀ quiet₀ i₀ tried₀ deleted y out at quiet i tried = steps-left count at tried quiet
 
--- The loop and the start, before a turn; the turn before a move that is tested; the test before what is put in; what is put in before what is noted.
+-- The places that the answers name, each seen from a later one: the loop from its turn, the start, the turn from the test, the test's yes from what is put in.
 abbrev at-loop : tie.After-turn-at Inv-loop μ-loop → tie.At-loop Inv-loop μ-loop
 at-loop c = c .before .before .before
 
@@ -34,18 +34,17 @@ at-then c = c .before .before .before .before
 abbrev at-put : tie.After-slice-known5 Inv-loop μ-loop → tie.After-slice-known4 Inv-loop μ-loop
 at-put c = c .before .before .before .before
 
-abbrev at-start-from-slice-known3 : tie.After-slice-known3 Inv-loop μ-loop → tie.Start Inv-loop μ-loop
-at-start-from-slice-known3 c = c .before .before .before .before .before .before .before
+abbrev at-start-first : tie.After-slice-known3 Inv-loop μ-loop → tie.Start Inv-loop μ-loop
+at-start-first c = c .before .before .before .before .before .before .before
 
 abbrev after-move-at : tie.After-backs Inv-loop μ-loop → tie.After-move-at Inv-loop μ-loop
 after-move-at c = c .before .before
 
 loop-holds : tie.Need-loop-holds Inv-loop μ-loop
 loop-holds c =
-    let s = at-start-from-slice-known3 c in (
+    let s = at-start-first c in (
       back-first (movesIn (s .args .dels .now)) (s .args .subject) (s .args .out .now) (s .pre .1 .0),
-      sweeping-anew _
-          (s .pre .1 .1) (omega arith) (λ h. h),
+      sweeping-anew _ (s .pre .1 .1) (omega arith) (λ h. h),
     )
 
 turn-at-requires : tie.Need-turn-at-requires Inv-loop μ-loop

@@ -1,5 +1,6 @@
--- The sweep of the additions. Its invariant is `Kept`, with `Adding`: the last `quiet` moves before `i` do not fire. A turn may take it to a move that `added` names, of which nothing is claimed but that there
--- are 160 names. The measure counts the additions that may follow, the names that are left and the moves that are not quiet. Assumes nothing.
+-- The sweep of the additions. Its invariant is `Kept`, and `Adding`: the last `quiet` moves before `i` do not fire. A turn may take it to a move that `added`
+-- names; nothing is claimed of the names but that there are 160. The measure counts the additions that may follow, the names that are left and the
+-- moves that are not quiet. Assumes nothing.
 use mathlib.Core.Path.{_≡_, sym, _∙_}
 use Prim.Native.Nat.{_+_, _-_, _<_}
 use native.Mathlib.Omega.{arith}
@@ -17,7 +18,7 @@ Inv-loop adds added₀ subject table allowed x₀ start out₀ count n₀ quiet�
 abbrev μ-loop : tie.MeasureT-loop
 μ-loop adds added₀ subject table allowed x₀ start out₀ count n₀ quiet₀ i₀ tried₀ added x out n quiet i tried = steps-left count (160 - n) tried quiet
 
--- The loop and the start, before a turn; the turn before a move that is tested; the test before what is put in; what is put in before what is noted.
+-- The places that the answers name, each seen from a later one: the loop from its turn, the start, the turn from the test, the test's yes from what is put in.
 abbrev at-loop : tie.After-turn-at Inv-loop μ-loop → tie.At-loop Inv-loop μ-loop
 at-loop c = c .before .before .before
 
@@ -33,18 +34,17 @@ at-then c = c .before .before .before .before
 abbrev at-put : tie.After-slice-known5 Inv-loop μ-loop → tie.After-slice-known4 Inv-loop μ-loop
 at-put c = c .before .before .before .before
 
-abbrev at-start-from-slice-known3 : tie.After-slice-known3 Inv-loop μ-loop → tie.Start Inv-loop μ-loop
-at-start-from-slice-known3 c = c .before .before .before .before .before .before
+abbrev at-start-first : tie.After-slice-known3 Inv-loop μ-loop → tie.Start Inv-loop μ-loop
+at-start-first c = c .before .before .before .before .before .before
 
 abbrev after-move-at : tie.After-fires Inv-loop μ-loop → tie.After-move-at Inv-loop μ-loop
 after-move-at c = c .before .before
 
 loop-holds : tie.Need-loop-holds Inv-loop μ-loop
 loop-holds c =
-    let s = at-start-from-slice-known3 c in (
+    let s = at-start-first c in (
       kept-first (movesIn (s .args .adds .now)) (s .args .subject) (s .args .out .now) (s .pre .1 .0),
-      sweeping-anew _
-          (s .pre .1 .1) (omega arith) (λ h. h),
+      sweeping-anew _ (s .pre .1 .1) (omega arith) (λ h. h),
     )
 
 turn-at-requires : tie.Need-turn-at-requires Inv-loop μ-loop
@@ -59,7 +59,8 @@ fires-requires : tie.Need-fires-requires Inv-loop μ-loop
 fires-requires c κs =
     let t = c .before .before in
     let s = at-start (at-loop t) in
-    (listed-fine (s .pre .0) (t .turn-at .ensures .fits) (c .before .move-at .ensures), (at-loop t .loop .inv .0 .whole .size, s .pre .1 .0 .length-allowed))
+    let w = at-loop t .loop .inv .0 .whole in
+    (listed-fine (s .pre .0) (t .turn-at .ensures .fits) (c .before .move-at .ensures), (w .size, s .pre .1 .0 .length-allowed))
 
 put-requires : tie.Need-put-requires Inv-loop μ-loop
 put-requires c κs =

@@ -23,6 +23,21 @@ after-build2 c = c .before .before .before .before .before .before
 abbrev after-back : tie.After-slice-known16 → tie.After-back
 after-back c = c .before .before .before .before .before .before
 
+abbrev after-added : tie.After-up → tie.After-added
+after-added c = c .before .before .before .before
+
+abbrev after-y : tie.After-down → tie.After-y
+after-y c = c .before .before .before .before .before .before .before .before .before .before .before
+
+abbrev after-d : tie.After-down → tie.After-d
+after-d c = after-y c .before .before .before .before .before
+
+abbrev after-up : tie.After-slice-known16 → tie.After-up
+after-up c = after-d (c .before) .before .before .before .before .before
+
+abbrev after-deleted : tie.After-down → tie.After-deleted
+after-deleted c = c .before .before .before .before
+
 build-requires : tie.Need-build-requires
 build-requires c κs = (start c .pre .1 .0 .size-x, (start c .pre .1 .0 .rows, start c .pre .1 .0 .size-s))
 
@@ -57,10 +72,10 @@ back-requires c κs =
     )
 
 same-length : tie.Need-same-length
-same-length c = c .before .before .before .before .before .before .before .before .before .before .before .before .before .before .before .before .before .before .before .before .before .before .before .before .before .before .added .given
+same-length c = after-added (after-up c) .added .given
 
 same-length-2 : tie.Need-same-length-2
-same-length-2 c = c .before .before .before .before .before .deleted .given
+same-length-2 c = after-deleted (c .before) .deleted .given
 
 same-length-3 : tie.Need-same-length-3
 same-length-3 c =
@@ -68,13 +83,13 @@ same-length-3 c =
     at-close .close .ensures .whole .size ∙ sym (start (after-build (at-close .before) .before) .pre .1 .0 .size-x)
 
 same-length-4 : tie.Need-same-length-4
-same-length-4 c = c .before .before .before .y2 .given ∙ c .before .before .before .before .before .before .before .before .before .before .before .before .y .given
+same-length-4 c = c .before .before .before .y2 .given ∙ after-y (c .before) .y .given
 
 same-length-5 : tie.Need-same-length-5
-same-length-5 c = c .before .before .before .before .before .before .before .before .before .before .before .before .before .before .before .before .before .d .given
+same-length-5 c = after-d (c .before) .d .given
 
 same-length-6 : tie.Need-same-length-6
-same-length-6 c = c .before .before .before .before .before .before .before .before .before .before .before .before .before .before .before .before .before .before .before .before .before .before .up .given
+same-length-6 c = after-up c .up .given
 
 same-length-7 : tie.Need-same-length-7
 same-length-7 c = c .before .down .given

@@ -1,4 +1,5 @@
--- Rounds until the level is settled or a starting fact is lacking. The invariant is `Going`; the measure is how many facts are allowed. Assumes nothing.
+-- Rounds until the level is settled or a starting fact is lacking. The invariant is `Going`, and that there are 160 names each; the measure is how many
+-- facts are allowed. Assumes nothing.
 use native.Mathlib.Omega.{arith}
 use mathlib.Core.Path.{_≡_, sym, _∙_}
 use lib.ListN.{length}
@@ -10,7 +11,8 @@ use Rattle.level.proofs.settle.Statement.{statement}
 use Rattle.level.proofs.settle.Tie as tie
 
 abbrev Inv-loop : tie.InvT-loop
-Inv-loop adds dels added₀ deleted₀ subject table bad s u₀ x₀ y₀ d₀ start up₀ end down₀ added deleted u x y d up down = Going (movesIn adds) (movesIn dels) subject table bad s u₀ u x y d start up₀ up end down₀ down × ((length added ≡ 160) × (length deleted ≡ 160))
+Inv-loop adds dels added₀ deleted₀ subject table bad s u₀ x₀ y₀ d₀ start up₀ end down₀ added deleted u x y d up down =
+    Going (movesIn adds) (movesIn dels) subject table bad s u₀ u x y d start up₀ up end down₀ down × ((length added ≡ 160) × (length deleted ≡ 160))
 
 abbrev μ-loop : tie.MeasureT-loop
 μ-loop adds dels added₀ deleted₀ subject table bad s u₀ x₀ y₀ d₀ start up₀ end down₀ added deleted u x y d up down = count (direct u) 160

@@ -50,6 +50,16 @@ else1 c = c .before .before .before
 abbrev after-person-level : tie.After-struct-known2 → tie.After-person-level
 after-person-level c = c .before .before .before .before .before .before
 
+abbrev after-up : tie.Then1 → tie.After-up
+after-up c = c .before .before .before .before .before
+
+abbrev after-down : tie.After-struct-known2 → tie.After-down
+after-down c =
+    c .before .before .before .before .before .before .before .before .before .before .before .before .before .before .before
+
+abbrev after-down2 : tie.After-struct-known2 → tie.After-down2
+after-down2 c = c .before .before
+
 slice-aggregate-fill-reach : tie.Need-slice-aggregate-fill-reach
 slice-aggregate-fill-reach c = search needs
 
@@ -115,7 +125,7 @@ crew-levels-requires c κs =
     )
 
 same-length : tie.Need-same-length
-same-length c = c .before .before .before .before .before .up .given
+same-length c = after-up c .up .given
 
 same-length-2 : tie.Need-same-length-2
 same-length-2 c = c .before .before .before .down .given
@@ -148,10 +158,11 @@ person-level-requires c κs =
     )
 
 same-length-3 : tie.Need-same-length-3
-same-length-3 c = c .before .before .before .before .before .up2 .given ∙ c .before .before .before .before .before .before .before .before .before .before .before .before .before .before .before .before .before .before .up .given
+same-length-3 c =
+    after-down2 (c .before) .before .before .up2 .given ∙ after-down (c .before) .before .before .up .given
 
 same-length-4 : tie.Need-same-length-4
-same-length-4 c = c .before .before .before .down2 .given ∙ c .before .before .before .before .before .before .before .before .before .before .before .before .before .before .before .before .down .given
+same-length-4 c = c .before .before .before .down2 .given ∙ after-down (c .before) .down .given
 
 returns-2 : tie.Need-returns-2
 returns-2 c =
@@ -167,10 +178,12 @@ add-t53 c =
     )
 
 same-length-5 : tie.Need-same-length-5
-same-length-5 c = c .before .before .before .before .before .before .before .up2 .given ∙ c .before .before .before .before .before .before .before .before .before .before .before .before .before .before .before .before .before .before .before .before .up .given
+same-length-5 c =
+    after-down2 (c .before .before .before) .before .before .up2 .given ∙ after-down (c .before .before .before) .before .before .up .given
 
 same-length-6 : tie.Need-same-length-6
-same-length-6 c = c .before .before .before .before .before .down2 .given ∙ c .before .before .before .before .before .before .before .before .before .before .before .before .before .before .before .before .before .before .down .given
+same-length-6 c =
+    after-down2 (c .before .before .before) .down2 .given ∙ after-down (c .before .before .before) .down .given
 
 returns-3 : tie.Need-returns-3
 returns-3 c =

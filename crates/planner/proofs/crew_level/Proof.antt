@@ -42,6 +42,12 @@ after-table c =
 abbrev after-down : tie.After-slice-known12 → tie.After-down
 after-down c = c .before .before .before .before .before .before .before
 
+abbrev after-start-flags : tie.After-bad3 → tie.After-start-flags
+after-start-flags c = c .before .before .before .before .before .before .before .before .before .before .before .before .before
+
+abbrev after-allow-all-from-u3 : tie.After-u3 → tie.After-allow-all
+after-allow-all-from-u3 c = c .before .before .before .before .before .before .before .before .before .before .before .before
+
 is-below-listed-requires : tie.Need-is-below-listed-requires
 unfolding contentsOf
 is-below-listed-requires c κs =
@@ -76,13 +82,13 @@ crew-table-requires c κs =
     )
 
 slice-aggregate-settle : tie.Need-slice-aggregate-settle
-slice-aggregate-settle c = sym (c .before .before .before .before .before .before .before .before .before .before .before .before .before .before .before .before .bad-flags .ensures .size)
+slice-aggregate-settle c = sym (after-start-flags c .before .before .before .bad-flags .ensures .size)
 
 slice-aggregate-settle-2 : tie.Need-slice-aggregate-settle-2
-slice-aggregate-settle-2 c = sym (c .before .before .before .before .before .before .before .before .before .before .before .before .before .before .start-flags .ensures .size)
+slice-aggregate-settle-2 c = sym (after-start-flags (c .before) .start-flags .ensures .size)
 
 slice-aggregate-settle-3 : tie.Need-slice-aggregate-settle-3
-slice-aggregate-settle-3 c = sym (c .before .before .before .before .before .before .before .before .before .before .before .before .allow-all .ensures .size)
+slice-aggregate-settle-3 c = sym (after-allow-all-from-u3 c .allow-all .ensures .size)
 
 slice-aggregate-settle-4 : tie.Need-slice-aggregate-settle-4
 slice-aggregate-settle-4 c = refl

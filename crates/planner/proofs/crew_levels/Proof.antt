@@ -1,4 +1,4 @@
--- `planner::crew_levels` meets its contract: crew after crew, until one is stuck. Assumes nothing.
+-- `planner::crew_levels` meets its contract: crew after crew, until one is stuck. The names that the crews hand on stay 160. Assumes nothing.
 use mathlib.Core.Path.{_≡_, sym, subst, _∙_}
 use mathlib.Core.Bool.{Bool, true, true≢false}
 use mathlib.Core.List.{List}
@@ -66,7 +66,9 @@ same-length c =
     (loop-head (c .before) .loop .inv .1 .1 .1 .0 ∙ sym (start (loop-head (c .before) .before) .pre .1 .1 .1 .0))
 
 same-length-2 : tie.Need-same-length-2 Inv-loop μ-loop
-same-length-2 c = after-deleted (c .before) .deleted .given ∙ (loop-head (c .before) .loop .inv .1 .1 .1 .1 ∙ sym (start (loop-head (c .before) .before) .pre .1 .1 .1 .1))
+same-length-2 c =
+    after-deleted (c .before) .deleted .given ∙
+    (loop-head (c .before) .loop .inv .1 .1 .1 .1 ∙ sym (start (loop-head (c .before) .before) .pre .1 .1 .1 .1))
 
 same-length-3 : tie.Need-same-length-3 Inv-loop μ-loop
 same-length-3 c =
@@ -79,7 +81,9 @@ same-length-4 c =
     (loop-head (c .before) .loop .inv .1 .0 .size ∙ sym (start (loop-head (c .before) .before) .pre .1 .0 .size))
 
 same-length-5 : tie.Need-same-length-5 Inv-loop μ-loop
-same-length-5 c = after-up (c .before) .up .given ∙ (loop-head (c .before) .loop .inv .1 .1 .0 .size-up ∙ sym (start (loop-head (c .before) .before) .pre .1 .1 .0 .size-up))
+same-length-5 c =
+    after-up (c .before) .up .given ∙
+    (loop-head (c .before) .loop .inv .1 .1 .0 .size-up ∙ sym (start (loop-head (c .before) .before) .pre .1 .1 .0 .size-up))
 
 same-length-6 : tie.Need-same-length-6 Inv-loop μ-loop
 same-length-6 c =

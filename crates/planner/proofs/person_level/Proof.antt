@@ -25,6 +25,12 @@ after-person-table c = c .before .before .before .before .before .before .before
 abbrev after-settle : tie.After-down → tie.After-settle
 after-settle c = c .before .before .before .before .before .before .before .before .before
 
+abbrev after-allow-all : tie.After-bad3 → tie.After-allow-all
+after-allow-all c = c .before .before .before .before .before .before .before .before .before
+
+abbrev after-table : tie.After-settle → tie.After-table
+after-table c = c .before .before .before .before .before .before .before .before .before .before .before .before .before
+
 slice-aggregate-bad-flags : tie.Need-slice-aggregate-bad-flags
 slice-aggregate-bad-flags c = refl
 
@@ -56,13 +62,13 @@ slice-aggregate-settle-2 : tie.Need-slice-aggregate-settle-2
 slice-aggregate-settle-2 c = refl
 
 slice-aggregate-settle-3 : tie.Need-slice-aggregate-settle-3
-slice-aggregate-settle-3 c = sym (c .before .before .before .before .before .before .before .before .before .before .before .before .before .before .before .bad-flags .ensures .size)
+slice-aggregate-settle-3 c = sym (after-bad-flags (after-allow-all c) .bad-flags .ensures .size)
 
 slice-aggregate-settle-4 : tie.Need-slice-aggregate-settle-4
-slice-aggregate-settle-4 c = sym (c .before .before .before .before .before .before .before .before .before .before .before .before .before .start-flags .ensures .size)
+slice-aggregate-settle-4 c = sym (after-start-flags (after-allow-all (c .before)) .start-flags .ensures .size)
 
 slice-aggregate-settle-5 : tie.Need-slice-aggregate-settle-5
-slice-aggregate-settle-5 c = sym (c .before .before .before .before .before .before .before .before .before .before .before .allow-all .ensures .size)
+slice-aggregate-settle-5 c = sym (after-allow-all (c .before .before) .allow-all .ensures .size)
 
 slice-aggregate-settle-6 : tie.Need-slice-aggregate-settle-6
 slice-aggregate-settle-6 c = refl
@@ -99,7 +105,7 @@ settle-requires c κs =
     )
 
 same-length : tie.Need-same-length
-same-length c = c .before .before .before .before .before .before .before .before .before .before .before .before .before .before .before .before .before .before .before .before .before .before .before .table .given
+same-length c = after-table (after-settle (c .before)) .table .given
 
 same-length-2 : tie.Need-same-length-2
 same-length-2 c = c .before .before .before .up .given
