@@ -1,16 +1,17 @@
 // The moves of one side of a level, out of the accepted rules as a lent slice.
 ghost use mathlib.Core.Path.{_≡_};
+ghost use mathlib.Core.Bool.{true};
 ghost use Prim.Native.Nat.{_<_};
 ghost use lib.ListN.{length};
 ghost use Rattle.level.specs.Terms.{GoodRule};
-ghost use Rattle.level.specs.Chosen.{GoodRules, Gathered};
-ghost use Rattle.moves.specs.Listed.{ofList, Taken, Prepared};
+ghost use Rattle.level.specs.Chosen.{chosenIn, GoodRules};
+ghost use Rattle.moves.specs.Listed.{ofList, RoomFrom, Taken, Gathered, Prepared};
 use frames::Rule;
 use frames::Rules;
 
 // The move of a rule, where it is chosen, is written as move `k`. Returns how many moves there are then.
 fn gather(r: Rule, one: u8, two: u8, roles: u32, k: usize, ms: &mut [u16]) -> usize
-    requires { ⌜ GoodRule r × ((k < 512) × (length (now ms) ≡ 7168)) ⌝ }
+    requires { ⌜ GoodRule r × ((chosenIn one two roles r ≡ true → k < 512) × (length (now ms) ≡ 7168)) ⌝ }
     ensures { λ n. ⌜ Taken one two roles r k (now (ms .entry)) n (now (ms .exit)) ⌝ }
 {
     if level::chosen(r, one, two, roles) {
@@ -20,12 +21,13 @@ fn gather(r: Rule, one: u8, two: u8, roles: u32, k: usize, ms: &mut [u16]) -> us
     k
 }
 
-// Writes the moves of the rules that have one of two ops and one of the roles, in the rules' order. Returns how many.
-pub fn moves_of(rules: &[Rule], one: u8, two: u8, roles: u32, ms: &mut [u16]) -> usize
-    requires { ⌜ GoodRules (ofList (now rules)) × (length (now ms) ≡ 7168) ⌝ }
-    ensures { λ r. ⌜ Gathered (ofList (now (rules .entry))) one two roles r (now (ms .exit)) ⌝ }
+// Writes the moves of the rules that have one of two ops and one of the roles, in the rules' order, from move `from` on. Returns how
+// many moves there are then.
+fn moves_of(rules: &[Rule], one: u8, two: u8, roles: u32, from: usize, ms: &mut [u16]) -> usize
+    requires { ⌜ GoodRules (ofList (now rules)) × (RoomFrom (ofList (now rules)) one two roles from × (length (now ms) ≡ 7168)) ⌝ }
+    ensures { λ r. ⌜ Gathered (ofList (now (rules .entry))) one two roles from (now (ms .entry)) (length (now (rules .entry))) r (now (ms .exit)) ⌝ }
 {
-    let mut k: usize = 0;
+    let mut k = from;
     let mut i: usize = 0;
     while i < rules.len() {
         k = gather(rule_list::rule_at(rules, i), one, two, roles, k, ms);
@@ -34,7 +36,8 @@ pub fn moves_of(rules: &[Rule], one: u8, two: u8, roles: u32, ms: &mut [u16]) ->
     k
 }
 
-// How many moves each side has: additions and deletions, of the crews (`gains`, `losses`) and of the query's person (`adds`, `dels`).
+// How many moves there are at the end of each side, one side behind the other: additions and deletions, of the crews (`gains`,
+// `losses`) and of the query's person (`adds`, `dels`).
 pub struct Counts {
     pub gains: usize,
     pub losses: usize,
@@ -54,24 +57,18 @@ fn counted(gains: usize, losses: usize, adds: usize, dels: usize) -> Counts
     }
 }
 
-// The moves of all four sides: the front of the list by value is lent once, to each in turn.
-pub fn moves_listed(
-    rs: Rules,
-    roles: u32,
-    gains: &mut [u16],
-    losses: &mut [u16],
-    adds: &mut [u16],
-    dels: &mut [u16],
-) -> Counts
-    requires { ⌜ GoodRules rs × ((length (now gains) ≡ 7168) × ((length (now losses) ≡ 7168) × ((length (now adds) ≡ 7168) × (length (now dels) ≡ 7168)))) ⌝ }
-    ensures { λ r. ⌜ Prepared rs roles r (now (gains .exit)) (now (losses .exit)) (now (adds .exit)) (now (dels .exit)) ⌝ }
+// The moves of all four sides, one behind the other: a rule has one op, so 512 rules give at most 512 moves in all. The front of the
+// list by value is lent once, to each side in turn.
+pub fn moves_listed(rs: Rules, roles: u32, ms: &mut [u16]) -> Counts
+    requires { ⌜ GoodRules rs × (length (now ms) ≡ 7168) ⌝ }
+    ensures { λ r. ⌜ Prepared rs roles r (now (ms .exit)) ⌝ }
 {
     let n = rs.count;
     let list = rs.rules;
     let rules = &list[..n];
-    let a = moves_of(rules, 3, 3, roles, gains);
-    let b = moves_of(rules, 4, 4, roles, losses);
-    let c = moves_of(rules, 1, 5, roles, adds);
-    let d = moves_of(rules, 2, 6, roles, dels);
+    let a = moves_of(rules, 3, 3, roles, 0, ms);
+    let b = moves_of(rules, 4, 4, roles, a, ms);
+    let c = moves_of(rules, 1, 5, roles, b, ms);
+    let d = moves_of(rules, 2, 6, roles, c, ms);
     counted(a, b, c, d)
 }

@@ -1,5 +1,6 @@
 -- `moves::moves_of` meets its contract: a walk of its MIR, by hand, with the loop. Each turn takes one rule by a call of `rule_at` and hands it, with the buffer, to `gather`. All that the proof knows of the two is that each meets its contract.
--- The invariant: the first k moves of the buffer are those of the chosen ones of the first i rules. The measure is the count of the rules left.
+-- The invariant is the contract for the first i rules: their moves stand in the buffer from move `from` on to before move k, and what stood before them is as
+-- it was. The measure is the count of the rules left.
 -- The rules are Copy: what the slice owns is had twice at the call of `rule_at`, one for the callee and one that is kept. The buffer is lent again to `gather`, for a lifetime of the call, and comes back at the list that `gather` left.
 -- Assumes nothing.
 use mathlib.Core.Path.{_≡_, refl, sym, ap, _∙_, subst}
@@ -57,14 +58,13 @@ use Rattle.frames.specs.Book.{noRule}
 use Rattle.frames.proofs.Rule as T
 use Rattle.frames.proofs.Rule.Laws as T′
 use Rattle.level.specs.Terms.{GoodRule}
-use Rattle.level.specs.Chosen.{GoodRules, MovesOf, Gathered, ruleAt}
-use Rattle.level.proofs.ChosenLaws.{firstMoves, moves-none, moves-all}
+use Rattle.level.specs.Chosen.{GoodRules, chosenIn, ruleAt}
 use Rattle.rule_list.proofs.rule_at as rule-at
 use Rattle.rule_list.proofs.rule_at.Symbol as rule-at-def
 use Rattle.rule_list.proofs.rule_at.Symbol.{name as #rule_list·rule-at}
 use Rattle.rule_list.proofs.rule_at.Met as rule-at-thm
-use Rattle.moves.specs.Listed.{ofList, Taken}
-use Rattle.moves.proofs.ListedLaws.{moves-next, rule-same}
+use Rattle.moves.specs.Listed.{ofList, RoomFrom, Taken, Gathered}
+use Rattle.moves.proofs.ListedLaws.{gathered-none, gathered-next, gathered-room, gathered-few, rule-same}
 use Rattle.moves.proofs.gather as gather
 use Rattle.moves.proofs.gather.Symbol as gather-def
 use Rattle.moves.proofs.gather.Symbol.{name as #moves·gather}
@@ -107,16 +107,31 @@ num8 = plain (λ _. u8)
 abbrev num32 : Slot 2
 num32 = plain (λ _. u32)
 
+abbrev num64 : Slot 2
+num64 = plain (λ _. usize)
+
 abbrev stayed : Stays (moves-of.ended .signature .params) (moves-of.ended .kept)
-stayed = (stay-dropped lent yes, (stay-dropped num8 yes, (stay-dropped num8 yes, (stay-dropped num32 yes, (stay-slice (1 ∷ []) tt (plain (λ _. u16)), tt)))))
+stayed = (
+  stay-dropped lent yes,
+  (
+    stay-dropped num8 yes,
+    (
+      stay-dropped num8 yes,
+      (stay-dropped num32 yes, (stay-dropped num64 yes, (stay-slice (1 ∷ []) tt (plain (λ _. u16)), tt))),
+    ),
+  ),
+)
 
 module _ {M : Type 1} (𝓤 : URA M) (H : Heap 𝓤) (A : Atoms 𝓤) (mem : Memory → SProp 𝓤) (run : Routine → Fun 𝓤) where
   -- the contracts that the proof cites
   abbrev Gather : Contract 𝓤
   Gather = tripleOf 𝓤 H A gather.signature (gather.spec 𝓤 H A mem run)
 
-module _ {M : Type 1} (𝓤 : URA M) (H : Heap 𝓤) (A : Atoms 𝓤) (W : Given 𝓤 H A) (mem : Memory → SProp 𝓤) (run : Routine → Fun 𝓤) (κ₀ κ₁ : Lft) (q₀ q₁ : Share) (s : RefT (List Rule)) (p₁ p₂ p₃ : ℕ) (b o : ℕ) (γ : GName) (ys : List ℕ)
-    (gn : Room T.the-row (length (s .now))) (g₁ : p₁ < 2 ^ 8) (g₂ : p₂ < 2 ^ 8) (g₃ : p₃ < 2 ^ 32) (gm : Room u16 (length ys)) (good : GoodRules (ofList (now s))) (sized : length ys ≡ 7168) where
+module _ {M : Type 1} (𝓤 : URA M) (H : Heap 𝓤) (A : Atoms 𝓤) (W : Given 𝓤 H A) (mem : Memory → SProp 𝓤) (run : Routine → Fun 𝓤) (κ₀ κ₁ : Lft) (q₀ q₁ : Share)
+    (s : RefT (List Rule)) (p₁ p₂ p₃ p₄ : ℕ) (b o : ℕ) (γ : GName) (ys : List ℕ)
+    (gn : Room T.the-row (length (s .now))) (g₁ : p₁ < 2 ^ 8) (g₂ : p₂ < 2 ^ 8) (g₃ : p₃ < 2 ^ 32) (g₄ : p₄ < 2 ^ 64) (gm : Room u16 (length ys))
+    (good : GoodRules (ofList (now s)))
+    (room : RoomFrom (ofList (now s)) p₁ p₂ p₃ p₄) (sized : length ys ≡ 7168) where
   abbrev n : ℕ
   n = length (s .now)
 
@@ -138,11 +153,11 @@ module _ {M : Type 1} (𝓤 : URA M) (H : Heap 𝓤) (A : Atoms 𝓤) (W : Given
   abbrev x : GName → List ℕ → RefT (List ℕ)
   x δ zs = record { ptr = (b, o); name = δ; now = zs }
 
-  abbrev a : RefT (List Rule) × (ℕ × (ℕ × (ℕ × (RefT (List ℕ) × Unit {0}))))
-  a = (s, (p₁, (p₂, (p₃, (x γ ys, tt)))))
+  abbrev a : RefT (List Rule) × (ℕ × (ℕ × (ℕ × (ℕ × (RefT (List ℕ) × Unit {0})))))
+  a = (s, (p₁, (p₂, (p₃, (p₄, (x γ ys, tt))))))
 
   abbrev at : Vals moves-of.signature (κ₀, (κ₁, tt))
-  at = (v ∷ [], (vint w8 p₁ ∷ [], (vint w8 p₂ ∷ [], (vint w32 p₃ ∷ [], (u ∷ [], tt)))))
+  at = (v ∷ [], (vint w8 p₁ ∷ [], (vint w8 p₂ ∷ [], (vint w32 p₃ ∷ [], (vint w64 p₄ ∷ [], (u ∷ [], tt))))))
 
   abbrev Post : Val → SProp 𝓤
   Post = walkOf 𝓤 H A moves-of.ended stayed (moves-of.clauses 𝓤 H A mem run) .post (((κ₀, (κ₁, tt)), (q₀, (q₁, tt)), tt, a, at), tt)
@@ -156,12 +171,15 @@ module _ {M : Type 1} (𝓤 : URA M) (H : Heap 𝓤) (A : Atoms 𝓤) (W : Given
   abbrev Tok : Item 𝓤
   Tok = ‵ (flft κ₀ q₀) ⊛ ‵ ftrue
 
-  exits : (r : ℕ) (zs : List ℕ) → r < 2 ^ 64 → Gathered rs p₁ p₂ p₃ r zs → length zs ≡ m → ent 𝓤 (⋆ 𝓤 H A (Tok ∷ ‵ Read ∷ ‵ (flft κ₁ q₁) ∷ ‵ (Write zs) ∷ [])) (Post (vint w64 r))
-  exits r zs gr e l =
+  exits : (r : ℕ) (zs : List ℕ) → r < 2 ^ 64 → Gathered rs p₁ p₂ p₃ p₄ ys n r zs → ent 𝓤 (⋆ 𝓤 H A (Tok ∷ ‵ Read ∷ ‵ (flft κ₁ q₁) ∷ ‵ (Write zs) ∷ []))
+      (Post (vint w64 r))
+  exits r zs gr e =
       qed W (Tok ∷ ‵ Read ∷ ‵ (flft κ₁ q₁) ∷ ‵ (Write zs) ∷ []) ∵
-      suffices ! _ (ends-at 𝓤 H A moves-of.ended stayed (moves-of.clauses 𝓤 H A mem run) W (((κ₀, (κ₁, tt)), (q₀, (q₁, tt)), tt, a, at), tt) (vint w64 r) r (tt, (tt, (tt, (tt, (zs, tt))))) (tt, (tt, (tt, (tt, (l, tt)))))) $ says ! e $
+      suffices ! _ (ends-at 𝓤 H A moves-of.ended stayed (moves-of.clauses 𝓤 H A mem run) W (((κ₀, (κ₁, tt)), (q₀, (q₁, tt)), tt, a, at), tt) (vint w64 r) r
+      (tt, (tt, (tt, (tt, (tt, (zs, tt)))))) (tt, (tt, (tt, (tt, (tt, (e .size, tt))))))) $ says ! e $
       keep ! (0 ∷ 2 ∷ 3 ∷ []) $ split ! $ move ! (2 ∷ 1 ∷ []) $ join ! $ move ! (1 ∷ 0 ∷ []) $ join ! $ frame ! $ owned ! usize (Is usize) (uint-makes 𝓤 H A W w64) r _ (refl, gr) $
-      nothing ! $ move ! (2 ∷ 0 ∷ []) $ fjoin ! $ nothing ! $ fjoin ! $ nothing ! $ fjoin ! $ nothing ! $ fjoin ! $ nothing ! $ fjoin ! $ done !
+      nothing ! $ move ! (2 ∷ 0 ∷ []) $ fjoin ! $ nothing ! $ fjoin ! $ nothing ! $ fjoin ! $ nothing ! $ fjoin ! $ nothing ! $ fjoin ! $ nothing ! $ fjoin ! $
+      done !
 
   -- the call of `rule_at`: what it is passed, and what it asks
   abbrev to-at : ℕ → RuleAt 𝓤 H A mem run .Ghost
@@ -171,7 +189,8 @@ module _ {M : Type 1} (𝓤 : URA M) (H : Heap 𝓤) (A : Atoms 𝓤) (W : Given
   abbrev to-gather : ℕ → GName → Rule → Val → ℕ → List ℕ → Gather 𝓤 H A mem run .Ghost
   to-gather ν δ r z k zs = (((ν ∷ [], tt), (fullShare, tt), tt, (r, (p₁, (p₂, (p₃, (k, (x δ zs, tt)))))), (z ∷ [], (vint w8 p₁ ∷ [], (vint w8 p₂ ∷ [], (vint w32 p₃ ∷ [], (vint w64 k ∷ [], (u ∷ [], tt))))))), tt)
 
-  goes-gather : (ν : ℕ) (δ : GName) (r : Rule) (z : Val) (k : ℕ) (zs : List ℕ) → k < 2 ^ 64 → GoodRule r × ((k < 512) × (length zs ≡ 7168))
+  goes-gather : (ν : ℕ) (δ : GName) (r : Rule) (z : Val) (k : ℕ) (zs : List ℕ) → k < 2 ^ 64 → GoodRule r × ((chosenIn p₁ p₂ p₃ r ≡ true → k < 512) ×
+      (length zs ≡ 7168))
       → ent 𝓤 (⋆ 𝓤 H A (‵ (flft (ν ∷ []) fullShare) ∷ ‵ (MutSlice (named 0) (ν ∷ []) u16 .own (x δ zs) (u ∷ [])) ∷ ‵ (T.the-row .own r (z ∷ [])) ∷ [])) (Gather 𝓤 H A mem run .pre (to-gather ν δ r z k zs))
   goes-gather ν δ r z k zs gk asks =
       qed W (‵ (flft (ν ∷ []) fullShare) ∷ ‵ (MutSlice (named 0) (ν ∷ []) u16 .own (x δ zs) (u ∷ [])) ∷ ‵ (T.the-row .own r (z ∷ [])) ∷ []) ∵ says ! asks $ nothing ! $ move ! (1 ∷ 0 ∷ []) $ join ! $ frame ! $
@@ -180,7 +199,7 @@ module _ {M : Type 1} (𝓤 : URA M) (H : Heap 𝓤) (A : Atoms 𝓤) (W : Given
 
   -- how far the loop is, with the count of the moves and the buffer's list, and the order in which it comes nearer to the end
   abbrev Upto : Type 0
-  Upto = (i : ℕ) × ((k : ℕ) × ((zs : List ℕ) × ((length zs ≡ m) × MovesOf rs p₁ p₂ p₃ (firstMoves k zs) i)))
+  Upto = (i : ℕ) × ((k : ℕ) × ((zs : List ℕ) × Gathered rs p₁ p₂ p₃ p₄ ys i k zs))
 
   abbrev Nearer : Upto → Upto → Type 0
   Nearer j i = n - j .0 < n - i .0
@@ -188,7 +207,8 @@ module _ {M : Type 1} (𝓤 : URA M) (H : Heap 𝓤) (A : Atoms 𝓤) (W : Given
   Nearer-wf : WellFounded Nearer
   Nearer-wf = InvImage·wf (λ (i : Upto). n - i .0) (Nat·lt-wfRel .wf)
 
-  module _ (𝓣 : Tables 𝓤 H) (known-at : Triple 𝓤 (𝓣 .C #rule_list·rule-at) (RuleAt 𝓤 H A mem run)) (known-gather : Triple 𝓤 (𝓣 .C #moves·gather) (Gather 𝓤 H A mem run)) (l₀ l₁ l₂ l₃ l₄ l₅ l₆ l₇ l₈ l₉ l₁₀ l₁₁ l₁₂ : ℕ) where
+  module _ (𝓣 : Tables 𝓤 H) (known-at : Triple 𝓤 (𝓣 .C #rule_list·rule-at) (RuleAt 𝓤 H A mem run)) (known-gather : Triple 𝓤 (𝓣 .C #moves·gather)
+      (Gather 𝓤 H A mem run)) (l₀ l₁ l₂ l₃ l₄ l₅ l₆ l₇ l₈ l₉ l₁₀ l₁₁ l₁₂ l₁₃ : ℕ) where
     abbrev C : Calls 𝓤 H
     C = 𝓣 .C
 
@@ -199,17 +219,22 @@ module _ {M : Type 1} (𝓤 : URA M) (H : Heap 𝓤) (A : Atoms 𝓤) (W : Given
     fm = fmOf 𝓤 H (W .laws) 𝓣
 
     abbrev En : Env 𝓤 H
-    En = (word, l₀) ∷ (slice, l₁) ∷ (byte, l₂) ∷ (byte, l₃) ∷ (set, l₄) ∷ (buffer, l₅) ∷ (word, l₆) ∷ (word, l₇) ∷ (word, l₈) ∷ (tyBool, l₉) ∷ (T′.mir, l₁₀) ∷ (ref, l₁₁) ∷ (again-slice, l₁₂) ∷ []
+    En = (word, l₀) ∷ (slice, l₁) ∷ (byte, l₂) ∷ (byte, l₃) ∷ (set, l₄) ∷ (word, l₅) ∷ (buffer, l₆) ∷ (word, l₇) ∷ (word, l₈) ∷ (word, l₉) ∷ (tyBool, l₁₀) ∷
+        (T′.mir, l₁₁) ∷ (ref, l₁₂) ∷ (again-slice, l₁₃) ∷ []
 
-    -- the locals that no turn touches, `_5` to `_1`, and room for the result
+    -- the locals that no turn touches, `_6` to `_1`, and room for the result
     abbrev Kept : List (Item 𝓤)
-    Kept = ‵ (fat fullShare buffer l₅ 0 u) ∷ ‵ (fdies buffer l₅) ∷ ‵ (fat fullShare set l₄ 0 (vint w32 p₃)) ∷ ‵ (fdies set l₄) ∷ ‵ (fat fullShare byte l₃ 0 (vint w8 p₂)) ∷ ‵ (fdies byte l₃) ∷ ‵ (fat fullShare byte l₂ 0 (vint w8 p₁)) ∷ ‵ (fdies byte l₂)
+    Kept = ‵ (fat fullShare buffer l₆ 0 u) ∷ ‵ (fdies buffer l₆) ∷ ‵ (fat fullShare word l₅ 0 (vint w64 p₄)) ∷ ‵ (fdies word l₅) ∷ ‵
+        (fat fullShare set l₄ 0 (vint w32 p₃)) ∷ ‵ (fdies set l₄) ∷ ‵ (fat fullShare byte l₃ 0 (vint w8 p₂)) ∷ ‵ (fdies byte l₃) ∷ ‵
+        (fat fullShare byte l₂ 0 (vint w8 p₁)) ∷ ‵ (fdies byte l₂)
         ∷ ‵ (fat fullShare slice l₁ 0 v) ∷ ‵ (fdies slice l₁) ∷ ‵ (froom word l₀ 0) ∷ ‵ (fdies word l₀) ∷ []
 
     -- the invariant
     abbrev At : Upto → List (Item 𝓤)
-    At j = Tok ∷ ‵ Read ∷ ‵ (flft κ₁ q₁) ∷ ‵ (Write (j .1 .1 .0)) ∷ ‵ (froom again-slice l₁₂ 0) ∷ ‵ (fdies again-slice l₁₂) ∷ ‵ (froom ref l₁₁ 0) ∷ ‵ (fdies ref l₁₁) ∷ ‵ (froom T′.mir l₁₀ 0) ∷ ‵ (fdies T′.mir l₁₀) ∷ ‵ (froom tyBool l₉ 0) ∷ ‵ (fdies tyBool l₉)
-        ∷ ‵ (froom word l₈ 0) ∷ ‵ (fdies word l₈) ∷ ‵ (fat fullShare word l₇ 0 (vint w64 (j .0))) ∷ ‵ (fdies word l₇) ∷ ‵ (fat fullShare word l₆ 0 (vint w64 (j .1 .0))) ∷ ‵ (fdies word l₆) ∷ Kept
+    At j = Tok ∷ ‵ Read ∷ ‵ (flft κ₁ q₁) ∷ ‵ (Write (j .1 .1 .0)) ∷ ‵ (froom again-slice l₁₃ 0) ∷ ‵ (fdies again-slice l₁₃) ∷ ‵ (froom ref l₁₂ 0) ∷ ‵
+        (fdies ref l₁₂) ∷ ‵ (froom T′.mir l₁₁ 0) ∷ ‵ (fdies T′.mir l₁₁) ∷ ‵ (froom tyBool l₁₀ 0) ∷ ‵ (fdies tyBool l₁₀)
+        ∷ ‵ (froom word l₉ 0) ∷ ‵ (fdies word l₉) ∷ ‵ (fat fullShare word l₈ 0 (vint w64 (j .0))) ∷ ‵ (fdies word l₈) ∷ ‵
+        (fat fullShare word l₇ 0 (vint w64 (j .1 .0))) ∷ ‵ (fdies word l₇) ∷ Kept
 
     abbrev Turned : Upto → Out → SProp 𝓤
     Turned j = afterTurn 𝓤 H (Below 𝓤 H A Nearer At j) (afterBlock 𝓤 H (afterSeq 𝓤 H (Wp 𝓤 H C Λ En mir.t-4 (atReturn 𝓤 H En Post)) (atReturn 𝓤 H En Post)))
@@ -217,36 +242,57 @@ module _ {M : Type 1} (𝓤 : URA M) (H : Heap 𝓤) (A : Atoms 𝓤) (W : Given
     -- a turn, by how the loop's test comes out
     turn : (j : Upto) (t : Bool) → ltb (j .0) n ≡ t → Sq W (At j) (runs C Λ En mir.turn-1 (anyQ (Turned j)))
     unfolding afterTurn
-    turn (i, (k, (zs, (size, moved)))) true e =
-        assigns ! (of-opd ! (load ! (from ! (fld ! refl (stop !))) (look-in ! 26 (sub ! 1 refl (whole !))))) (from ! (stop !)) (init ! 12 refl (tt, record { fits = gn .0 })) $
+    turn (i, (k, (zs, g))) true e =
+        assigns ! (of-opd ! (load ! (from ! (fld ! refl (stop !))) (look-in ! 28 (sub ! 1 refl (whole !))))) (from ! (stop !))
+        (init ! 12 refl (tt, record { fits = gn .0 })) $
         assigns ! (bin ! (load ! (from ! (stop !)) (look ! 14 refl)) (load ! (from ! (stop !)) (look ! 12 refl)) tt) (from ! (stop !)) (init ! 10 refl (tt, tt)) $
-        rewrite ! 10 (λ (t : Bool). ‵ (fat fullShare tyBool l₉ 0 (vbool t))) e refl $ stays ! (load ! (from ! (stop !)) (look ! 10 refl)) $
+        rewrite ! 10 (λ (t : Bool). ‵ (fat fullShare tyBool l₁₀ 0 (vbool t))) e refl $ stays ! (load ! (from ! (stop !)) (look ! 10 refl)) $
         use2 W (raw (RuleAt 𝓤 H A mem run .pre (to-at i)) ⊛ ‵ Read) (call.goes-at 𝓤 H A mem run W κ₀ q₀ s i i-fits small) $ split ! $
-        calls-at ! fm (RuleAt 𝓤 H A mem run) known-at (to-at i) (and-then ! (load ! (from ! (stop !)) (look ! 26 refl)) (and-then ! (load ! (from ! (stop !)) (look ! 14 refl)) (no-more !))) (λ z.
+        calls-at ! fm (RuleAt 𝓤 H A mem run) known-at (to-at i) (and-then ! (load ! (from ! (stop !)) (look ! 28 refl))
+        (and-then ! (load ! (from ! (stop !)) (look ! 14 refl)) (no-more !))) (λ z.
         returned ! tt rule-at.ended (rule-at.clauses 𝓤 H A mem run) (to-at i) z Tok (id⊢ 𝓤 _) (λ r. r ≡ getD (now s) i noRule) (λ r ws. id⊢ 𝓤 _) (λ r er. move ! (1 ∷ []) $ peeks ! T.the-row (Is T.the-row) (shows 𝓤 H A T.the-row) r (z ∷ []) (λ is.
-        -- [what the rule owns; the rules' token; what the rules own; the buffer's token; what it owns; _12; …; _11; …; room for _10; …]
+        -- [what the rule owns; the rules' token; what the rules own; the buffer's token; what it owns; _13; …; _12; …; room for _11; …]
         land ! (from ! (stop !)) (init ! 9 refl (LL.lawful T.the-type T′.the-laws 𝓤 H A W .typed r _ is .0)) $
         assigns ! (addr ! (from ! (fld ! refl (hop ! (look-in ! 19 (sub ! 0 refl (whole !))) (stop !))))) (from ! (stop !)) (init ! 7 refl (tt, tt)) $
         assigns ! (agg ! (and-then ! (load ! (from ! (stop !)) (look ! 7 refl)) (and-then ! (load ! (from ! (fld ! refl (stop !))) (look-in ! 19 (sub ! 1 refl (whole !)))) (no-more !)))) (from ! (stop !)) (init ! 5 refl (tt, (tt, (record { fits = gm .0 }, tt)))) $
         -- the buffer is lent again, for a lifetime ν of the call
         lft-new ! tt (λ ν. move ! (5 ∷ 4 ∷ []) $
-        use2 W (later (some (λ (δ : GName). ‵ (MutSlice (named 0) (ν ∷ []) u16 .own (x δ zs) (u ∷ [])) ⊛ ‵ (LentAgain u16 κ₁ (ν ∷ []) q₁ γ b o δ zs)))) (lends-at u16 κ₁ (ν ∷ []) q₁ γ b o 𝓤 H A W (named 1) (named 0) m zs size) $ await ! tt $ pick ! (λ δ. split ! $
-        move ! (2 ∷ 0 ∷ 3 ∷ []) $ use3 W (raw (Gather 𝓤 H A mem run .pre (to-gather ν δ r z k zs))) (goes-gather ν δ r z k zs k-fits (subst GoodRule (sym (is-rule r er)) (good .good i small), (k-small, size ∙ sized))) $
-        -- [what it asks; the lender's part; the rules' token; what the rules own; _12; …; _11; …; _10; …; _9; …; _8; …; _7; …; _6; …; _5; …; _4; …; _3; …; _2; …; _1; …; room for _0; …]
-        calls-at ! fm (Gather 𝓤 H A mem run) known-gather (to-gather ν δ r z k zs) (and-then ! (load ! (from ! (stop !)) (look ! 8 refl)) (and-then ! (load ! (from ! (stop !)) (look ! 24 refl)) (and-then ! (load ! (from ! (stop !)) (look ! 22 refl)) (and-then ! (load ! (from ! (stop !)) (look ! 20 refl)) (and-then ! (load ! (from ! (stop !)) (look ! 16 refl)) (and-then ! (load ! (from ! (stop !)) (look ! 4 refl)) (no-more !))))))) (λ w.
+        use2 W (later (some (λ (δ : GName). ‵ (MutSlice (named 0) (ν ∷ []) u16 .own (x δ zs) (u ∷ [])) ⊛ ‵ (LentAgain u16 κ₁ (ν ∷ []) q₁ γ b o δ zs))))
+        (lends-at u16 κ₁ (ν ∷ []) q₁ γ b o 𝓤 H A W (named 1) (named 0) m zs (g .size)) $ await ! tt $ pick ! (λ δ. split ! $
+        move ! (2 ∷ 0 ∷ 3 ∷ []) $ use3 W (raw (Gather 𝓤 H A mem run .pre (to-gather ν δ r z k zs)))
+        (goes-gather ν δ r z k zs k-fits (subst GoodRule (sym (is-rule r er)) (good .good i small), (room-for r er, g .size ∙ sized))) $
+        -- [what it asks; the lender's part; the rules' token; what the rules own; _13; …; _12; …; _11; …; _10; …; _9; …; _8; …; _7; …; _6; …; _5; …; _4; …; _3;
+        -- …; _2; …; _1; …; room for _0; …]
+        calls-at ! fm (Gather 𝓤 H A mem run) known-gather (to-gather ν δ r z k zs) (and-then ! (load ! (from ! (stop !)) (look ! 8 refl))
+        (and-then ! (load ! (from ! (stop !)) (look ! 26 refl)) (and-then ! (load ! (from ! (stop !)) (look ! 24 refl))
+        (and-then ! (load ! (from ! (stop !)) (look ! 22 refl)) (and-then ! (load ! (from ! (stop !)) (look ! 16 refl))
+        (and-then ! (load ! (from ! (stop !)) (look ! 4 refl)) (no-more !))))))) (λ w.
         returned-last ! tt gather.ended (gather.clauses 𝓤 H A mem run) (to-gather ν δ r z k zs) w (‵ (flft (ν ∷ []) fullShare) ⊛ ‵ ftrue) (id⊢ 𝓤 _) (λ k′ ws. Taken p₁ p₂ p₃ r k zs k′ (ws .1 .1 .1 .1 .1 .0)) (λ k′ ws. id⊢ 𝓤 _) (λ k′ ws taken.
         move ! (1 ∷ []) $ facts ! usize (Is usize) (shows 𝓤 H A usize) k′ (w ∷ []) (λ ik.
-        land ! (from ! (stop !)) (store ! 17 refl (uint-lawful 𝓤 H A W w64 .typed k′ _ ik .0)) $ rewrite ! 17 (λ (y : Val). ‵ (fat fullShare word l₆ 0 y)) (ap only (ik .0)) refl $
+        land ! (from ! (stop !)) (store ! 17 refl (uint-lawful 𝓤 H A W w64 .typed k′ _ ik .0)) $ rewrite ! 17 (λ (y : Val). ‵ (fat fullShare word l₇ 0 y))
+        (ap only (ik .0)) refl $
         -- what is said of the buffer's last list
         move ! (1 ∷ []) $ fsplit ! $ drop ! $ fsplit ! $ drop ! $ fsplit ! $ drop ! $ fsplit ! $ drop ! $ fsplit ! $ drop ! $ fsplit ! $ fsplit ! $ move ! (1 ∷ []) $ feqL ! (λ l.
         -- the lifetime ends, and the buffer comes back at that list
         move ! (2 ∷ []) $ split ! $ lft-end ! tt $ move ! (0 ∷ 4 ∷ 2 ∷ []) $
-        use3 W (later (‵ (Write (ws .1 .1 .1 .1 .1 .0)) ⊛ ‵ (flft κ₁ q₁))) (back-at u16 κ₁ (ν ∷ []) q₁ γ b o 𝓤 H A W (named 1) (named 0) m zs size δ (ws .1 .1 .1 .1 .1 .0) gm l) $ await ! tt $ split ! $
-        -- [what the buffer owns; its token; …; …; the rules' token; what the rules own; _12; …; _11; …; _10; …; _9; …; _8; …; _7; …; …]
+        use3 W (later (‵ (Write (ws .1 .1 .1 .1 .1 .0)) ⊛ ‵ (flft κ₁ q₁))) (back-at u16 κ₁ (ν ∷ []) q₁ γ b o 𝓤 H A W (named 1) (named 0) m zs (g .size) δ
+        (ws .1 .1 .1 .1 .1 .0) gm l) $ await ! tt $ split ! $
+        -- [what the buffer owns; its token; …; …; the rules' token; what the rules own; _13; …; _12; …; _11; …; _10; …; _9; …; _8; …; …]
         assigns-last ! (bin ! (load ! (from ! (stop !)) (look ! 16 refl)) (lit ! tt) (record { fits = next-fits })) (from ! (stop !)) (store ! 16 refl (tt, record { fits = next-fits })) $
         forget ! 6 refl $ forget ! 8 refl $ forget ! 10 refl $ forget ! 12 refl $ forget ! 14 refl $
-        keep ! (4 ∷ 5 ∷ 1 ∷ 0 ∷ 6 ∷ 7 ∷ 8 ∷ 9 ∷ 10 ∷ 11 ∷ 12 ∷ 13 ∷ 14 ∷ 15 ∷ 16 ∷ 17 ∷ 18 ∷ 19 ∷ 20 ∷ 21 ∷ 22 ∷ 23 ∷ 24 ∷ 25 ∷ 26 ∷ 27 ∷ 28 ∷ 29 ∷ 30 ∷ 31 ∷ []) $
-        again ! Nearer At (i, (k, (zs, (size, moved)))) (i + 1, (k′, (ws .1 .1 .1 .1 .1 .0, (l ∙ size, moves-next moved small (subst (λ (y : Rule). Taken p₁ p₂ p₃ y k zs k′ (ws .1 .1 .1 .1 .1 .0)) (is-rule r er) taken))))) (omega (arith, small)))))))))))
+        keep ! (4 ∷ 5 ∷ 1 ∷ 0 ∷ 6 ∷ 7 ∷ 8 ∷ 9 ∷ 10 ∷ 11 ∷ 12 ∷ 13 ∷ 14 ∷ 15 ∷ 16 ∷ 17 ∷ 18 ∷ 19 ∷ 20 ∷ 21 ∷ 22 ∷ 23 ∷ 24 ∷ 25 ∷ 26 ∷ 27 ∷ 28 ∷ 29 ∷ 30 ∷ 31
+        ∷ 32 ∷ 33 ∷ []) $
+        again ! Nearer At (i, (k, (zs, g))) (
+          i + 1,
+          (
+            k′,
+            (
+              ws .1 .1 .1 .1 .1 .0,
+              gathered-next g small
+                  (subst (λ (y : Rule). Taken p₁ p₂ p₃ y k zs k′ (ws .1 .1 .1 .1 .1 .0)) (is-rule r er) taken),
+            ),
+          ),
+        ) (omega (arith, small)))))))))))
       where
         small : i < n
         small = ltb-true i n e
@@ -257,49 +303,83 @@ module _ {M : Type 1} (𝓤 : URA M) (H : Heap 𝓤) (A : Atoms 𝓤) (W : Given
         next-fits : i + 1 < 2 ^ 64
         next-fits = omega (arith, small, gn .0)
 
-        k-small : k < 512
-        k-small = omega (arith, small, moved .few, good .few)
-
         k-fits : k < 2 ^ 64
-        k-fits = omega (arith, k-small)
+        k-fits = omega (arith, gathered-few g room)
 
         is-rule : (r : Rule) → r ≡ getD (now s) i noRule → r ≡ ruleAt rs i
         is-rule r er = er ∙ rule-same (now s) i small
-    turn (i, (k, (zs, (size, moved)))) false e =
-        assigns ! (of-opd ! (load ! (from ! (fld ! refl (stop !))) (look-in ! 26 (sub ! 1 refl (whole !))))) (from ! (stop !)) (init ! 12 refl (tt, record { fits = gn .0 })) $
+
+        room-for : (r : Rule) → r ≡ getD (now s) i noRule → chosenIn p₁ p₂ p₃ r ≡ true → k < 512
+        room-for r er chosen = gathered-room g small room (subst (λ (y : Rule). chosenIn p₁ p₂ p₃ y ≡ true) (is-rule r er) chosen)
+    turn (i, (k, (zs, g))) false e =
+        assigns ! (of-opd ! (load ! (from ! (fld ! refl (stop !))) (look-in ! 28 (sub ! 1 refl (whole !))))) (from ! (stop !))
+        (init ! 12 refl (tt, record { fits = gn .0 })) $
         assigns ! (bin ! (load ! (from ! (stop !)) (look ! 14 refl)) (load ! (from ! (stop !)) (look ! 12 refl)) tt) (from ! (stop !)) (init ! 10 refl (tt, tt)) $
-        rewrite ! 10 (λ (t : Bool). ‵ (fat fullShare tyBool l₉ 0 (vbool t))) e refl $ leaves-loop ! (load ! (from ! (stop !)) (look ! 10 refl)) $ exec ! C Λ En mir.t-4 (atRet En Post) $
-        assigns ! (of-opd ! (load ! (from ! (stop !)) (look ! 16 refl))) (from ! (stop !)) (init ! 28 refl (tt, record { fits = k-fits })) $
-        returns ! (look ! 28 refl) $ forget ! 10 refl $ forget ! 12 refl $ forget ! 14 refl $ forget ! 16 refl $ forget ! 18 refl $ forget ! 20 refl $ forget ! 22 refl $ forget ! 24 refl $ forget ! 26 refl $ forget ! 28 refl $
-        move ! (28 ∷ 29 ∷ 26 ∷ 27 ∷ 24 ∷ 25 ∷ 22 ∷ 23 ∷ 20 ∷ 21 ∷ 18 ∷ 19 ∷ 16 ∷ 17 ∷ 14 ∷ 15 ∷ 12 ∷ 13 ∷ 10 ∷ 11 ∷ 8 ∷ 9 ∷ 6 ∷ 7 ∷ 4 ∷ 5 ∷ []) $ frees-all ! En $ by ! (exits k zs k-fits (moves-all moved good (ltb-false i n e) (size ∙ sized)) size)
+        rewrite ! 10 (λ (t : Bool). ‵ (fat fullShare tyBool l₁₀ 0 (vbool t))) e refl $ leaves-loop ! (load ! (from ! (stop !)) (look ! 10 refl)) $
+        exec ! C Λ En mir.t-4 (atRet En Post) $
+        assigns ! (of-opd ! (load ! (from ! (stop !)) (look ! 16 refl))) (from ! (stop !)) (init ! 30 refl (tt, record { fits = k-fits })) $
+        returns ! (look ! 30 refl) $ forget ! 10 refl $ forget ! 12 refl $ forget ! 14 refl $ forget ! 16 refl $ forget ! 18 refl $ forget ! 20 refl $
+        forget ! 22 refl $ forget ! 24 refl $ forget ! 26 refl $ forget ! 28 refl $ forget ! 30 refl $
+        move ! (30 ∷ 31 ∷ 28 ∷ 29 ∷ 26 ∷ 27 ∷ 24 ∷ 25 ∷ 22 ∷ 23 ∷ 20 ∷ 21 ∷ 18 ∷ 19 ∷ 16 ∷ 17 ∷ 14 ∷ 15 ∷ 12 ∷ 13 ∷ 10 ∷ 11 ∷ 8 ∷ 9 ∷ 6 ∷ 7 ∷ 4 ∷ 5 ∷ []) $
+        frees-all ! En $ by ! (exits k zs k-fits (subst (λ (j : ℕ). Gathered rs p₁ p₂ p₃ p₄ ys j k zs) last g))
       where
         k-fits : k < 2 ^ 64
-        k-fits = omega (arith, moved .few, moved .fits, good .few)
+        k-fits = omega (arith, gathered-few g room)
+
+        last : i ≡ n
+        last = omega (arith, ltb-false i n e, g .moves .fits)
 
   walk : (𝓣 : Tables 𝓤 H) → Triple 𝓤 (𝓣 .C #rule_list·rule-at) (RuleAt 𝓤 H A mem run) → Triple 𝓤 (𝓣 .C #moves·gather) (Gather 𝓤 H A mem run)
-      → ent 𝓤 (onEntry 𝓤 H A moves-of.signature (κ₀, (κ₁, tt)) (q₀, (q₁, tt)) a at) (WpFn 𝓤 H (𝓣 .C) (𝓣 .Λ) code.function (v ∷ vint w8 p₁ ∷ vint w8 p₂ ∷ vint w32 p₃ ∷ u ∷ []) Post)
+      → ent 𝓤 (onEntry 𝓤 H A moves-of.signature (κ₀, (κ₁, tt)) (q₀, (q₁, tt)) a at) (WpFn 𝓤 H (𝓣 .C) (𝓣 .Λ) code.function
+      (v ∷ vint w8 p₁ ∷ vint w8 p₂ ∷ vint w32 p₃ ∷ vint w64 p₄ ∷ u ∷ []) Post)
   walk 𝓣 known-at known-gather =
-      qed W ((‵ (flft κ₀ q₀) ⊛ (‵ (flft κ₁ q₁) ⊛ ‵ ftrue)) ∷ ‵ (owns (ShrSlice (named 0) κ₀ T.the-row ∷ u8 ∷ u8 ∷ u32 ∷ MutSlice (named 1) κ₁ u16 ∷ []) a at) ∷ []) ∵ enter ! (𝓣 .C) (𝓣 .Λ) code.function (v ∷ vint w8 p₁ ∷ vint w8 p₂ ∷ vint w32 p₃ ∷ u ∷ []) _ $
-      alloc1 ! (λ l₀. alloc1 ! (λ l₁. alloc1 ! (λ l₂. alloc1 ! (λ l₃. alloc1 ! (λ l₄. alloc1 ! (λ l₅. alloc1 ! (λ l₆. alloc1 ! (λ l₇. alloc1 ! (λ l₈. alloc1 ! (λ l₉. alloc1 ! (λ l₁₀. alloc1 ! (λ l₁₁. alloc1 ! (λ l₁₂. alloc0 ! $ params1 ! $
-      pass1 ! (init ! 22 refl (tt, (tt, (record { fits = gn .0 }, tt)))) $ pass1 ! (init ! 20 refl (tt, record { fits = g₁ })) $ pass1 ! (init ! 18 refl (tt, record { fits = g₂ })) $ pass1 ! (init ! 16 refl (tt, record { fits = g₃ })) $
-      pass1 ! (init ! 14 refl (tt, (tt, (record { fits = gm .0 }, tt)))) $ pass0 ! $
-      assigns ! (of-opd ! (lit ! tt)) (from ! (stop !)) (init ! 12 refl (tt, record { fits = lit< tt })) $ assigns ! (of-opd ! (lit ! tt)) (from ! (stop !)) (init ! 10 refl (tt, record { fits = lit< tt })) $
-      move ! (27 ∷ []) $ fsplit ! $ move ! (1 ∷ []) $ fsplit ! $ drop ! $ fsplit ! $ drop ! $ fsplit ! $ drop ! $ fsplit ! $
-      -- [what the buffer owns; …; what the rules own; _12; …; … ; room for _0; …; the tokens]
-      move ! (29 ∷ []) $ split ! $ move ! (1 ∷ []) $ split ! $ move ! (2 ∷ 1 ∷ []) $ join ! $
-      keep ! (0 ∷ 4 ∷ 1 ∷ 2 ∷ 5 ∷ 6 ∷ 7 ∷ 8 ∷ 9 ∷ 10 ∷ 11 ∷ 12 ∷ 13 ∷ 14 ∷ 15 ∷ 16 ∷ 17 ∷ 18 ∷ 19 ∷ 20 ∷ 21 ∷ 22 ∷ 23 ∷ 24 ∷ 25 ∷ 26 ∷ 27 ∷ 28 ∷ 29 ∷ 30 ∷ []) $
-      first ! $ blocks ! $ loops ! 𝓣 Nearer Nearer-wf (At 𝓣 known-at known-gather l₀ l₁ l₂ l₃ l₄ l₅ l₆ l₇ l₈ l₉ l₁₀ l₁₁ l₁₂) (λ j. turn 𝓣 known-at known-gather l₀ l₁ l₂ l₃ l₄ l₅ l₆ l₇ l₈ l₉ l₁₀ l₁₁ l₁₂ j (ltb (j .0) n) refl) (0, (0, (ys, (refl, moves-none rs p₁ p₂ p₃ ys)))))))))))))))))
+      qed W ((‵ (flft κ₀ q₀) ⊛ (‵ (flft κ₁ q₁) ⊛ ‵ ftrue)) ∷ ‵ (owns (ShrSlice (named 0) κ₀ T.the-row ∷ u8 ∷ u8 ∷ u32 ∷ usize ∷ MutSlice (named 1) κ₁ u16 ∷
+      []) a at) ∷ []) ∵ enter ! (𝓣 .C) (𝓣 .Λ) code.function (v ∷ vint w8 p₁ ∷ vint w8 p₂ ∷ vint w32 p₃ ∷ vint w64 p₄ ∷ u ∷ []) _ $
+      alloc1 ! (λ l₀. alloc1 ! (λ l₁. alloc1 ! (λ l₂. alloc1 !
+      (λ l₃. alloc1 ! (λ l₄. alloc1 ! (λ l₅. alloc1 ! (λ l₆. alloc1 !
+      (λ l₇. alloc1 ! (λ l₈. alloc1 ! (λ l₉. alloc1 ! (λ l₁₀. alloc1 ! (λ l₁₁. alloc1 ! (λ l₁₂. alloc1 ! (λ l₁₃. alloc0 ! $ params1 ! $
+      pass1 ! (init ! 24 refl (tt, (tt, (record { fits = gn .0 }, tt)))) $ pass1 ! (init ! 22 refl (tt, record { fits = g₁ })) $
+      pass1 ! (init ! 20 refl (tt, record { fits = g₂ })) $ pass1 ! (init ! 18 refl (tt, record { fits = g₃ })) $
+      pass1 ! (init ! 16 refl (tt, record { fits = g₄ })) $ pass1 ! (init ! 14 refl (tt, (tt, (record { fits = gm .0 }, tt)))) $ pass0 ! $
+      assigns ! (of-opd ! (load ! (from ! (stop !)) (look ! 16 refl))) (from ! (stop !)) (init ! 12 refl (tt, record { fits = g₄ })) $
+      assigns ! (of-opd ! (lit ! tt)) (from ! (stop !)) (init ! 10 refl (tt, record { fits = lit< tt })) $
+      move ! (29 ∷ []) $ fsplit ! $ move ! (1 ∷ []) $ fsplit ! $ drop ! $ fsplit ! $ drop ! $ fsplit ! $ drop ! $ fsplit ! $ drop ! $ fsplit ! $
+      -- [what the buffer owns; …; what the rules own; _13; …; … ; room for _0; …; the tokens]
+      move ! (31 ∷ []) $ split ! $ move ! (1 ∷ []) $ split ! $ move ! (2 ∷ 1 ∷ []) $ join ! $
+      keep ! (0 ∷ 4 ∷ 1 ∷ 2 ∷ 5 ∷ 6 ∷ 7 ∷ 8 ∷ 9 ∷ 10 ∷ 11 ∷ 12 ∷ 13 ∷ 14 ∷ 15 ∷ 16 ∷ 17 ∷ 18 ∷ 19 ∷ 20 ∷ 21 ∷ 22 ∷ 23 ∷ 24 ∷ 25 ∷ 26 ∷ 27 ∷ 28 ∷ 29 ∷ 30 ∷ 31
+      ∷ 32 ∷ []) $
+      first ! $ blocks ! $ loops ! 𝓣 Nearer Nearer-wf (At 𝓣 known-at known-gather l₀ l₁ l₂ l₃ l₄ l₅ l₆ l₇ l₈ l₉ l₁₀ l₁₁ l₁₂ l₁₃)
+      (λ j. turn 𝓣 known-at known-gather l₀ l₁ l₂ l₃ l₄ l₅ l₆ l₇ l₈ l₉ l₁₀ l₁₁ l₁₂ l₁₃ j (ltb (j .0) n) refl)
+      (0, (p₄, (ys, gathered-none rs p₁ p₂ p₃ p₄ ys)))))))))))))))))
 
 module _ {M : Type 1} (𝓤 : URA M) (H : Heap 𝓤) (A : Atoms 𝓤) (W : Given 𝓤 H A) (mem : Memory → SProp 𝓤) (run : Routine → Fun 𝓤) (𝓣 : Tables 𝓤 H)
     (known-at : Triple 𝓤 (𝓣 .C #rule_list·rule-at) (RuleAt 𝓤 H A mem run)) (known-gather : Triple 𝓤 (𝓣 .C #moves·gather) (Gather 𝓤 H A mem run)) where
   moves-of-walks : Walks 𝓤 H A moves-of.ended stayed (WpFn 𝓤 H (𝓣 .C) (𝓣 .Λ) code.function) (moves-of.clauses 𝓤 H A mem run)
   moves-of-walks = walked 𝓤 H A moves-of.ended stayed (moves-of.clauses 𝓤 H A mem run) (WpFn 𝓤 H (𝓣 .C) (𝓣 .Λ) code.function)
-      (λ κs. (slice-vals, (uint-vals w8, (uint-vals w8, (uint-vals w32, (slice-vals, tt)))))) (λ κs. (shr-slice-tells (named 0) (κs .0) T.the-row, (uint-tells w8, (uint-tells w8, (uint-tells w32, (mut-slice-tells (named 1) (κs .1 .0) u16, tt))))))
-      (λ κs qs bounds a g are. needs 𝓤 _ _ (λ asks. walk 𝓤 H A W mem run (κs .0) (κs .1 .0) (qs .0) (qs .1 .0) (a .0) (a .1 .0) (a .1 .1 .0) (a .1 .1 .1 .0) (a .1 .1 .1 .1 .0 .ptr .0) (a .1 .1 .1 .1 .0 .ptr .1) (a .1 .1 .1 .1 .0 .name) (a .1 .1 .1 .1 .0 .now)
-      (are .0 .0 .1) (are .1 .0 .1) (are .1 .1 .0 .1) (are .1 .1 .1 .0 .1) (are .1 .1 .1 .1 .0 .0 .1) (asks .0) (asks .1) 𝓣 known-at known-gather))
+      (λ κs. (slice-vals, (uint-vals w8, (uint-vals w8, (uint-vals w32, (uint-vals w64, (slice-vals, tt)))))))
+      (λ κs. (
+        shr-slice-tells (named 0) (κs .0) T.the-row,
+        (uint-tells w8, (uint-tells w8, (uint-tells w32, (uint-tells w64, (mut-slice-tells (named 1) (κs .1 .0) u16, tt))))),
+      ))
+      (λ κs qs bounds a g are. needs 𝓤 _ _ (λ asks. walk 𝓤 H A W mem run (κs .0) (κs .1 .0) (qs .0) (qs .1 .0) (a .0) (a .1 .0) (a .1 .1 .0) (a .1 .1 .1 .0)
+      (a .1 .1 .1 .1 .0) (a .1 .1 .1 .1 .1 .0 .ptr .0) (a .1 .1 .1 .1 .1 .0 .ptr .1) (a .1 .1 .1 .1 .1 .0 .name) (a .1 .1 .1 .1 .1 .0 .now)
+      (are .0 .0 .1) (are .1 .0 .1) (are .1 .1 .0 .1) (are .1 .1 .1 .0 .1) (are .1 .1 .1 .1 .0 .1) (are .1 .1 .1 .1 .1 .0 .0 .1) (asks .0) (asks .1 .0)
+      (asks .1 .1) 𝓣 known-at known-gather))
 
   moves-of-meets : Meets 𝓤 H A moves-of.signature (WpFn 𝓤 H (𝓣 .C) (𝓣 .Λ) code.function) (moves-of.spec 𝓤 H A mem run)
-  moves-of-meets = walk-meets 𝓤 H A moves-of.ended stayed W (goes-dropped 𝓤 H A W 2 lent yes (λ κs x f. refl), (goes-dropped 𝓤 H A W 2 num8 yes (λ κs x f. refl), (goes-dropped 𝓤 H A W 2 num8 yes (λ κs x f. refl), (goes-dropped 𝓤 H A W 2 num32 yes (λ κs x f. refl), (goes-slice 𝓤 H A W 2 1 tt (plain (λ _. u16)), tt)))))
+  moves-of-meets = walk-meets 𝓤 H A moves-of.ended stayed W (
+    goes-dropped 𝓤 H A W 2 lent yes (λ κs x f. refl),
+    (
+      goes-dropped 𝓤 H A W 2 num8 yes (λ κs x f. refl),
+      (
+        goes-dropped 𝓤 H A W 2 num8 yes (λ κs x f. refl),
+        (
+          goes-dropped 𝓤 H A W 2 num32 yes (λ κs x f. refl),
+          (goes-dropped 𝓤 H A W 2 num64 yes (λ κs x f. refl), (goes-slice 𝓤 H A W 2 1 tt (plain (λ _. u16)), tt)),
+        ),
+      ),
+    ),
+  )
       (moves-of.clauses 𝓤 H A mem run) (WpFn 𝓤 H (𝓣 .C) (𝓣 .Λ) code.function) (WpFn-mono 𝓤 H (W .laws) 𝓣 code.function) moves-of-walks
 
 pub moves-of-spec : {M : Type 1} → stated.statement M
