@@ -2,31 +2,24 @@
 use mathlib.Core.Path.{_≡_, refl, sym, _∙_}
 use mathlib.Core.Logic.{dite, _⊎_, inl, inr, ⊎-elim}
 use mathlib.Core.Bool.{Bool, true, false, _||_, true≢false}
-use Prim.Native.Nat.{ℕ, _+_, _*_, _/_, _≤_, _<_}
+use Prim.Native.Nat.{ℕ, _+_, _<_}
 use native.Mathlib.Decide.{ℕ-discrete}
 use native.Mathlib.Omega.{arith}
 use borrow.Author.Tests.{eq-eqb, ne-eqb, eqb-true}
 use lib.Dec.{eqb}
 use mathlib.Core.List.{List}
-use lib.ListN.{length, take}
-use lib.Seq.{getD-take, length-take-le}
-use Rattle.level.specs.Moves.{Moves, Sound, movesIn, moveFrom, moveAt}
+use Rattle.level.specs.Moves.{Moves, Sound, movesIn, moveAt}
 use Rattle.level.specs.Terms.{MoveOf}
 use Rattle.level.specs.declared.Move.{Move}
 use Rattle.frames.specs.declared.Rule.{Rule}
 use Rattle.frames.specs.declared.Rules.{Rules}
 use Rattle.gate.proofs.PassedLaws.{and-both}
 use Rattle.sets.specs.Sets.{member}
-use Rattle.level.proofs.MoveLaws.{move-same}
-use Rattle.level.specs.Chosen.{GoodRules, MovesOf, MovePut, Gathered, chosenIn, ruleAt}
+use Rattle.level.specs.Chosen.{GoodRules, MovesOf, MovePut, chosenIn, ruleAt}
 
 -- The first k moves of a buffer.
 abbrev pub firstMoves : ℕ → List ℕ → Moves
 firstMoves k xs = record { count = k; numbers = xs }
-
--- Before the first rule there are no moves.
-pub moves-none : (rs : Rules) (one two : ℕ) (roles : ℕ) (xs : List ℕ) → MovesOf rs one two roles (firstMoves 0 xs) 0
-moves-none rs one two roles xs = record { fits = omega arith; few = omega arith; each = λ k l. absurd (omega arith); every = λ j l. absurd (omega arith) }
 
 module _ {rs : Rules} {one two : ℕ} {roles : ℕ} {n : ℕ} {xs : List ℕ} {i : ℕ} (w : MovesOf rs one two roles (firstMoves n xs) i) (h : i < rs .count) where
   -- A chosen rule gives one move more.
@@ -55,29 +48,6 @@ module _ {rs : Rules} {one two : ℕ} {roles : ℕ} {n : ℕ} {xs : List ℕ} {i
 -- The moves that a part of a buffer writes are sound.
 pub moves-sound : {rs : Rules} {one two : ℕ} {roles : ℕ} {xs : List ℕ} → GoodRules rs → MovesOf rs one two roles (movesIn xs) (rs .count) → Sound (movesIn xs)
 moves-sound g w = record { few = omega (arith, w .few, g .few); room = omega arith; fine = λ k l. w .each k l .3 .fine }
-
--- The front of a buffer writes its first moves.
-front-same : (n : ℕ) (xs : List ℕ) (i : ℕ) → i < n → moveFrom (take (14 * n) xs) (14 * i) ≡ moveFrom xs (14 * i)
-front-same n xs i h = move-same (take (14 * n) xs) xs (14 * i) (14 * i) (λ j l. getD-take (14 * n) xs (14 * i + j) 0 (omega arith))
-
--- After the last rule.
-pub moves-all : {rs : Rules} {one two : ℕ} {roles : ℕ} {n : ℕ} {xs : List ℕ} {i : ℕ} → MovesOf rs one two roles (firstMoves n xs) i → GoodRules rs → rs .count ≤ i → length xs ≡ 7168
-    → Gathered rs one two roles n xs
-unfolding moveAt
-moves-all {rs} {one} {two} {roles} {n} {xs} {i} w g h room =
-    let last : i ≡ rs .count = omega (arith, w .fits) in
-    let size : length (take (14 * n) xs) ≡ 14 * n = length-take-le (14 * n) xs (omega (arith, w .few, w .fits, g .few)) in
-    let count : length (take (14 * n) xs) / 14 ≡ n = omega (arith, size) in
-    record {
-      few = omega (arith, w .few, w .fits, g .few);
-      size = room;
-      moves = record {
-        fits = omega arith;
-        few = omega (arith, count, w .few);
-        each = λ k l. let l′ : k < n = omega (arith, count) in let (j, lj, ej, oj) = w .each k l′ in (j, omega arith, ej, rw (front-same n xs k l′) oj);
-        every = λ j l f. let (k, lk, ok) = w .every j (omega arith) f in (k, omega (arith, count), rw (front-same n xs k lk) ok);
-      };
-    }
 
 module _ (one two : ℕ) (roles : ℕ) (r : Rule) where
   -- A rule of the first op is chosen by its role.

@@ -4,8 +4,8 @@ use mathlib.Core.Bool.{Bool, true, _&&_, _||_}
 use mathlib.Core.List.{List, []}
 use Prim.Native.Nat.{ℕ, _*_, _≤_, _<_}
 use lib.Dec.{eqb}
-use lib.ListN.{length, getD, take}
-use Rattle.level.specs.Moves.{Moves, moveFrom, movesIn, moveAt}
+use lib.ListN.{length, getD}
+use Rattle.level.specs.Moves.{Moves, moveFrom, moveAt}
 use Rattle.level.specs.Terms.{GoodRule, MoveOf}
 use Rattle.level.specs.declared.Move.{Move}
 use Rattle.frames.specs.declared.Rule.{Rule}
@@ -46,9 +46,3 @@ pub record MovesOf (rs : Rules) (one two : ℕ) (roles : ℕ) (ms : Moves) (i : 
   pub few : ms .count ≤ i
   pub each : (k : ℕ) → k < ms .count → (j : ℕ) × (j < i) × (chosenIn one two roles (ruleAt rs j) ≡ true) × MoveOf (ruleAt rs j) (moveAt ms k)
   pub every : (j : ℕ) → j < i → chosenIn one two roles (ruleAt rs j) ≡ true → (k : ℕ) × (k < ms .count) × MoveOf (ruleAt rs j) (moveAt ms k)
-
--- The moves of the chosen rules stand in the front of a buffer.
-pub record Gathered (rs : Rules) (one two : ℕ) (roles : ℕ) (n : ℕ) (buffer : List ℕ) : Type 0 where
-  pub few : n ≤ 512
-  pub size : length buffer ≡ 7168
-  pub moves : MovesOf rs one two roles (movesIn (take (14 * n) buffer)) (rs .count)

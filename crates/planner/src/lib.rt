@@ -334,17 +334,19 @@ fn search(b: Book, up: &mut [u8], down: &mut [u8]) -> Outcome
 {
     let roles = b.query.roles;
     let rules = b.rules;
-    let mut gains = [0u16; 7168];
-    let mut losses = [0u16; 7168];
-    let mut adds = [0u16; 7168];
-    let mut dels = [0u16; 7168];
-    let n = moves::moves_listed(rules, roles, &mut gains, &mut losses, &mut adds, &mut dels);
+    let mut buffer = [0u16; 7168];
+    let n = moves::moves_listed(rules, roles, &mut buffer);
+    let ms: &[u16] = &buffer;
+    let gains = 14 * n.gains;
+    let losses = 14 * n.losses;
+    let adds = 14 * n.adds;
+    let dels = 14 * n.dels;
     all_levels(
         b,
-        &gains[..14 * n.gains],
-        &losses[..14 * n.losses],
-        &adds[..14 * n.adds],
-        &dels[..14 * n.dels],
+        &ms[..gains],
+        &ms[gains..losses],
+        &ms[losses..adds],
+        &ms[adds..dels],
         up,
         down,
     )

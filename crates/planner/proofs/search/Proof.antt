@@ -1,109 +1,99 @@
--- `planner::search` meets its contract: the moves of all four sides, then the levels. Assumes nothing.
+-- `planner::search` meets its contract: the moves of all four sides in one buffer, then the levels with a part of it for each side.
+-- Assumes nothing.
 use mathlib.Core.Path.{refl, sym}
-use mathlib.Core.List.{List}
-use Prim.Native.Nat.{ℕ, _≤_, _*_}
 use native.Mathlib.Omega.{arith}
-use lib.ListN.{length, length-map}
+use lib.ListN.{length-map}
 use lib.Seq.{length-take-le}
-use Rattle.frames.specs.declared.Rules.{Rules}
-use Rattle.level.specs.Chosen.{Gathered}
 use Rattle.planner.proofs.StepLaws.{book-good, side-moves}
 use borrow.Author.Needs.{needs}
 use Rattle.planner.proofs.search.Statement.{statement}
 use Rattle.planner.proofs.search.Tie as tie
 
--- The moves written fit their buffer.
-moves-fit : {rs : Rules} {one two roles n : ℕ} {buffer : List ℕ} → Gathered rs one two roles n buffer → 14 * n ≤ length buffer
-moves-fit g = omega (arith, g .few, g .size)
-
 -- The places that the answers name, each seen from a later one.
-abbrev start : tie.After-dels → tie.Start
-start c = c .before .before .before .before .before .before .before
+abbrev start : tie.After-buffer → tie.Start
+start c = c .before .before .before .before
 
-abbrev after-moves-listed : tie.After-struct-known → tie.After-moves-listed
-after-moves-listed c = c .before .before .before .before .before
+abbrev after-moves-listed : tie.After-all-levels-arg → tie.After-moves-listed
+after-moves-listed c = c .before .before .before .before .before .before .before
 
-abbrev after-moves-listed-from-losses3 : tie.After-losses3 → tie.After-moves-listed
-after-moves-listed-from-losses3 c = c .before .before .before .before .before .before .before .before
-
-abbrev after-moves-listed-from-struct-known4 : tie.After-struct-known4 → tie.After-moves-listed
-after-moves-listed-from-struct-known4 c = c .before .before .before .before .before .before .before .before .before .before .before
+abbrev after-moves-listed-from-all-levels-arg6 : tie.After-all-levels-arg6 → tie.After-moves-listed
+after-moves-listed-from-all-levels-arg6 c =
+    c .before .before .before .before .before .before .before .before .before .before .before .before
 
 slice-aggregate-moves-listed : tie.Need-slice-aggregate-moves-listed
 slice-aggregate-moves-listed c = search needs
 
-slice-aggregate-moves-listed-2 : tie.Need-slice-aggregate-moves-listed-2
-slice-aggregate-moves-listed-2 c = search needs
-
-slice-aggregate-moves-listed-3 : tie.Need-slice-aggregate-moves-listed-3
-slice-aggregate-moves-listed-3 c = search needs
-
-slice-aggregate-moves-listed-4 : tie.Need-slice-aggregate-moves-listed-4
-slice-aggregate-moves-listed-4 c = search needs
-
 moves-listed-requires : tie.Need-moves-listed-requires
 moves-listed-requires c κs = (
   book-good (start c .args .b) (start c .pre .0) (simp length-map at (start c .good .0 .1 .1 .1 .1 .0 .1 .1 .1 .0 .1 .0 .1)),
-  (refl, (refl, (refl, refl))),
+  refl,
 )
 
-mul-gains : tie.Need-mul-gains
-mul-gains c = omega (arith, after-moves-listed c .moves-listed .ensures .crew-more .few)
+slice-aggregate-ms : tie.Need-slice-aggregate-ms
+slice-aggregate-ms c = search needs
 
-array-share-prefix-gains : tie.Need-array-share-prefix-gains
-array-share-prefix-gains c = moves-fit (after-moves-listed c .moves-listed .ensures .crew-more)
+mul-gains : tie.Need-mul-gains
+mul-gains c = search needs
+
+mul-losses : tie.Need-mul-losses
+mul-losses c = search needs
+
+mul-adds : tie.Need-mul-adds
+mul-adds c = search needs
+
+mul-dels : tie.Need-mul-dels
+mul-dels c = search needs
 
 slice-aggregate-all-levels : tie.Need-slice-aggregate-all-levels
 slice-aggregate-all-levels c =
-    sym (length-take-le _ _ (moves-fit (after-moves-listed (c .before) .moves-listed .ensures .crew-more)))
+    let sides = after-moves-listed c .moves-listed .ensures in
+    sym (length-take-le _ _ (omega (arith, sides .size, sides .rises)))
 
-mul-losses : tie.Need-mul-losses
-mul-losses c = omega (arith, after-moves-listed (c .before .before) .moves-listed .ensures .crew-less .few)
+mul-all-levels : tie.Need-mul-all-levels
+mul-all-levels c = search needs
 
-array-share-prefix-losses : tie.Need-array-share-prefix-losses
-array-share-prefix-losses c = moves-fit (after-moves-listed (c .before .before) .moves-listed .ensures .crew-less)
+sub-all-levels : tie.Need-sub-all-levels
+sub-all-levels c = search needs
 
-slice-aggregate-all-levels-2 : tie.Need-slice-aggregate-all-levels-2
-slice-aggregate-all-levels-2 c =
-    sym (length-take-le _ _ (moves-fit (after-moves-listed-from-losses3 c .moves-listed .ensures .crew-less)))
+part-all-levels-start : tie.Need-part-all-levels-start
+part-all-levels-start c = search needs
 
-mul-adds : tie.Need-mul-adds
-mul-adds c = omega (arith, after-moves-listed-from-losses3 (c .before) .moves-listed .ensures .more .few)
+part-all-levels-end : tie.Need-part-all-levels-end
+part-all-levels-end c = search needs
 
-array-share-prefix-adds : tie.Need-array-share-prefix-adds
-array-share-prefix-adds c = moves-fit (after-moves-listed-from-losses3 (c .before) .moves-listed .ensures .more)
+mul-all-levels-2 : tie.Need-mul-all-levels-2
+mul-all-levels-2 c = search needs
 
-slice-aggregate-all-levels-3 : tie.Need-slice-aggregate-all-levels-3
-slice-aggregate-all-levels-3 c =
-    sym (length-take-le _ _ (moves-fit (after-moves-listed-from-losses3 (c .before .before) .moves-listed .ensures .more)))
+sub-all-levels-2 : tie.Need-sub-all-levels-2
+sub-all-levels-2 c = search needs
 
-mul-dels : tie.Need-mul-dels
-mul-dels c = omega (arith, after-moves-listed-from-struct-known4 c .moves-listed .ensures .less .few)
+part-all-levels-start-2 : tie.Need-part-all-levels-start-2
+part-all-levels-start-2 c = search needs
 
-array-share-prefix-dels : tie.Need-array-share-prefix-dels
-array-share-prefix-dels c = moves-fit (after-moves-listed-from-struct-known4 c .moves-listed .ensures .less)
+part-all-levels-end-2 : tie.Need-part-all-levels-end-2
+part-all-levels-end-2 c = search needs
 
-slice-aggregate-all-levels-4 : tie.Need-slice-aggregate-all-levels-4
-slice-aggregate-all-levels-4 c =
-    sym (length-take-le _ _ (moves-fit (after-moves-listed-from-struct-known4 (c .before) .moves-listed .ensures .less)))
+mul-all-levels-3 : tie.Need-mul-all-levels-3
+mul-all-levels-3 c = search needs
+
+sub-all-levels-3 : tie.Need-sub-all-levels-3
+sub-all-levels-3 c = search needs
+
+part-all-levels-start-3 : tie.Need-part-all-levels-start-3
+part-all-levels-start-3 c = search needs
+
+part-all-levels-end-3 : tie.Need-part-all-levels-end-3
+part-all-levels-end-3 c = search needs
 
 all-levels-requires : tie.Need-all-levels-requires
 all-levels-requires c κs =
-    let at-moves-listed = after-moves-listed-from-struct-known4 (c .before .before .before) in
-    let at-start = start (at-moves-listed .before) in (
-      (
-        at-start .pre .0,
-        (
-          side-moves (at-start .args .b) (at-start .pre .0)
-              (simp length-map at (at-start .good .0 .1 .1 .1 .1 .0 .1 .1 .1 .0 .1 .0 .1))
-              (at-moves-listed .moves-listed .ensures .crew-more .moves) (at-moves-listed .moves-listed .ensures .crew-less .moves),
-          side-moves (at-start .args .b) (at-start .pre .0)
-              (simp length-map at (at-start .good .0 .1 .1 .1 .1 .0 .1 .1 .1 .0 .1 .0 .1))
-              (at-moves-listed .moves-listed .ensures .more .moves) (at-moves-listed .moves-listed .ensures .less .moves),
-        ),
-      ),
-      (at-start .pre .1 .0, at-start .pre .1 .1),
-    )
+    let sides = after-moves-listed-from-all-levels-arg6 c .moves-listed .ensures in
+    let at-start = start (after-moves-listed-from-all-levels-arg6 c .before) in
+    let pre = at-start .pre in
+    let room = simp length-map at (at-start .good .0 .1 .1 .1 .1 .0 .1 .1 .1 .0 .1 .0 .1) in
+    let crews = side-moves (at-start .args .b) (pre .0) room (sides .crew-more) (sides .crew-less) in
+    let person = side-moves (at-start .args .b) (pre .0) room (sides .more) (sides .less) in
+    ((pre .0, (crews, person)), (pre .1 .0, pre .1 .1))
 
 same-length : tie.Need-same-length
 same-length c = search needs
@@ -119,22 +109,25 @@ search-spec =
     tie.close
     (tie.spec
     slice-aggregate-moves-listed
-    slice-aggregate-moves-listed-2
-    slice-aggregate-moves-listed-3
-    slice-aggregate-moves-listed-4
     moves-listed-requires
+    slice-aggregate-ms
     mul-gains
-    array-share-prefix-gains
-    slice-aggregate-all-levels
     mul-losses
-    array-share-prefix-losses
-    slice-aggregate-all-levels-2
     mul-adds
-    array-share-prefix-adds
-    slice-aggregate-all-levels-3
     mul-dels
-    array-share-prefix-dels
-    slice-aggregate-all-levels-4
+    slice-aggregate-all-levels
+    mul-all-levels
+    sub-all-levels
+    part-all-levels-start
+    part-all-levels-end
+    mul-all-levels-2
+    sub-all-levels-2
+    part-all-levels-start-2
+    part-all-levels-end-2
+    mul-all-levels-3
+    sub-all-levels-3
+    part-all-levels-start-3
+    part-all-levels-end-3
     all-levels-requires
     same-length
     same-length-2
