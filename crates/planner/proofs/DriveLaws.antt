@@ -38,7 +38,6 @@ use Rattle.reach.proofs.DepotLaws.{depot, levels}
 use Rattle.flags.specs.Flags as flags
 use Rattle.planner.proofs.Tables.{CrewTable, PersonTable}
 use Rattle.planner.specs.Drive.{starts, Rows, Driving}
-use Rattle.planner.specs.Scan.{Apart}
 use Rattle.planner.proofs.TermBridge.{crew-effective, lower-holds}
 
 -- What is shown behind the direct facts is what is effective.
@@ -47,11 +46,6 @@ unfolding shown effective
 shown-at T S f = let e : 160 + f - 160 ≡ f = omega arith in rw (le-ltb (160 + f) 160 (omega arith), e) refl
 
 -- ---------------------------------------------------------------- numbers that are no crew's
-
--- Memberships have their numbers from 128 on.
-pub shifted : (d c : ℕ) → eqb (128 + d) (128 + c) ≡ eqb c d
-shifted d c = dite (ℕ-discrete c d) (λ (e : c ≡ d). rw e (eq-eqb (128 + d) (128 + d) refl ∙ sym (eq-eqb d d refl)))
-    (λ (e : c ≡ d → ⊥). ne-eqb (128 + d) (128 + c) (λ q. e (omega arith)) ∙ sym (ne-eqb c d e))
 
 module _ (b : Contents) (ok : Admitted b) where
   no-juniors : (c j : ℕ) → b .sizes .crews ≤ c → isJunior (b .juniors) c j ≡ false
@@ -74,9 +68,6 @@ module _ (b : Contents) (ok : Admitted b) where
       (λ e. let w = any-cases (λ j. isJunior (b .juniors) c j && downward (b .juniors) (λ x. eqb x d) j) c e in
       true≢false (sym (and-both (isJunior (b .juniors) c (w .0)) (downward (b .juniors) (λ x. eqb x d) (w .0)) (w .1 .1) .0) ∙ no-juniors c (w .0) far)))
       ∙ or-false (eqb c d)
-
-  pub crews-apart : Apart (b .juniors) (b .sizes .crews)
-  crews-apart = record { alone = reach-none }
 
   -- ---------------------------------------------------------------- the first level
 
@@ -119,6 +110,10 @@ module _ (b : Contents) (ok : Admitted b) where
     where
       far : (c : ℕ) → (c < b .sizes .crews → c < 0) → b .sizes .crews ≤ c
       far c low = dite (decLt c (b .sizes .crews)) (λ (h : c < b .sizes .crews). absurd (omega (arith, low h))) (λ (h : c < b .sizes .crews → ⊥). omega arith)
+
+      shifted : (d c : ℕ) → eqb (128 + d) (128 + c) ≡ eqb c d
+      shifted d c = dite (ℕ-discrete c d) (λ (e : c ≡ d). rw e (eq-eqb (128 + d) (128 + d) refl ∙ sym (eq-eqb d d refl)))
+          (λ (e : c ≡ d → ⊥). ne-eqb (128 + d) (128 + c) (λ q. e (omega arith)) ∙ sym (ne-eqb c d e))
 
       within-all : starts b ⊆ allFacts
       within-all g e = starts-low g e

@@ -5,7 +5,7 @@ use mathlib.Core.Bool.{Bool, true, false, not, _&&_, _||_}
 use mathlib.Core.List.{List, map, _++_}
 use Prim.Native.Nat.{ℕ, _+_, _*_, _-_, _≤_, _<_}
 use native.Mathlib.Numerals.{add-one}
-use native.Mathlib.Decide.{ℕ-discrete, decLt}
+use native.Mathlib.Decide.{ℕ-discrete}
 use native.Mathlib.Omega.{arith}
 use lib.Dec.{eqb}
 use borrow.Author.Tests.{not-true, not-false}
@@ -29,10 +29,10 @@ use Rattle.reach.specs.Tracked.{personLevel}
 use Rattle.reach.proofs.DepotLaws.{depot}
 use Rattle.flags.specs.Flags as flags
 use Rattle.planner.specs.Drive.{Driving}
-use Rattle.planner.specs.Scan.{SideMoves, AllAllowed, BlankTable, Apart, Scanned, Searched}
+use Rattle.planner.specs.Scan.{SideMoves, AllAllowed, BlankTable, Scanned, Searched}
 use Rattle.planner.proofs.WithinLaws.{within, all-good}
 use Rattle.planner.proofs.SubjectLaws.{crew-level, crew-terms, crew-adds, crew-dels, person-level, person-terms, person-adds, person-dels}
-use Rattle.planner.proofs.DriveLaws.{Handed, shifted, crew-table, person-table, rows-next, drive-stuck, drive-next, drive-best, up-next, down-next}
+use Rattle.planner.proofs.DriveLaws.{Handed, crew-table, person-table, rows-next, drive-stuck, drive-next, drive-best, up-next, down-next}
 
 -- What is told by the negation.
 pub no-found : (x : Bool) → not x ≡ true → x ≡ false
@@ -171,19 +171,13 @@ module _ (bk : Book) (ok : Admitted (contentsOf bk)) where
 
 -- ---------------------------------------------------------------- which crews each crew reaches
 
--- The rows of the crews below k say which crews they reach; the others have the crew itself and nothing else.
+-- The rows of the crews below k say which crews they reach.
 pub record ReachSoFar (js : List ℕ) (k : ℕ) (rows : List Bool) : Type 0 where
   pub size : length rows ≡ 5120
   pub at : (c d : ℕ) → c < k → d < 32 → getD rows (160 * c + (128 + d)) false ≡ downward js (λ x. eqb x d) c
-  pub rest : (c d : ℕ) → k ≤ c → c < 32 → d < 32 → getD rows (160 * c + (128 + d)) false ≡ eqb c d
 
 pub reach-first : (js : List ℕ) {rows : List Bool} → flags.FirstRows rows → ReachSoFar js 0 rows
-reach-first js first =
-    record {
-      size = first .size;
-      at = λ c d l h. absurd (omega arith);
-      rest = λ c d l m h. first .at c m (128 + d) (omega arith) ∙ shifted d c;
-    }
+reach-first js first = record { size = first .size; at = λ c d l h. absurd (omega arith) }
 
 pub reach-next : {js : List ℕ} {k : ℕ} {x rows rows′ : List Bool} → ReachSoFar js k rows → flags.FilledRow js k x rows rows′ → ReachSoFar js (k + 1) rows′
 reach-next {js} {k} {x} {rows} {rows′} so-far filled =
@@ -197,13 +191,7 @@ reach-next {js} {k} {x} {rows} {rows′} so-far filled =
           (any-same (λ j. isJunior js k j && downward js (λ y. eqb y d) j) (λ j. isJunior js k j && getD rows (160 * j + (128 + d)) false) k
           (λ j m. ap (λ (y : Bool). isJunior js k j && y) (sym (so-far .at j d m h)))))))
           (λ (other : c ≡ k → ⊥). filled .below (160 * c + (128 + d)) (omega arith) ∙ so-far .at c d (omega arith) h);
-      rest = λ c d l m h. filled .above (160 * c + (128 + d)) (omega arith) ∙ so-far .rest c d (omega arith) m h;
     }
 
-pub reach-all : {js : List ℕ} {k n : ℕ} {rows : List Bool} → ReachSoFar js k rows → n ≤ k → Apart js n → flags.Reaching js rows
-reach-all {js} {k} so-far h apart =
-    record {
-      at = λ c l d m. dite (decLt c k)
-          (λ (low : c < k). so-far .at c d low m)
-          (λ (high : c < k → ⊥). so-far .rest c d (omega arith) l m ∙ sym (apart .alone d c (omega arith)));
-    }
+pub reach-all : {js : List ℕ} {k : ℕ} {rows : List Bool} → ReachSoFar js k rows → 32 ≤ k → flags.Reaching js rows
+reach-all so-far h = record { at = λ d l c m. so-far .at d c (omega arith) m }

@@ -3,11 +3,9 @@ use mathlib.Core.Path.{_≡_}
 use mathlib.Core.Bool.{Bool, true, false}
 use mathlib.Core.List.{List, map}
 use Prim.Native.Nat.{ℕ, _-_, _<_, _≤_}
-use lib.Dec.{eqb}
 use lib.ListN.{length, getD}
 use Rattle.frames.specs.declared.Book.{Book}
 use Rattle.frames.specs.Book.{Contents}
-use Rattle.inherit.specs.Inheritance.{downward}
 use Rattle.theory.specs.Facts.{Clear}
 use Rattle.theory.specs.Plan.{Ask, Req, Runs, end, Best}
 use Rattle.level.specs.Moves.{Moves, Sound}
@@ -39,10 +37,6 @@ pub record AllAllowed (u : List Bool) : Type 0 where
 pub record BlankTable (table : List Bool) : Type 0 where
   pub size : length table ≡ 5280
   pub blank : (j : ℕ) → j < 5120 → getD table j false ≡ false
-
--- From crew n on a crew reaches itself alone.
-pub record Apart (js : List ℕ) (n : ℕ) : Type 0 where
-  pub alone : (d c : ℕ) → n ≤ c → downward js (λ x. eqb x d) c ≡ eqb c d
 
 -- The levels below k are settled, or no run ends clear.
 pub record Scanned (b : Contents) (k : ℕ) (rows : List Bool) (up down : List ℕ) (found : Bool) (ups at : ℕ) : Type 0 where

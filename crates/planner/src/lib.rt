@@ -15,7 +15,7 @@ ghost use Rattle.level.specs.Moves.{movesIn};
 ghost use Rattle.planner.specs.Count.{factCount};
 ghost use Rattle.planner.specs.Answer.{refusalNumber, refusalLine, Answered, PlanPromise};
 ghost use Rattle.planner.specs.Drive.{Driving, drafted};
-ghost use Rattle.planner.specs.Scan.{SideMoves, AllAllowed, BlankTable, Apart, Scanned, Searched};
+ghost use Rattle.planner.specs.Scan.{SideMoves, AllAllowed, BlankTable, Scanned, Searched};
 use frames::Book;
 use gate::Sizes;
 use level::Outcome;
@@ -135,16 +135,16 @@ fn crew_level(
     r
 }
 
-// Which crews each crew reaches downwards. From crew n on a crew reaches only itself.
-fn fill_reach(juniors: &[u32], n: u8, reach: &mut [bool])
-    requires { ⌜ (length (now juniors) ≡ 32) × ((length (now reach) ≡ 5120) × ((n ≤ 32) × Apart (now juniors) n)) ⌝ }
+// Which crews each crew reaches downwards.
+fn fill_reach(juniors: &[u32], reach: &mut [bool])
+    requires { ⌜ (length (now juniors) ≡ 32) × (length (now reach) ≡ 5120) ⌝ }
     ensures { λ _. ⌜ (length (now (reach .exit)) ≡ 5120) × Reaching (now (juniors .entry)) (now (reach .exit)) ⌝ }
 {
     let x = [false; 320];
     let mut table = [false; 5280];
     flags::first_rows(reach);
     let mut k: u8 = 0;
-    while k < n {
+    while k < 32 {
         flags::crew_table(juniors, k, reach, &mut table);
         flags::fill_row(&table, k, &x, reach);
         k += 1;
@@ -285,7 +285,7 @@ fn all_levels(
     let mut table = [false; 5280];
     let mut added = [512u16; 160];
     let mut deleted = [512u16; 160];
-    fill_reach(&juniors, b.sizes.crews, &mut reach);
+    fill_reach(&juniors, &mut reach);
     flags::first_rows(&mut rows);
     let r = crew_levels(
         b,

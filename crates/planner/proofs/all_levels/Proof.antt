@@ -7,7 +7,7 @@ use native.Mathlib.Omega.{arith}
 use lib.ListN.{getD-replicate}
 use Rattle.frames.specs.Book.{Contents, contentsOf}
 use Rattle.planner.specs.Scan.{NoRun, Searched}
-use Rattle.planner.proofs.DriveLaws.{drive-first, crews-apart}
+use Rattle.planner.proofs.DriveLaws.{drive-first}
 use Rattle.planner.proofs.StepLaws.{no-found, was-found}
 use borrow.Author.Needs.{needs}
 use Rattle.planner.proofs.all_levels.Statement.{statement}
@@ -68,9 +68,7 @@ slice-aggregate-fill-reach-2 c = refl
 
 fill-reach-requires : tie.Need-fill-reach-requires
 unfolding contentsOf
-fill-reach-requires c κs =
-    let ok = entry c .pre .0 .0 in
-    (ok .edge-room, (refl, (ok .sized .crews-most, crews-apart (contentsOf (entry c .args .b)) ok)))
+fill-reach-requires c κs = (entry c .pre .0 .0 .edge-room, refl)
 
 slice-aggregate-first-rows : tie.Need-slice-aggregate-first-rows
 slice-aggregate-first-rows c = refl

@@ -1,5 +1,4 @@
--- `planner::fill_reach` meets its contract: row by row, from the crews below; the rows of crews that the book does not have
--- are right from the first. Assumes nothing.
+-- `planner::fill_reach` meets its contract: row by row, from the crews below. Assumes nothing.
 use mathlib.Core.Path.{_≡_, refl, sym, _∙_}
 use Prim.Native.Nat.{_-_, _≤_}
 use native.Mathlib.Omega.{arith}
@@ -11,10 +10,10 @@ use Rattle.planner.proofs.fill_reach.Statement.{statement}
 use Rattle.planner.proofs.fill_reach.Tie as tie
 
 abbrev Inv-loop : tie.InvT-loop
-Inv-loop juniors n reach₀ x table₀ k₀ reach table k = (k ≤ n) × (ReachSoFar juniors k reach × (length table ≡ 5280))
+Inv-loop juniors reach₀ x table₀ k₀ reach table k = (k ≤ 32) × (ReachSoFar juniors k reach × (length table ≡ 5280))
 
 abbrev μ-loop : tie.MeasureT-loop
-μ-loop juniors n reach₀ x table₀ k₀ reach table k = n - k
+μ-loop juniors reach₀ x table₀ k₀ reach table k = 32 - k
 
 -- The places that the answers name, each seen from a later one.
 abbrev start : tie.At-loop Inv-loop μ-loop → tie.Start Inv-loop μ-loop
@@ -27,7 +26,7 @@ abbrev after-crew-table : tie.After-fill-row-arg Inv-loop μ-loop → tie.After-
 after-crew-table c = c .before .before .before .before
 
 first-rows-requires : tie.Need-first-rows-requires Inv-loop μ-loop
-first-rows-requires c κs = c .before .before .before .pre .1 .0
+first-rows-requires c κs = c .before .before .before .pre .1
 
 loop-holds : tie.Need-loop-holds Inv-loop μ-loop
 loop-holds c = (omega arith, (reach-first _ (c .before .before .first-rows .ensures), refl))
@@ -37,7 +36,7 @@ slice-aggregate-crew-table c = sym (c .before .before .before .loop .inv .1 .1)
 
 crew-table-requires : tie.Need-crew-table-requires Inv-loop μ-loop
 crew-table-requires c κs = (
-  omega (arith, c .before .before .loop-test .taken, start (c .before .before .before) .pre .1 .1 .0),
+  c .before .before .loop-test .taken,
   (
     start (c .before .before .before) .pre .0,
     (c .before .before .before .loop .inv .1 .0 .size, c .before .before .before .loop .inv .1 .1),
@@ -53,7 +52,7 @@ slice-aggregate-fill-row-2 c = search needs
 fill-row-requires : tie.Need-fill-row-requires Inv-loop μ-loop
 fill-row-requires c κs =
     let at-loop-turn = loop-turn (after-crew-table c) in (
-      omega (arith, at-loop-turn .loop-test .taken, start (at-loop-turn .before) .pre .1 .1 .0),
+      at-loop-turn .loop-test .taken,
       (refl, (after-crew-table c .crew-table .ensures .size, at-loop-turn .before .loop .inv .1 .0 .size)),
     )
 
@@ -77,10 +76,10 @@ loop-again c =
     )
 
 same-length : tie.Need-same-length Inv-loop μ-loop
-same-length c = c .before .loop .inv .1 .0 .size ∙ sym (start (c .before) .pre .1 .0)
+same-length c = c .before .loop .inv .1 .0 .size ∙ sym (start (c .before) .pre .1)
 
 returns : tie.Need-returns Inv-loop μ-loop
-returns c = (c .before .loop .inv .1 .0 .size, reach-all (c .before .loop .inv .1 .0) (omega (arith, c .loop-test .left)) (start (c .before) .pre .1 .1 .1))
+returns c = (c .before .loop .inv .1 .0 .size, reach-all (c .before .loop .inv .1 .0) (omega (arith, c .loop-test .left)))
 
 pub fill-reach-spec : {M : Type 1} → statement M
 fill-reach-spec =
