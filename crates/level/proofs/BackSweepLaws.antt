@@ -13,9 +13,9 @@ use Rattle.theory.specs.Sweep.{PutBack}
 use Rattle.theory.proofs.SweepLaws.{back-none, back-more, back-room}
 use Rattle.level.specs.Shown.{direct, Whole, Put, touches}
 use Rattle.level.proofs.ShownLaws.{shown-put, direct-low, put-direct, put-whole}
-use Rattle.level.specs.Moves.{Moves, met, flagsWith, Fine, Sound, moveAt, askOf}
+use Rattle.level.specs.Moves.{Moves, all, placesOf, met, flagsWith, Fine, Sound, moveFrom, moveAt, askOf}
 use Rattle.level.specs.World.{world}
-use Rattle.level.proofs.MoveLaws.{met-flags}
+use Rattle.level.proofs.MoveLaws.{met-flags, fact-stands}
 use Rattle.level.specs.Notes.{askAt, asks, Noted}
 use Rattle.level.proofs.NoteLaws.{asks-length, asks-front}
 use Rattle.level.proofs.TurnLaws.{Sweeping}
@@ -40,6 +40,12 @@ pub flags-with : {T x : List Bool} {m : Move} → Whole T x → Fine m → flags
 unfolding flagsWith
 flags-with {T} {x} {m} w f = met-flags T (put (direct x) (m .fact) true) (λ k. getD x k false || touches T (m .fact) k) f
     (λ k l. ap (λ b. b || touches T (m .fact) k) (w .shows k l) ∙ sym (shown-put T (direct x) (m .fact) k (f .fact)))
+
+-- Whether its terms hold, by the fact as it was read where the move stands.
+pub with-read : (xs : List ℕ) (at : ℕ) {f : ℕ} (T x : List Bool) → f ≡ getD xs at 0
+    → flagsWith (moveFrom xs at) T x ≡ all (λ k. getD x k false || touches T f k) (placesOf (moveFrom xs at))
+unfolding flagsWith
+with-read xs at T x e = rw (e, fact-stands xs at) refl
 
 -- What is put back is lacking.
 pub backs-new : (m : Move) (T x y : List Bool) → Fine m → backsIn m T x y ≡ true → direct y (m .fact) ≡ false
@@ -79,24 +85,19 @@ back-first ms p {T} {bad} {x} {y} {size} {end} out r =
 
 module _ {ms : Moves} {p : ℕ} {T bad x y : List Bool} {end : ℕ} {out₀ out : List ℕ} {at : ℕ}
     (k : KeptBack ms p T bad x y end out₀ out at) (sound : Sound ms) where
-  -- A move of the list that does not fire.
-  pub backs-not : {m : Move} {i : ℕ} {r : Bool} → i < ms .count → m ≡ moveAt ms i → r ≡ backsIn m T x y → r ≡ false → backsIn (moveAt ms i) T x y ≡ false
-  backs-not l same t h = rw same at (sym t ∙ h)
-
   -- Where a move fires there is room for its request.
-  pub back-left : {m : Move} {i : ℕ} {r : Bool} → i < ms .count → m ≡ moveAt ms i → r ≡ backsIn m T x y → r ≡ true → end < at + 160
-  back-left {m} l same t h =
-      let e = sym t ∙ h in
-      let f = listed-fine sound l same in
-      omega (arith, back-room (world T ms ms p) (k .back) (f .fact) (backs-new m T x y f e), asks-length out at (end - at), k .down)
+  pub back-left : {i : ℕ} {r : Bool} → i < ms .count → r ≡ backsIn (moveAt ms i) T x y → r ≡ true → end < at + 160
+  back-left {i} l t h =
+      let f = sound .fine i l in
+      omega (arith, back-room (world T ms ms p) (k .back) (f .fact) (backs-new (moveAt ms i) T x y f (sym t ∙ h)), asks-length out at (end - at), k .down)
 
   -- A move that fires keeps the invariant.
-  pub back-add : {m : Move} {i : ℕ} {r : Bool} {z : List Bool} {out′ : List ℕ} → 160 ≤ end → i < ms .count → m ≡ moveAt ms i → r ≡ backsIn m T x y → r ≡ true
-      → Put T y (m .fact) z → Noted out (at - 1) (askOf p m) out′ → KeptBack ms p T bad x z end out₀ out′ (at - 1)
-  back-add {m} {i} high l same t h pz w =
-      let e = sym t ∙ h in
+  pub back-add : {m : Move} {i : ℕ} {r : Bool} {z : List Bool} {out′ : List ℕ} → 160 ≤ end → i < ms .count → r ≡ backsIn (moveAt ms i) T x y → r ≡ true
+      → m ≡ moveAt ms i → Put T y (m .fact) z → Noted out (at - 1) (askOf p m) out′ → KeptBack ms p T bad x z end out₀ out′ (at - 1)
+  back-add {m} {i} high l t h same pz w =
+      let e : backsIn m T x y ≡ true = rw same (sym t ∙ h) in
       let f = listed-fine sound l same in
-      let left = back-left l same t h in
+      let left = back-left l t h in
       let holds = subst (λ (o : Move). met T (put (direct y) (m .fact) true) o ≡ true) same (backs-met m x (k .whole) f e) in
       let n₁ : end - (at - 1) ≡ (end - at) + 1 = omega (arith, k .down) in
       let n₂ : (at - 1) + 1 ≡ at = omega arith in

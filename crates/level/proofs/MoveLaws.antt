@@ -1,9 +1,9 @@
 -- Laws of moves: their terms one after another, and that flags meet a move where the direct facts do.
-use mathlib.Core.Path.{_≡_, refl, ap, _∙_}
+use mathlib.Core.Path.{_≡_, refl, sym, ap, _∙_}
 use mathlib.Core.Logic.{dite}
 use mathlib.Core.Bool.{Bool, true, false}
 use mathlib.Core.List.{List, [], _∷_}
-use Prim.Native.Nat.{ℕ, suc, _+_, _*_, _≤_, _<_}
+use Prim.Native.Nat.{ℕ, zero, suc, _+_, _*_, _≤_, _<_}
 use native.Mathlib.Decide.{ℕ-discrete}
 use native.Mathlib.Nat.{add-zero, zero-add}
 use native.Mathlib.Numerals.{add-one}
@@ -13,11 +13,11 @@ use lib.Seq.{drop-cons, getD-take, length-take-le, getD-set-same, getD-set-other
 use Rattle.theory.specs.Facts.{State}
 use Rattle.level.specs.Shown.{shown}
 use Rattle.level.specs.declared.Move.{Move}
-use Rattle.level.specs.Moves.{Fine, all, met, placesOf, moveFrom}
+use Rattle.level.specs.Moves.{Fine, Sound, all, met, placesOf, movesIn, moveFrom, moveAt}
 use Rattle.level.specs.Chosen.{Numbers, MovePut}
 
--- The terms of a move, one after another.
-module _ {m : Move} (fine : Fine m) (p : ℕ → Bool) where
+-- The places of a move's terms.
+module _ {m : Move} (fine : Fine m) where
   places-length : length (placesOf m) ≡ m .n
   unfolding placesOf
   places-length = length-take-le (m .n) (m .terms) (omega (arith, fine .few, fine .size))
@@ -29,21 +29,6 @@ module _ {m : Move} (fine : Fine m) (p : ℕ → Bool) where
   place-drop : (j : ℕ) → j < m .n → drop j (placesOf m) ≡ getD (m .terms) j 0 ∷ drop (j + 1) (placesOf m)
   place-drop j h = drop-cons (placesOf m) j 0 (omega (arith, places-length)) ∙ rw (place-at j h, add-one)
 
-  -- A term that holds leaves the rest to decide.
-  pub met-pass : (j : ℕ) → j < m .n → p (getD (m .terms) j 0) ≡ true → all p (drop j (placesOf m)) ≡ all p (drop (j + 1) (placesOf m))
-  unfolding all
-  met-pass j h e = ap (all p) (place-drop j h) ∙ rw e
-
-  -- A term that does not hold decides.
-  pub met-fail : (j : ℕ) → j < m .n → p (getD (m .terms) j 0) ≡ false → all p (drop j (placesOf m)) ≡ false
-  unfolding all
-  met-fail j h e = ap (all p) (place-drop j h) ∙ rw e
-
-  -- Past the last term there is nothing to decide.
-  pub met-out : (j : ℕ) → m .n ≤ j → all p (drop j (placesOf m)) ≡ true
-  unfolding all
-  met-out j h = rw (drop-of-length-le (placesOf m) {i = j} (omega (arith, places-length)))
-
 all-same : (p q : ℕ → Bool) (l : List ℕ) → ((j : ℕ) → j < length l → p (getD l j 0) ≡ q (getD l j 0)) → all p l ≡ all q l
 unfolding all
 all-same p q [] h = refl
@@ -53,7 +38,7 @@ all-same p q (k ∷ l) h = rw (h 0 (omega arith), all-same p q l (λ j i. h (suc
 pub met-flags : (T : List Bool) (S : State) {m : Move} (p : ℕ → Bool) → Fine m → ((k : ℕ) → k < 320 → p k ≡ shown T S k) → all p (placesOf m) ≡ met T S m
 unfolding met
 met-flags T S {m} p fine h = all-same p (shown T S) (placesOf m)
-    (λ j l. h (getD (placesOf m) j 0) (rw (place-at fine p j (omega (arith, places-length fine p))) (fine .places j)))
+    (λ j l. h (getD (placesOf m) j 0) (rw (place-at fine j (omega (arith, places-length fine))) (fine .places j)))
 
 -- ---------------------------------------------------------------- moves as numbers
 
@@ -78,6 +63,78 @@ move-same xs ys a b h =
       h 12 (omega arith),
       h 13 (omega arith),
     ) refl
+
+-- The terms of the move that stands at a place of numbers are the numbers from the sixth behind it on.
+pub term-stands : (xs : List ℕ) (at j : ℕ) → j < 8 → getD (moveFrom xs at .terms) j 0 ≡ getD xs (at + 6 + j) 0
+unfolding moveFrom
+term-stands xs at zero h = ap (λ i. getD xs i 0) (omega arith)
+term-stands xs at (suc zero) h = ap (λ i. getD xs i 0) (omega arith)
+term-stands xs at (suc (suc zero)) h = ap (λ i. getD xs i 0) (omega arith)
+term-stands xs at (suc (suc (suc zero))) h = ap (λ i. getD xs i 0) (omega arith)
+term-stands xs at (suc (suc (suc (suc zero)))) h = ap (λ i. getD xs i 0) (omega arith)
+term-stands xs at (suc (suc (suc (suc (suc zero))))) h = ap (λ i. getD xs i 0) (omega arith)
+term-stands xs at (suc (suc (suc (suc (suc (suc zero)))))) h = ap (λ i. getD xs i 0) (omega arith)
+term-stands xs at (suc (suc (suc (suc (suc (suc (suc zero))))))) h = ap (λ i. getD xs i 0) (omega arith)
+term-stands xs at (suc (suc (suc (suc (suc (suc (suc (suc j)))))))) h = absurd (omega arith)
+
+-- The first two numbers are its fact and how many terms it has.
+pub fact-stands : (xs : List ℕ) (at : ℕ) → moveFrom xs at .fact ≡ getD xs at 0
+unfolding moveFrom
+fact-stands xs at = refl
+
+pub count-stands : (xs : List ℕ) (at : ℕ) → moveFrom xs at .n ≡ getD xs (at + 1) 0
+unfolding moveFrom
+count-stands xs at = refl
+
+-- A move of a list stands whole among its numbers, and is fine.
+pub listed-room : {xs : List ℕ} {i : ℕ} → Sound (movesIn xs) → i < movesIn xs .count → 14 * i + 14 ≤ length xs
+listed-room sound l = omega (arith, l, sound .room)
+
+pub listed-stands : {xs : List ℕ} {i : ℕ} → Sound (movesIn xs) → i < movesIn xs .count → Fine (moveFrom xs (14 * i))
+unfolding moveAt
+listed-stands {xs} {i} sound l = sound .fine i l
+
+-- The fact of the move at `at`, as it was read, is a fact.
+pub fact-fits : (xs : List ℕ) (at : ℕ) {f : ℕ} → Fine (moveFrom xs at) → f ≡ getD xs at 0 → f < 160
+fact-fits xs at fine e = omega (arith, e, fact-stands xs at, fine .fact)
+
+-- Its flag is that of the move's fact.
+pub fact-flag : (xs : List ℕ) (at : ℕ) (x : List Bool) {f : ℕ} {b : Bool} → f ≡ getD xs at 0 → getD x f false ≡ b → getD x (moveFrom xs at .fact) false ≡ b
+fact-flag xs at x e h = ap (λ i. getD x i false) (fact-stands xs at ∙ sym e) ∙ h
+
+-- The move at `at` is fine, and has `n` terms, as was read.
+pub record Reading (xs : List ℕ) (at n : ℕ) : Type 0 where
+  pub fine : Fine (moveFrom xs at)
+  pub count : n ≡ getD xs (at + 1) 0
+
+-- Its terms, one after another; `k` is the place of term `j`, as it was read.
+module _ {xs : List ℕ} {at n : ℕ} (r : Reading xs at n) where
+  pub few-terms : n ≤ 8
+  few-terms = omega (arith, r .count, count-stands xs at, r .fine .few)
+
+  pub term-fits : (j : ℕ) {k : ℕ} → j < n → k ≡ getD xs (at + 6 + j) 0 → k < 320
+  term-fits j h s = omega (arith, s, term-stands xs at j (omega (arith, few-terms)), r .fine .places j)
+
+  place-read : (j : ℕ) {k : ℕ} → j < n → k ≡ getD xs (at + 6 + j) 0 → drop j (placesOf (moveFrom xs at)) ≡ k ∷ drop (j + 1) (placesOf (moveFrom xs at))
+  place-read j h s =
+      place-drop (r .fine) j (omega (arith, r .count, count-stands xs at))
+      ∙ ap (λ i. i ∷ drop (j + 1) (placesOf (moveFrom xs at))) (term-stands xs at j (omega (arith, few-terms)) ∙ sym s)
+
+  -- A term that holds leaves the rest to decide.
+  pub met-pass : (p : ℕ → Bool) (j : ℕ) {k : ℕ} → j < n → k ≡ getD xs (at + 6 + j) 0 → p k ≡ true
+      → all p (drop j (placesOf (moveFrom xs at))) ≡ all p (drop (j + 1) (placesOf (moveFrom xs at)))
+  unfolding all
+  met-pass p j h s t = ap (all p) (place-read j h s) ∙ rw t
+
+  -- A term that does not hold decides.
+  pub met-fail : (p : ℕ → Bool) (j : ℕ) {k : ℕ} → j < n → k ≡ getD xs (at + 6 + j) 0 → p k ≡ false → all p (drop j (placesOf (moveFrom xs at))) ≡ false
+  unfolding all
+  met-fail p j h s t = ap (all p) (place-read j h s) ∙ rw t
+
+  -- Past the last term there is nothing to decide.
+  pub met-out : (p : ℕ → Bool) (j : ℕ) → n ≤ j → all p (drop j (placesOf (moveFrom xs at))) ≡ true
+  unfolding all
+  met-out p j h = rw (drop-of-length-le (placesOf (moveFrom xs at)) {i = j} (omega (arith, r .count, count-stands xs at, places-length (r .fine))))
 
 -- A list of eight is its eight elements.
 pub eight : (xs : List ℕ) → length xs ≡ 8

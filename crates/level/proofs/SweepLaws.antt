@@ -86,23 +86,17 @@ listed-fine {ms} {m} {i} sound l same = rw same (sound .fine i l)
 
 module _ {ms : Moves} {p : ℕ} {T allowed x₀ x : List Bool} {start : ℕ} {out₀ out : List ℕ} {n : ℕ}
     (k : Kept ms p T allowed x₀ x start out₀ out n) (sound : Sound ms) where
-  -- A move of the list that does not fire.
-  pub fires-not : {m : Move} {i : ℕ} {r : Bool} → i < ms .count → m ≡ moveAt ms i → r ≡ firesIn m allowed x → r ≡ false
-      → firesIn (moveAt ms i) allowed x ≡ false
-  fires-not l same t h = rw same at (sym t ∙ h)
-
   -- Where a move fires there is room for its request.
-  pub room-left : {m : Move} {i : ℕ} {r : Bool} → i < ms .count → m ≡ moveAt ms i → r ≡ firesIn m allowed x → r ≡ true → n < 160
-  room-left {m} l same t y =
-      let e = sym t ∙ y in
-      let f = listed-fine sound l same in
-      omega (arith, added-room (world T ms ms p) (k .added) (f .fact) (fires-new m allowed x f e), asks-length out start n)
+  pub room-left : {i : ℕ} {r : Bool} → i < ms .count → r ≡ firesIn (moveAt ms i) allowed x → r ≡ true → n < 160
+  room-left {i} l t y =
+      let f = sound .fine i l in
+      omega (arith, added-room (world T ms ms p) (k .added) (f .fact) (fires-new (moveAt ms i) allowed x f (sym t ∙ y)), asks-length out start n)
 
   -- A move that fires keeps the invariant.
-  pub kept-add : {m : Move} {i : ℕ} {r : Bool} {z : List Bool} {out′ : List ℕ} → i < ms .count → m ≡ moveAt ms i → r ≡ firesIn m allowed x → r ≡ true
-      → Put T x (m .fact) z → Noted out (start + n) (askOf p m) out′ → Kept ms p T allowed x₀ z start out₀ out′ (n + 1)
-  kept-add {m} {i} l same t y pz w =
-      let e = sym t ∙ y in
+  pub kept-add : {m : Move} {i : ℕ} {r : Bool} {z : List Bool} {out′ : List ℕ} → i < ms .count → r ≡ firesIn (moveAt ms i) allowed x → r ≡ true
+      → m ≡ moveAt ms i → Put T x (m .fact) z → Noted out (start + n) (askOf p m) out′ → Kept ms p T allowed x₀ z start out₀ out′ (n + 1)
+  kept-add {m} {i} l t y same pz w =
+      let e : firesIn m allowed x ≡ true = rw same (sym t ∙ y) in
       let f = listed-fine sound l same in
       record {
         whole = put-whole (k .whole) pz (f .fact);

@@ -1,6 +1,6 @@
 -- How a sweep goes round its moves, whatever its test: the last `quiet` moves before the one that it looks at do not fire, and when all are quiet none fires.
 -- Some moves may be named, to be tried first. Nothing is claimed of the names: a turn may take the sweep to any move, if it calls no move quiet there.
-use mathlib.Core.Path.{_≡_, refl}
+use mathlib.Core.Path.{_≡_, refl, sym, _∙_}
 use mathlib.Core.Logic.{_⊎_, inl, inr, ⊎-elim, by-cases, dite}
 use mathlib.Core.Bool.{Bool, false}
 use Prim.Native.Nat.{ℕ, suc, _+_, _-_, _*_, _≤_, _<_}
@@ -64,12 +64,12 @@ module _ {n : ℕ} {fires : ℕ → Bool} {size tried i quiet : ℕ} (s : Sweepi
         (t .goes)
 
     -- Behind a move that does not fire one more is quiet.
-    pub sweeping-quiet : {r : ℕ} → fires i′ ≡ false → Next i′ n r → Sweeping n fires size tried′ r (quiet′ + 1)
-    sweeping-quiet e nx = record {
+    pub sweeping-quiet : {r : ℕ} {b : Bool} → b ≡ fires i′ → b ≡ false → Next i′ n r → Sweeping n fires size tried′ r (quiet′ + 1)
+    sweeping-quiet e fails nx = record {
       named = s .named;
       tries = t .names;
       within = λ _. nx .fits;
-      still = λ j l w. ⊎-elim (λ (h : j ≡ i′). rw h e) (turned .still j l) (window-next quiet′ j nx (t .fits) l w);
+      still = λ j l w. ⊎-elim (λ (h : j ≡ i′). rw h (sym e ∙ fails)) (turned .still j l) (window-next quiet′ j nx (t .fits) l w);
     }
 
 -- A turn calls no move quiet that was not.

@@ -6,7 +6,7 @@ ghost use Prim.Native.Nat.{_+_, _*_, _≤_, _<_};
 ghost use lib.ListN.{length, getD};
 ghost use Rattle.theory.specs.Facts.{_⊆_};
 ghost use Rattle.level.specs.Shown.{touches, More, rowFlags, Put, direct};
-ghost use Rattle.level.specs.Moves.{flagsMet, flagsWith, placeOf, Fine, Sound, askOf, moveAt, movesIn};
+ghost use Rattle.level.specs.Moves.{flagsMet, flagsWith, placeOf, Fine, Sound, askOf, moveFrom, moveAt, movesIn};
 ghost use Rattle.level.specs.Chosen.{chosenIn, Numbers, MovePut};
 ghost use Rattle.level.specs.Terms.{codeOf, GoodRule, MoveOf};
 ghost use Rattle.level.specs.Notes.{Noted};
@@ -170,15 +170,16 @@ fn wide(x: u16) -> usize
     x as usize
 }
 
-// Whether all terms of the move hold of the flags `x`.
-pub fn meets(m: Move, x: &[bool]) -> bool
-    requires { ⌜ Fine m × (length (now x) ≡ 320) ⌝ }
-    ensures { λ r. ⌜ r ≡ flagsMet m (now (x .entry)) ⌝ }
+// Whether all terms of the move at the place `at` of the numbers hold of the flags `x`. Most moves that are tried do not fire,
+// so the tests read a move's numbers where they stand: no move is made for them.
+pub fn meets(ms: &[u16], at: usize, x: &[bool]) -> bool
+    requires { ⌜ (at + 14 ≤ length (now ms)) × (Fine (moveFrom (now ms) at) × (length (now x) ≡ 320)) ⌝ }
+    ensures { λ r. ⌜ r ≡ flagsMet (moveFrom (now (ms .entry)) at) (now (x .entry)) ⌝ }
 {
-    let n = m.n;
+    let n = wide(ms[at + 1]);
     let mut j: usize = 0;
     while j < n {
-        let k = wide(m.terms[j]);
+        let k = wide(ms[at + 6 + j]);
         if !x[k] {
             return false;
         }
@@ -256,17 +257,19 @@ pub fn note(m: Move, subject: u8, k: usize, out: &mut [u8])
 
 // ---------------------------------------------------------------- the two sweeps
 
-// Whether the move adds a fact that is allowed and not there yet, and its terms hold.
-pub fn fires(m: Move, allowed: &[bool], x: &[bool]) -> bool
-    requires { ⌜ Fine m × ((length (now x) ≡ 320) × (length (now allowed) ≡ 160)) ⌝ }
-    ensures { λ r. ⌜ r ≡ firesIn m (now (allowed .entry)) (now (x .entry)) ⌝ }
+// Whether move `i` adds a fact that is allowed and not there yet, and its terms hold.
+pub fn fires(ms: &[u16], i: usize, allowed: &[bool], x: &[bool]) -> bool
+    requires { ⌜ Sound (movesIn (now ms)) × (i < movesIn (now ms) .count) ⌝ }
+    requires { ⌜ (length (now x) ≡ 320) × (length (now allowed) ≡ 160) ⌝ }
+    ensures { λ r. ⌜ r ≡ firesIn (moveAt (movesIn (now (ms .entry))) i) (now (allowed .entry)) (now (x .entry)) ⌝ }
 {
-    let f = m.fact;
+    let at = 14 * i;
+    let f = wide(ms[at]);
     if x[f] {
         return false;
     }
     if allowed[f] {
-        return meets(m, x);
+        return meets(ms, at, x);
     }
     false
 }
@@ -341,8 +344,8 @@ pub fn close(
         tried = t.tried;
         i = t.i;
         quiet = t.quiet;
-        let m = move_at(adds, i);
-        if fires(m, allowed, x) {
+        if fires(adds, i, allowed, x) {
+            let m = move_at(adds, i);
             put(table, m.fact, x);
             note(m, subject, start + n, out);
             added[n] = i as u16;
@@ -368,16 +371,17 @@ pub fn lit(table: &[bool], f: usize, k: usize, x: &[bool]) -> bool
     touch(table, f, k)
 }
 
-// Whether all terms of the move hold of `x` with the move's own fact put in.
-pub fn meets_with(m: Move, table: &[bool], x: &[bool]) -> bool
-    requires { ⌜ Fine m × ((length (now x) ≡ 320) × (length (now table) ≡ 5280)) ⌝ }
-    ensures { λ r. ⌜ r ≡ flagsWith m (now (table .entry)) (now (x .entry)) ⌝ }
+// Whether all terms of the move at the place `at` of the numbers hold of `x` with the move's own fact put in.
+pub fn meets_with(ms: &[u16], at: usize, table: &[bool], x: &[bool]) -> bool
+    requires { ⌜ (at + 14 ≤ length (now ms)) × Fine (moveFrom (now ms) at) ⌝ }
+    requires { ⌜ (length (now x) ≡ 320) × (length (now table) ≡ 5280) ⌝ }
+    ensures { λ r. ⌜ r ≡ flagsWith (moveFrom (now (ms .entry)) at) (now (table .entry)) (now (x .entry)) ⌝ }
 {
-    let n = m.n;
-    let f = m.fact;
+    let f = wide(ms[at]);
+    let n = wide(ms[at + 1]);
     let mut j: usize = 0;
     while j < n {
-        let k = wide(m.terms[j]);
+        let k = wide(ms[at + 6 + j]);
         if !lit(table, f, k, x) {
             return false;
         }
@@ -386,17 +390,19 @@ pub fn meets_with(m: Move, table: &[bool], x: &[bool]) -> bool
     true
 }
 
-// Whether the move deletes a fact of `x` that is not in `y`, and its terms hold of `y` with that fact.
-pub fn backs(m: Move, table: &[bool], x: &[bool], y: &[bool]) -> bool
-    requires { ⌜ Fine m × ((length (now x) ≡ 320) × ((length (now y) ≡ 320) × (length (now table) ≡ 5280))) ⌝ }
-    ensures { λ r. ⌜ r ≡ backsIn m (now (table .entry)) (now (x .entry)) (now (y .entry)) ⌝ }
+// Whether move `i` deletes a fact of `x` that is not in `y`, and its terms hold of `y` with that fact.
+pub fn backs(ms: &[u16], i: usize, table: &[bool], x: &[bool], y: &[bool]) -> bool
+    requires { ⌜ Sound (movesIn (now ms)) × (i < movesIn (now ms) .count) ⌝ }
+    requires { ⌜ (length (now x) ≡ 320) × ((length (now y) ≡ 320) × (length (now table) ≡ 5280)) ⌝ }
+    ensures { λ r. ⌜ r ≡ backsIn (moveAt (movesIn (now (ms .entry))) i) (now (table .entry)) (now (x .entry)) (now (y .entry)) ⌝ }
 {
-    let f = m.fact;
+    let at = 14 * i;
+    let f = wide(ms[at]);
     if y[f] {
         return false;
     }
     if x[f] {
-        return meets_with(m, table, y);
+        return meets_with(ms, at, table, y);
     }
     false
 }
@@ -429,8 +435,8 @@ pub fn back(
         tried = t.tried;
         i = t.i;
         quiet = t.quiet;
-        let m = move_at(dels, i);
-        if backs(m, table, x, y) {
+        if backs(dels, i, table, x, y) {
+            let m = move_at(dels, i);
             put(table, m.fact, y);
             deleted[end - at] = i as u16;
             at -= 1;

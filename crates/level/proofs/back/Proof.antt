@@ -5,9 +5,10 @@ use Prim.Native.Nat.{_+_, _-_, _<_}
 use native.Mathlib.Omega.{arith}
 use lib.ListN.{length, length-set}
 use Rattle.level.specs.Moves.{movesIn}
+use Rattle.level.proofs.MoveLaws.{listed-room}
 use Rattle.level.proofs.TurnLaws.{sweeping-anew, turn-ready, turn-quiet, sweeping-quiet, sweeping-ended, steps-left, fired-less, quiet-less}
 use Rattle.level.proofs.SweepLaws.{listed-fine}
-use Rattle.level.proofs.BackSweepLaws.{KeptBack, Backing, backs-not, back-first, back-left, back-add, back-closed}
+use Rattle.level.proofs.BackSweepLaws.{KeptBack, Backing, back-first, back-left, back-add, back-closed}
 use Rattle.level.proofs.back.Statement.{statement}
 use Rattle.level.proofs.back.Tie as tie
 
@@ -18,7 +19,8 @@ Inv-loop dels deleted₀ subject table bad x y₀ end out₀ count at₀ quiet�
 abbrev μ-loop : tie.MeasureT-loop
 μ-loop dels deleted₀ subject table bad x y₀ end out₀ count at₀ quiet₀ i₀ tried₀ deleted y out at quiet i tried = steps-left count at tried quiet
 
--- The places that the answers name, each seen from a later one: the loop from its turn, the start, the turn from the test, the test's yes from what is put in.
+-- The places that the answers name, each seen from a later one: the loop from its turn, the start, the turn from the test, the move and the test's yes from
+-- what is put in.
 abbrev at-loop : tie.After-turn-at Inv-loop μ-loop → tie.At-loop Inv-loop μ-loop
 at-loop c = c .before .before .before
 
@@ -26,19 +28,19 @@ abbrev at-start : tie.At-loop Inv-loop μ-loop → tie.Start Inv-loop μ-loop
 at-start c = c .before .before .before .before .before .before .before .before
 
 abbrev at-turn : tie.After-backs Inv-loop μ-loop → tie.After-turn-at Inv-loop μ-loop
-at-turn c = c .before .before .before
+at-turn c = c .before .before
+
+abbrev at-move : tie.After-slice-known4 Inv-loop μ-loop → tie.After-move-at Inv-loop μ-loop
+at-move c = c .before .before .before .before
 
 abbrev at-then : tie.After-slice-known4 Inv-loop μ-loop → tie.Then1 Inv-loop μ-loop
-at-then c = c .before .before .before .before
+at-then c = at-move c .before
 
 abbrev at-put : tie.After-slice-known5 Inv-loop μ-loop → tie.After-slice-known4 Inv-loop μ-loop
 at-put c = c .before .before .before .before
 
 abbrev at-start-first : tie.After-slice-known3 Inv-loop μ-loop → tie.Start Inv-loop μ-loop
 at-start-first c = c .before .before .before .before .before .before .before
-
-abbrev after-move-at : tie.After-backs Inv-loop μ-loop → tie.After-move-at Inv-loop μ-loop
-after-move-at c = c .before .before
 
 loop-holds : tie.Need-loop-holds Inv-loop μ-loop
 loop-holds c =
@@ -50,33 +52,30 @@ loop-holds c =
 turn-at-requires : tie.Need-turn-at-requires Inv-loop μ-loop
 turn-at-requires c κs = turn-ready (c .before .before .loop .inv .1) (c .before .loop-test .taken)
 
-move-at-requires : tie.Need-move-at-requires Inv-loop μ-loop
-move-at-requires c κs =
-    let sound = at-start (at-loop c) .pre .0 in
-    (omega (arith, c .turn-at .ensures .fits, sound .few), omega (arith, c .turn-at .ensures .fits, sound .room))
-
 backs-requires : tie.Need-backs-requires Inv-loop μ-loop
 backs-requires c κs =
-    let t = c .before .before in
+    let t = c .before in
     let s = at-start (at-loop t) in
     let w = at-loop t .loop .inv .0 .whole in
-    (listed-fine (s .pre .0) (t .turn-at .ensures .fits) (c .before .move-at .ensures), (s .pre .1 .0 .length-x, (w .size, w .rows)))
+    ((s .pre .0, t .turn-at .ensures .fits), (s .pre .1 .0 .length-x, (w .size, w .rows)))
+
+move-at-requires : tie.Need-move-at-requires Inv-loop μ-loop
+move-at-requires c κs =
+    let t = at-turn (c .before) in
+    let sound = at-start (at-loop t) .pre .0 in
+    (omega (arith, t .turn-at .ensures .fits, sound .few), listed-room sound (t .turn-at .ensures .fits))
 
 put-requires : tie.Need-put-requires Inv-loop μ-loop
 put-requires c κs =
-    let t = at-turn (c .before .before) in
-    let w = at-loop t .loop .inv .0 .whole in (
-      listed-fine (at-start (at-loop t) .pre .0) (t .turn-at .ensures .fits)
-          (after-move-at (c .before .before) .move-at .ensures) .fact,
-      (w .size, w .rows),
-    )
+    let t = at-turn (c .before .before .before) in
+    let w = at-loop t .loop .inv .0 .whole in
+    (listed-fine (at-start (at-loop t) .pre .0) (t .turn-at .ensures .fits) (c .before .move-at .ensures) .fact, (w .size, w .rows))
 
 -- A move fires only where there is room for its request.
 room : (c : tie.Then1 Inv-loop μ-loop) → at-start (at-loop (at-turn (c .before))) .args .end < at-loop (at-turn (c .before)) .loop .at + 160
 room c =
     let t = at-turn (c .before) in
-    back-left (at-loop t .loop .inv .0) (at-start (at-loop t) .pre .0) (t .turn-at .ensures .fits) (c .before .before .before .move-at .ensures)
-    (c .before .backs .ensures) (c .if1 .taken)
+    back-left (at-loop t .loop .inv .0) (at-start (at-loop t) .pre .0) (t .turn-at .ensures .fits) (c .before .backs .ensures) (c .if1 .taken)
 
 cast-deleted : tie.Need-cast-deleted Inv-loop μ-loop
 cast-deleted c =
@@ -103,7 +102,7 @@ note-requires c κs =
     let t = at-turn (h .before) in
     let k = at-loop t .loop .inv .0 in
     let s = at-start (at-loop t) in (
-      listed-fine (s .pre .0) (t .turn-at .ensures .fits) (h .before .before .before .move-at .ensures),
+      listed-fine (s .pre .0) (t .turn-at .ensures .fits) (at-move (c .before) .move-at .ensures),
       omega (arith, room h, k .size, k .down, s .pre .1 .0 .below, s .pre .1 .0 .room),
     )
 
@@ -122,8 +121,8 @@ loop-again c =
     let t = at-turn (h .before) in
     let s = at-start (at-loop t) in
     let inv = at-loop t .loop .inv in (
-      back-add (inv .0) (s .pre .0) (s .pre .1 .0 .below) (t .turn-at .ensures .fits) (h .before .before .before .move-at .ensures)
-          (h .before .backs .ensures) (h .if1 .taken) (p .before .before .put .ensures) (c .before .before .before .note .ensures),
+      back-add (inv .0) (s .pre .0) (s .pre .1 .0 .below) (t .turn-at .ensures .fits) (h .before .backs .ensures) (h .if1 .taken)
+          (at-move p .move-at .ensures) (p .before .before .put .ensures) (c .before .before .before .note .ensures),
       sweeping-anew _ (simp length-set (inv .1 .named)) (t .turn-at .ensures .names) (λ _. c .next .ensures .fits),
     )
 
@@ -144,10 +143,7 @@ loop-again-2 : tie.Need-loop-again-2 Inv-loop μ-loop
 loop-again-2 c =
     let t = at-turn (c .before .before) in
     let inv = at-loop t .loop .inv in
-    let m = after-move-at (c .before .before) .move-at .ensures in
-    let still = backs-not (inv .0) (at-start (at-loop t) .pre .0) (t .turn-at .ensures .fits) m
-    (c .before .before .backs .ensures) (c .before .if1 .left) in
-    (inv .0, sweeping-quiet (inv .1) (t .turn-at .ensures) still (c .next2 .ensures))
+    (inv .0, sweeping-quiet (inv .1) (t .turn-at .ensures) (c .before .before .backs .ensures) (c .before .if1 .left) (c .next2 .ensures))
 
 same-length : tie.Need-same-length Inv-loop μ-loop
 same-length c = c .before .loop .inv .1 .named ∙ sym (at-start (c .before) .pre .1 .1)
@@ -169,8 +165,8 @@ back-spec =
     μ-loop
     loop-holds
     turn-at-requires
-    move-at-requires
     backs-requires
+    move-at-requires
     put-requires
     cast-deleted
     sub-deleted

@@ -1,38 +1,97 @@
--- Whether a move puts a fact back: three tests, the last with the fact put in. Assumes nothing.
+-- Whether a move puts a fact back: three tests, the last with the fact put in. Its numbers are read where they stand. Assumes nothing.
+use Prim.Native.Nat.{_*_}
+use native.Mathlib.Omega.{arith}
+use Rattle.level.specs.Moves.{moveAt}
 use Rattle.level.specs.BackSweep.{backsIn}
+use Rattle.level.proofs.MoveLaws.{listed-room, listed-stands, fact-fits, fact-flag}
 use borrow.Author.Needs.{needs}
 use Rattle.level.proofs.backs.Statement.{statement}
 use Rattle.level.proofs.backs.Tie as tie
 
+-- The places that the answers name, each seen from a later one: the start, from the slices and from where the fact was read, and that place from the
+-- second test's yes.
+abbrev from-slices : tie.After-shared-slice-known4 → tie.Start
+from-slices c = c .before .before .before .before
+
+abbrev at-start : tie.After-wide → tie.Start
+at-start c = from-slices (c .before .before)
+
+abbrev at-fact : tie.Then2 → tie.After-wide
+at-fact c = c .before .before .before .before
+
+mul-at : tie.Need-mul-at
+mul-at c =
+    let s = from-slices c in
+    omega (arith, listed-room (s .pre .0 .0) (s .pre .0 .1))
+
+mul-wide : tie.Need-mul-wide
+mul-wide c =
+    let s = from-slices c in
+    omega (arith, listed-room (s .pre .0 .0) (s .pre .0 .1))
+
+shared-slice-read-wide : tie.Need-shared-slice-read-wide
+shared-slice-read-wide c =
+    let s = from-slices (c .before) in
+    omega (arith, listed-room (s .pre .0 .0) (s .pre .0 .1))
+
+wide-requires : tie.Need-wide-requires
+wide-requires c κs = search needs
+
 shared-slice-read-if1 : tie.Need-shared-slice-read-if1
-shared-slice-read-if1 c = search needs
+shared-slice-read-if1 c =
+    let r = c .before in
+    let s = at-start r in
+    omega (arith, fact-fits (s .args .ms .now) (14 * s .args .i) (listed-stands (s .pre .0 .0) (s .pre .0 .1)) (r .wide .ensures), s .pre .1 .1 .0)
 
 returns : tie.Need-returns
-unfolding backsIn
-returns c = rw (c .if1 .taken)
+unfolding backsIn moveAt
+returns c =
+    let r = c .before .before in
+    let s = at-start r in
+    rw (fact-flag (s .args .ms .now) (14 * s .args .i) (s .args .y .now) (r .wide .ensures) (c .if1 .taken))
 
 shared-slice-read-if2 : tie.Need-shared-slice-read-if2
-shared-slice-read-if2 c = search needs
+shared-slice-read-if2 c =
+    let r = c .before .before .before in
+    let s = at-start r in
+    omega (arith, fact-fits (s .args .ms .now) (14 * s .args .i) (listed-stands (s .pre .0 .0) (s .pre .0 .1)) (r .wide .ensures), s .pre .1 .0)
 
 meets-with-requires : tie.Need-meets-with-requires
-meets-with-requires c κs = search needs
+meets-with-requires c κs =
+    let r = at-fact c in
+    let s = at-start r in
+    ((listed-room (s .pre .0 .0) (s .pre .0 .1), listed-stands (s .pre .0 .0) (s .pre .0 .1)), s .pre .1 .1)
 
 returns-2 : tie.Need-returns-2
-unfolding backsIn
+unfolding backsIn moveAt
 returns-2 c =
     let at-if1 = c .before .before .before in
-    rw (at-if1 .if1 .left, c .before .if2 .taken) (c .meets-with .ensures)
+    let r = at-if1 .before .before in
+    let s = at-start r in
+    rw (
+      fact-flag (s .args .ms .now) (14 * s .args .i) (s .args .y .now) (r .wide .ensures) (at-if1 .if1 .left),
+      fact-flag (s .args .ms .now) (14 * s .args .i) (s .args .x .now) (r .wide .ensures) (c .before .if2 .taken),
+    ) (c .meets-with .ensures)
 
 returns-3 : tie.Need-returns-3
-unfolding backsIn
+unfolding backsIn moveAt
 returns-3 c =
     let at-if1 = c .before .before in
-    rw (at-if1 .if1 .left, c .if2 .left)
+    let r = at-if1 .before .before in
+    let s = at-start r in
+    rw (
+      fact-flag (s .args .ms .now) (14 * s .args .i) (s .args .y .now) (r .wide .ensures) (at-if1 .if1 .left),
+      fact-flag (s .args .ms .now) (14 * s .args .i) (s .args .x .now) (r .wide .ensures) (c .if2 .left),
+    )
 
 pub backs-spec : {M : Type 1} → statement M
 backs-spec =
     tie.close
     (tie.spec
+    mul-at
+    mul-wide
+    shared-slice-read-wide
+    wide-requires
     shared-slice-read-if1
     returns
     shared-slice-read-if2

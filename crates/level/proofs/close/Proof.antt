@@ -6,8 +6,9 @@ use Prim.Native.Nat.{_+_, _-_, _<_}
 use native.Mathlib.Omega.{arith}
 use lib.ListN.{length, length-set}
 use Rattle.level.specs.Moves.{movesIn}
+use Rattle.level.proofs.MoveLaws.{listed-room}
 use Rattle.level.proofs.TurnLaws.{sweeping-anew, turn-ready, turn-quiet, sweeping-quiet, sweeping-ended, steps-left, fired-less, quiet-less}
-use Rattle.level.proofs.SweepLaws.{Kept, Adding, fires-not, kept-first, listed-fine, room-left, kept-add, kept-closed}
+use Rattle.level.proofs.SweepLaws.{Kept, Adding, kept-first, listed-fine, room-left, kept-add, kept-closed}
 use Rattle.level.proofs.close.Statement.{statement}
 use Rattle.level.proofs.close.Tie as tie
 
@@ -18,7 +19,8 @@ Inv-loop adds added₀ subject table allowed x₀ start out₀ count n₀ quiet�
 abbrev μ-loop : tie.MeasureT-loop
 μ-loop adds added₀ subject table allowed x₀ start out₀ count n₀ quiet₀ i₀ tried₀ added x out n quiet i tried = steps-left count (160 - n) tried quiet
 
--- The places that the answers name, each seen from a later one: the loop from its turn, the start, the turn from the test, the test's yes from what is put in.
+-- The places that the answers name, each seen from a later one: the loop from its turn, the start, the turn from the test, the move and the test's yes from
+-- what is put in.
 abbrev at-loop : tie.After-turn-at Inv-loop μ-loop → tie.At-loop Inv-loop μ-loop
 at-loop c = c .before .before .before
 
@@ -26,19 +28,19 @@ abbrev at-start : tie.At-loop Inv-loop μ-loop → tie.Start Inv-loop μ-loop
 at-start c = c .before .before .before .before .before .before .before
 
 abbrev at-turn : tie.After-fires Inv-loop μ-loop → tie.After-turn-at Inv-loop μ-loop
-at-turn c = c .before .before .before
+at-turn c = c .before .before
+
+abbrev at-move : tie.After-slice-known4 Inv-loop μ-loop → tie.After-move-at Inv-loop μ-loop
+at-move c = c .before .before .before .before
 
 abbrev at-then : tie.After-slice-known4 Inv-loop μ-loop → tie.Then1 Inv-loop μ-loop
-at-then c = c .before .before .before .before
+at-then c = at-move c .before
 
 abbrev at-put : tie.After-slice-known5 Inv-loop μ-loop → tie.After-slice-known4 Inv-loop μ-loop
 at-put c = c .before .before .before .before
 
 abbrev at-start-first : tie.After-slice-known3 Inv-loop μ-loop → tie.Start Inv-loop μ-loop
 at-start-first c = c .before .before .before .before .before .before
-
-abbrev after-move-at : tie.After-fires Inv-loop μ-loop → tie.After-move-at Inv-loop μ-loop
-after-move-at c = c .before .before
 
 loop-holds : tie.Need-loop-holds Inv-loop μ-loop
 loop-holds c =
@@ -50,33 +52,30 @@ loop-holds c =
 turn-at-requires : tie.Need-turn-at-requires Inv-loop μ-loop
 turn-at-requires c κs = turn-ready (c .before .before .loop .inv .1) (c .before .loop-test .taken)
 
-move-at-requires : tie.Need-move-at-requires Inv-loop μ-loop
-move-at-requires c κs =
-    let sound = at-start (at-loop c) .pre .0 in
-    (omega (arith, c .turn-at .ensures .fits, sound .few), omega (arith, c .turn-at .ensures .fits, sound .room))
-
 fires-requires : tie.Need-fires-requires Inv-loop μ-loop
 fires-requires c κs =
-    let t = c .before .before in
+    let t = c .before in
     let s = at-start (at-loop t) in
     let w = at-loop t .loop .inv .0 .whole in
-    (listed-fine (s .pre .0) (t .turn-at .ensures .fits) (c .before .move-at .ensures), (w .size, s .pre .1 .0 .length-allowed))
+    ((s .pre .0, t .turn-at .ensures .fits), (w .size, s .pre .1 .0 .length-allowed))
+
+move-at-requires : tie.Need-move-at-requires Inv-loop μ-loop
+move-at-requires c κs =
+    let t = at-turn (c .before) in
+    let sound = at-start (at-loop t) .pre .0 in
+    (omega (arith, t .turn-at .ensures .fits, sound .few), listed-room sound (t .turn-at .ensures .fits))
 
 put-requires : tie.Need-put-requires Inv-loop μ-loop
 put-requires c κs =
-    let t = at-turn (c .before .before) in
-    let w = at-loop t .loop .inv .0 .whole in (
-      listed-fine (at-start (at-loop t) .pre .0) (t .turn-at .ensures .fits)
-          (after-move-at (c .before .before) .move-at .ensures) .fact,
-      (w .size, w .rows),
-    )
+    let t = at-turn (c .before .before .before) in
+    let w = at-loop t .loop .inv .0 .whole in
+    (listed-fine (at-start (at-loop t) .pre .0) (t .turn-at .ensures .fits) (c .before .move-at .ensures) .fact, (w .size, w .rows))
 
 -- A move fires only where there is room for its request.
 room : (c : tie.Then1 Inv-loop μ-loop) → at-loop (at-turn (c .before)) .loop .n < 160
 room c =
     let t = at-turn (c .before) in
-    room-left (at-loop t .loop .inv .0) (at-start (at-loop t) .pre .0) (t .turn-at .ensures .fits) (c .before .before .before .move-at .ensures)
-    (c .before .fires .ensures) (c .if1 .taken)
+    room-left (at-loop t .loop .inv .0) (at-start (at-loop t) .pre .0) (t .turn-at .ensures .fits) (c .before .fires .ensures) (c .if1 .taken)
 
 add-note : tie.Need-add-note Inv-loop μ-loop
 add-note c =
@@ -89,7 +88,7 @@ note-requires c κs =
     let t = at-turn (h .before) in
     let k = at-loop t .loop .inv .0 in
     let s = at-start (at-loop t) in
-    (listed-fine (s .pre .0) (t .turn-at .ensures .fits) (h .before .before .before .move-at .ensures), omega (arith, room h, k .size, s .pre .1 .0 .room))
+    (listed-fine (s .pre .0) (t .turn-at .ensures .fits) (at-move (c .before) .move-at .ensures), omega (arith, room h, k .size, s .pre .1 .0 .room))
 
 cast-added : tie.Need-cast-added Inv-loop μ-loop
 cast-added c =
@@ -119,8 +118,8 @@ loop-again c =
     let h = at-then p in
     let t = at-turn (h .before) in
     let inv = at-loop t .loop .inv in (
-      kept-add (inv .0) (at-start (at-loop t) .pre .0) (t .turn-at .ensures .fits) (h .before .before .before .move-at .ensures)
-          (h .before .fires .ensures) (h .if1 .taken) (p .before .before .put .ensures) (c .before .before .before .note .ensures),
+      kept-add (inv .0) (at-start (at-loop t) .pre .0) (t .turn-at .ensures .fits) (h .before .fires .ensures) (h .if1 .taken)
+          (at-move p .move-at .ensures) (p .before .before .put .ensures) (c .before .before .before .note .ensures),
       sweeping-anew _ (simp length-set (inv .1 .named)) (t .turn-at .ensures .names) (λ _. c .next .ensures .fits),
     )
 
@@ -141,10 +140,7 @@ loop-again-2 : tie.Need-loop-again-2 Inv-loop μ-loop
 loop-again-2 c =
     let t = at-turn (c .before .before) in
     let inv = at-loop t .loop .inv in
-    let m = after-move-at (c .before .before) .move-at .ensures in
-    let still = fires-not (inv .0) (at-start (at-loop t) .pre .0) (t .turn-at .ensures .fits) m
-    (c .before .before .fires .ensures) (c .before .if1 .left) in
-    (inv .0, sweeping-quiet (inv .1) (t .turn-at .ensures) still (c .next2 .ensures))
+    (inv .0, sweeping-quiet (inv .1) (t .turn-at .ensures) (c .before .before .fires .ensures) (c .before .if1 .left) (c .next2 .ensures))
 
 same-length : tie.Need-same-length Inv-loop μ-loop
 same-length c = c .before .loop .inv .1 .named ∙ sym (at-start (c .before) .pre .1 .1)
@@ -166,8 +162,8 @@ close-spec =
     μ-loop
     loop-holds
     turn-at-requires
-    move-at-requires
     fires-requires
+    move-at-requires
     put-requires
     add-note
     note-requires

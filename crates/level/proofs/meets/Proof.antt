@@ -1,50 +1,85 @@
--- All terms of a move: those from `j` on decide. The measure is the terms left. Assumes nothing.
+-- All terms of a move, read where it stands: those from `j` on decide. The measure is the terms left. Assumes nothing.
 use mathlib.Core.Path.{_≡_, refl, sym, _∙_}
 use Prim.Native.Nat.{_≤_, _-_}
 use native.Mathlib.Omega.{arith}
 use borrow.Author.Needs.{needs}
 use borrow.Author.Tests.{not-true, not-false}
 use lib.ListN.{getD, drop}
-use Rattle.level.specs.Moves.{all, placesOf, flagsMet}
-use Rattle.level.proofs.MoveLaws.{met-pass, met-fail, met-out}
+use Rattle.level.specs.Moves.{all, placesOf, flagsMet, moveFrom}
+use Rattle.level.proofs.MoveLaws.{Reading, few-terms, term-fits, met-pass, met-fail, met-out}
 use mathlib.Core.Bool.{false}
 use Rattle.level.proofs.meets.Statement.{statement}
 use Rattle.level.proofs.meets.Tie as tie
 
 abbrev Inv-loop : tie.InvT-loop
-Inv-loop x m n j₀ j = (j ≤ n) × (flagsMet m x ≡ all (λ k. getD x k false) (drop j (placesOf m)))
+Inv-loop ms at x n j₀ j = (j ≤ n) × (flagsMet (moveFrom ms at) x ≡ all (λ k. getD x k false) (drop j (placesOf (moveFrom ms at))))
 
 abbrev μ-loop : tie.MeasureT-loop
-μ-loop x m n j₀ j = n - j
+μ-loop ms at x n j₀ j = n - j
+
+-- The places that the answers name, each seen from a later one: the start, where the number of terms was read, the loop's turn from its term.
+abbrev at-start : tie.After-wide Inv-loop μ-loop → tie.Start Inv-loop μ-loop
+at-start c = c .before .before .before .before
+
+abbrev at-count : tie.In-loop Inv-loop μ-loop → tie.After-wide Inv-loop μ-loop
+at-count c = c .before .before
+
+abbrev at-turn : tie.After-shared-slice-known5 Inv-loop μ-loop → tie.In-loop Inv-loop μ-loop
+at-turn c = c .before .before .before
+
+-- What was read of the move before its terms.
+abbrev reading : (c : tie.After-wide Inv-loop μ-loop) → Reading (at-start c .args .ms .now) (at-start c .args .at) (c .wide .result)
+reading c = record { fine = at-start c .pre .1 .0; count = c .wide .ensures }
+
+add-wide : tie.Need-add-wide Inv-loop μ-loop
+add-wide c = omega (arith, c .before .before .pre .0)
+
+mul-wide : tie.Need-mul-wide Inv-loop μ-loop
+mul-wide c = omega (arith, c .before .before .pre .0)
+
+shared-slice-read-wide : tie.Need-shared-slice-read-wide Inv-loop μ-loop
+shared-slice-read-wide c = omega (arith, c .before .before .before .pre .0)
+
+wide-requires : tie.Need-wide-requires Inv-loop μ-loop
+wide-requires c κs = search needs
 
 loop-holds : tie.Need-loop-holds Inv-loop μ-loop
 unfolding flagsMet
 loop-holds c = (omega arith, refl)
 
-mul-wide : tie.Need-mul-wide Inv-loop μ-loop
-mul-wide c = omega arith
+-- A term's place among the numbers is one of the move's fourteen.
+few : (c : tie.In-loop Inv-loop μ-loop) → at-count c .wide .result ≤ 8
+few c = few-terms (reading (at-count c))
 
-element-copy-out-wide : tie.Need-element-copy-out-wide Inv-loop μ-loop
-element-copy-out-wide c =
-    let at-start = c .before .before .before in
-    omega (arith, at-start .pre .0 .few)
+add-wide-2 : tie.Need-add-wide-2 Inv-loop μ-loop
+add-wide-2 c = omega (arith, few c)
 
-wide-requires : tie.Need-wide-requires Inv-loop μ-loop
-wide-requires c κs = search needs
+add-wide-3 : tie.Need-add-wide-3 Inv-loop μ-loop
+add-wide-3 c = omega (arith, few c)
+
+mul-wide-2 : tie.Need-mul-wide-2 Inv-loop μ-loop
+mul-wide-2 c = omega (arith, few c)
+
+shared-slice-read-wide-2 : tie.Need-shared-slice-read-wide-2 Inv-loop μ-loop
+shared-slice-read-wide-2 c = omega (arith, few (c .before))
+
+wide-requires-2 : tie.Need-wide-requires-2 Inv-loop μ-loop
+wide-requires-2 c κs = search needs
 
 shared-slice-read-if1 : tie.Need-shared-slice-read-if1 Inv-loop μ-loop
 shared-slice-read-if1 c =
-    let at-loop = c .before .before .before .before in
-    let at-start = at-loop .before .before in
-    omega (arith, at-start .pre .0 .places (at-loop .loop .j))
+    let t = at-turn c in
+    let n = at-count t in
+    omega (arith, at-start n .pre .1 .1, term-fits (reading n) (t .before .loop .j) (t .loop-test .taken) (c .before .wide2 .ensures))
 
 returns : tie.Need-returns Inv-loop μ-loop
 returns c =
-    let at-wide = c .before .before in
-    let at-loop-test = at-wide .before .before in
-    let at-loop = at-loop-test .before in
-    let at-start = at-loop .before .before in
-    sym (at-loop .loop .inv .1 ∙ met-fail (at-start .pre .0) (λ k. getD (at-start .args .x .now) k false) (at-loop .loop .j) (at-loop-test .loop-test .taken) (rw (← at-wide .wide .ensures) (not-true _ (c .if1 .taken))))
+    let t = at-turn (c .before) in
+    let n = at-count t in
+    let s = at-start n in
+    sym (t .before .loop .inv .1
+    ∙ met-fail (reading n) (λ k. getD (s .args .x .now) k false) (t .before .loop .j) (t .loop-test .taken)
+    (c .before .before .wide2 .ensures) (not-true _ (c .if1 .taken)))
 
 add-j : tie.Need-add-j Inv-loop μ-loop
 add-j c = omega arith
@@ -54,16 +89,20 @@ loop-less c = omega arith
 
 loop-again : tie.Need-loop-again Inv-loop μ-loop
 loop-again c =
-    let at-wide = c .before .before in
-    let at-loop-test = at-wide .before .before in
-    let at-loop = at-loop-test .before in
-    let at-start = at-loop .before .before in
-    (omega arith, at-loop .loop .inv .1 ∙ met-pass (at-start .pre .0) (λ k. getD (at-start .args .x .now) k false) (at-loop .loop .j) (at-loop-test .loop-test .taken) (rw (← at-wide .wide .ensures) (not-false _ (c .if1 .left))))
+    let t = at-turn (c .before) in
+    let n = at-count t in
+    let s = at-start n in (
+      omega arith,
+      t .before .loop .inv .1
+          ∙ met-pass (reading n) (λ k. getD (s .args .x .now) k false) (t .before .loop .j) (t .loop-test .taken)
+          (c .before .before .wide2 .ensures) (not-false _ (c .if1 .left)),
+    )
 
 returns-2 : tie.Need-returns-2 Inv-loop μ-loop
 returns-2 c =
-    let at-start = c .before .before .before in
-    sym (c .before .loop .inv .1 ∙ met-out (at-start .pre .0) (λ k. getD (at-start .args .x .now) k false) (c .before .loop .j) (c .loop-test .left))
+    let n = c .before .before in
+    let s = at-start n in
+    sym (c .before .loop .inv .1 ∙ met-out (reading n) (λ k. getD (s .args .x .now) k false) (c .before .loop .j) (c .loop-test .left))
 
 pub meets-spec : {M : Type 1} → statement M
 meets-spec =
@@ -71,10 +110,16 @@ meets-spec =
     (tie.spec
     Inv-loop
     μ-loop
-    loop-holds
+    add-wide
     mul-wide
-    element-copy-out-wide
+    shared-slice-read-wide
     wide-requires
+    loop-holds
+    add-wide-2
+    add-wide-3
+    mul-wide-2
+    shared-slice-read-wide-2
+    wide-requires-2
     shared-slice-read-if1
     returns
     add-j

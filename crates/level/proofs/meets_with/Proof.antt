@@ -1,46 +1,107 @@
--- All terms of a move with its own fact put in: those from `j` on decide. The measure is the terms left. Assumes nothing.
+-- All terms of a move with its own fact put in, read where it stands: those from `j` on decide. The measure is the terms left. Assumes nothing.
 use native.Mathlib.Omega.{arith}
 use borrow.Author.Needs.{needs}
-use mathlib.Core.Path.{_≡_, refl, sym, _∙_}
+use mathlib.Core.Path.{_≡_, sym, _∙_}
 use Prim.Native.Nat.{_≤_, _-_}
 use borrow.Author.Tests.{not-true, not-false}
 use lib.ListN.{getD, drop}
 use mathlib.Core.Bool.{false, _||_}
 use Rattle.level.specs.Shown.{touches}
-use Rattle.level.specs.Moves.{all, placesOf, flagsWith}
-use Rattle.level.proofs.MoveLaws.{met-pass, met-fail, met-out}
+use Rattle.level.specs.Moves.{all, placesOf, flagsWith, moveFrom}
+use Rattle.level.proofs.MoveLaws.{fact-fits, Reading, few-terms, term-fits, met-pass, met-fail, met-out}
+use Rattle.level.proofs.BackSweepLaws.{with-read}
 use Rattle.level.proofs.meets_with.Statement.{statement}
 use Rattle.level.proofs.meets_with.Tie as tie
 
 abbrev Inv-loop : tie.InvT-loop
-Inv-loop table x m n f j₀ j = (j ≤ n) × (flagsWith m table x ≡ all (λ k. getD x k false || touches table (m .fact) k) (drop j (placesOf m)))
+Inv-loop ms at table x f n j₀ j =
+    (j ≤ n) × (flagsWith (moveFrom ms at) table x ≡ all (λ k. getD x k false || touches table f k) (drop j (placesOf (moveFrom ms at))))
 
 abbrev μ-loop : tie.MeasureT-loop
-μ-loop table x m n f j₀ j = n - j
+μ-loop ms at table x f n j₀ j = n - j
 
-loop-holds : tie.Need-loop-holds Inv-loop μ-loop
-unfolding flagsWith
-loop-holds c = (omega arith, refl)
+-- The places that the answers name, each seen from a later one: the start, where the fact was read, where the number of terms was, the loop's turn.
+abbrev from-slices : tie.After-shared-slice-known3 Inv-loop μ-loop → tie.Start Inv-loop μ-loop
+from-slices c = c .before .before .before
+
+abbrev at-start : tie.After-wide Inv-loop μ-loop → tie.Start Inv-loop μ-loop
+at-start c = from-slices (c .before .before)
+
+abbrev at-fact : tie.After-wide2 Inv-loop μ-loop → tie.After-wide Inv-loop μ-loop
+at-fact c = c .before .before
+
+abbrev at-count : tie.In-loop Inv-loop μ-loop → tie.After-wide2 Inv-loop μ-loop
+at-count c = c .before .before
+
+abbrev at-turn : tie.After-lit Inv-loop μ-loop → tie.In-loop Inv-loop μ-loop
+at-turn c = c .before .before .before
+
+-- What was read of the move before its terms.
+abbrev reading : (c : tie.After-wide2 Inv-loop μ-loop) → Reading (at-start (at-fact c) .args .ms .now) (at-start (at-fact c) .args .at) (c .wide2 .result)
+reading c = record { fine = at-start (at-fact c) .pre .0 .1; count = c .wide2 .ensures }
 
 mul-wide : tie.Need-mul-wide Inv-loop μ-loop
-mul-wide c = omega arith
+mul-wide c = omega (arith, from-slices c .pre .0 .0)
 
-element-copy-out-wide : tie.Need-element-copy-out-wide Inv-loop μ-loop
-element-copy-out-wide c =
-    let at-start = c .before .before .before .before in
-    omega (arith, at-start .pre .0 .few)
+shared-slice-read-wide : tie.Need-shared-slice-read-wide Inv-loop μ-loop
+shared-slice-read-wide c = omega (arith, from-slices (c .before) .pre .0 .0)
 
 wide-requires : tie.Need-wide-requires Inv-loop μ-loop
 wide-requires c κs = search needs
 
+add-wide : tie.Need-add-wide Inv-loop μ-loop
+add-wide c = omega (arith, at-start c .pre .0 .0)
+
+mul-wide-2 : tie.Need-mul-wide-2 Inv-loop μ-loop
+mul-wide-2 c = omega (arith, at-start c .pre .0 .0)
+
+shared-slice-read-wide-2 : tie.Need-shared-slice-read-wide-2 Inv-loop μ-loop
+shared-slice-read-wide-2 c = omega (arith, at-start (c .before) .pre .0 .0)
+
+wide-requires-2 : tie.Need-wide-requires-2 Inv-loop μ-loop
+wide-requires-2 c κs = search needs
+
+loop-holds : tie.Need-loop-holds Inv-loop μ-loop
+loop-holds c =
+    let s = at-start (at-fact c) in
+    (omega arith, with-read (s .args .ms .now) (s .args .at) (s .args .table .now) (s .args .x .now) (at-fact c .wide .ensures))
+
+-- A term's place among the numbers is one of the move's fourteen.
+few : (c : tie.In-loop Inv-loop μ-loop) → at-count c .wide2 .result ≤ 8
+few c = few-terms (reading (at-count c))
+
+add-wide-2 : tie.Need-add-wide-2 Inv-loop μ-loop
+add-wide-2 c = omega (arith, few c)
+
+add-wide-3 : tie.Need-add-wide-3 Inv-loop μ-loop
+add-wide-3 c = omega (arith, few c)
+
+mul-wide-3 : tie.Need-mul-wide-3 Inv-loop μ-loop
+mul-wide-3 c = omega (arith, few c)
+
+shared-slice-read-wide-3 : tie.Need-shared-slice-read-wide-3 Inv-loop μ-loop
+shared-slice-read-wide-3 c = omega (arith, few (c .before))
+
+wide-requires-3 : tie.Need-wide-requires-3 Inv-loop μ-loop
+wide-requires-3 c κs = search needs
+
 lit-requires : tie.Need-lit-requires Inv-loop μ-loop
 lit-requires c κs =
-    let at-loop = c .before .before .before in
-    let at-start = at-loop .before .before .before in
-    (at-start .pre .0 .fact, (omega (arith, at-start .pre .0 .places (at-loop .loop .j)), (at-start .pre .1 .0, at-start .pre .1 .1)))
+    let t = c .before .before in
+    let n = at-count t in
+    let s = at-start (at-fact n) in (
+      fact-fits (s .args .ms .now) (s .args .at) (s .pre .0 .1) (at-fact n .wide .ensures),
+      (term-fits (reading n) (t .before .loop .j) (t .loop-test .taken) (c .wide3 .ensures), s .pre .1),
+    )
 
 returns : tie.Need-returns Inv-loop μ-loop
-returns c = sym (c .before .before .before .before .before .loop .inv .1 ∙ met-fail (c .before .before .before .before .before .before .before .before .pre .0) (λ k. getD (c .before .before .before .before .before .before .before .before .args .x .now) k false || touches (c .before .before .before .before .before .before .before .before .args .table .now) (c .before .before .before .before .before .before .before .before .args .t1 .fact) k) (c .before .before .before .before .before .loop .j) (c .before .before .before .before .loop-test .taken) (rw (← c .before .before .wide .ensures) (sym (c .before .lit .ensures) ∙ not-true _ (c .if1 .taken))))
+returns c =
+    let t = at-turn (c .before) in
+    let n = at-count t in
+    let s = at-start (at-fact n) in
+    sym (t .before .loop .inv .1
+    ∙ met-fail (reading n) (λ k. getD (s .args .x .now) k false || touches (s .args .table .now) (at-fact n .wide .result) k)
+    (t .before .loop .j) (t .loop-test .taken) (c .before .before .wide3 .ensures) (sym (c .before .lit .ensures) ∙ not-true _ (c .if1 .taken)))
 
 add-j : tie.Need-add-j Inv-loop μ-loop
 add-j c = omega arith
@@ -49,12 +110,23 @@ loop-less : tie.Need-loop-less Inv-loop μ-loop
 loop-less c = omega arith
 
 loop-again : tie.Need-loop-again Inv-loop μ-loop
-loop-again c = (omega arith, c .before .before .before .before .before .loop .inv .1 ∙ met-pass (c .before .before .before .before .before .before .before .before .pre .0) (λ k. getD (c .before .before .before .before .before .before .before .before .args .x .now) k false || touches (c .before .before .before .before .before .before .before .before .args .table .now) (c .before .before .before .before .before .before .before .before .args .t1 .fact) k) (c .before .before .before .before .before .loop .j) (c .before .before .before .before .loop-test .taken) (rw (← c .before .before .wide .ensures) (sym (c .before .lit .ensures) ∙ not-false _ (c .if1 .left))))
+loop-again c =
+    let t = at-turn (c .before) in
+    let n = at-count t in
+    let s = at-start (at-fact n) in (
+      omega arith,
+      t .before .loop .inv .1
+          ∙ met-pass (reading n) (λ k. getD (s .args .x .now) k false || touches (s .args .table .now) (at-fact n .wide .result) k)
+          (t .before .loop .j) (t .loop-test .taken) (c .before .before .wide3 .ensures) (sym (c .before .lit .ensures) ∙ not-false _ (c .if1 .left)),
+    )
 
 returns-2 : tie.Need-returns-2 Inv-loop μ-loop
 returns-2 c =
-    let at-start = c .before .before .before .before in
-    sym (c .before .loop .inv .1 ∙ met-out (at-start .pre .0) (λ k. getD (at-start .args .x .now) k false || touches (at-start .args .table .now) (at-start .args .t1 .fact) k) (c .before .loop .j) (c .loop-test .left))
+    let n = c .before .before in
+    let s = at-start (at-fact n) in
+    sym (c .before .loop .inv .1
+    ∙ met-out (reading n) (λ k. getD (s .args .x .now) k false || touches (s .args .table .now) (at-fact n .wide .result) k)
+    (c .before .loop .j) (c .loop-test .left))
 
 pub meets-with-spec : {M : Type 1} → statement M
 meets-with-spec =
@@ -62,10 +134,19 @@ meets-with-spec =
     (tie.spec
     Inv-loop
     μ-loop
-    loop-holds
     mul-wide
-    element-copy-out-wide
+    shared-slice-read-wide
     wide-requires
+    add-wide
+    mul-wide-2
+    shared-slice-read-wide-2
+    wide-requires-2
+    loop-holds
+    add-wide-2
+    add-wide-3
+    mul-wide-3
+    shared-slice-read-wide-3
+    wide-requires-3
     lit-requires
     returns
     add-j
