@@ -2,7 +2,7 @@
  *
  * Link with libbixorgun.a (x86-64). The functions keep no state, allocate nothing and write to the one lent buffer alone, so any
  * number of threads may call them at once; a buffer that one call writes is in no other call's hands meanwhile. As measured, plan
- * takes 250 KB of stack and the other operations 101 KB.
+ * takes 176 KB of stack (of 1,024 bytes) and the other operations 71 KB: give a thread 192 KB or more.
  *
  * What the proofs take for granted, and a caller has to see to:
  *   - a pointer is valid for the length that follows it and is never NULL. For length 0 any non-null pointer will do;

@@ -139,6 +139,28 @@ fn rounds(count: u8) -> Vec<u8> {
     text.into_bytes()
 }
 
+/// A book of 32 crews that each add 124 values, one after the other, by one of four chains of rules, in which each rule stands
+/// before the one that it needs. The crews take so many of the chains in turn: with more than one, no crew's moves fire that
+/// fired for the crew before it.
+fn chains(taken: u8) -> Vec<u8> {
+    let value = |k: u8| format!("{:02X}{:02X}", k / 16, k % 16);
+    let chosen = |chain: u8| value(124 + chain);
+    let mut text = "0101200810\n".to_owned();
+    for chain in 0..4 {
+        for k in (0..124_u8).rev() {
+            text += &match k.checked_sub(1) {
+                Some(below) => format!("030300{}0201{}01{}\n", value(k), chosen(chain), value(below)),
+                None => format!("030300{}0101{}\n", value(k), chosen(chain)),
+            };
+        }
+    }
+    for crew in 0..32 {
+        text += &format!("0402{crew:02X}{}\n", chosen(crew % taken));
+    }
+    text += "030100000000\n050100000101000001\n";
+    text.into_bytes()
+}
+
 fn edges(edges: Edges) -> String {
     edges.list().into_iter().map(|(senior, junior)| format!("02{senior:02X}{junior:02X}\n")).collect()
 }
@@ -187,6 +209,10 @@ fn with_rounds(count: u8) -> Job {
     Job::new(rounds(count)).expect("the book is accepted")
 }
 
+fn with_chains(taken: u8) -> Job {
+    Job::new(chains(taken)).expect("the book is accepted")
+}
+
 fn points<N: Copy>(numbers: &[N], number: impl Fn(N) -> usize, job: impl Fn(N) -> Job) -> Vec<(usize, Job)> {
     numbers.iter().map(|&n| (number(n), job(n))).collect()
 }
@@ -206,6 +232,7 @@ pub fn all() -> Vec<Series> {
         series("values of 32 crews", ALL, points(&[1, 2, 4, 8, 16, 32, 64, 128], |n| n, with_values)),
         series("requests replayed", &[Operation::Replay], points(&[32, 128, 512, 2_048, 8_192], |n| n, with_climbs)),
         series("rounds of each level", ALL, points(&[4, 8, 15, 30, 60], usize::from, with_rounds)),
+        series("chains that crews take in turn", &[Operation::Plan], points(&[1, 2, 4], usize::from, with_chains)),
     ]
 }
 

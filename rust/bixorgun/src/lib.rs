@@ -31,7 +31,7 @@
 //! ```
 //!
 //! The operations keep no state, allocate nothing and may run on any number of threads at once. As measured, plan takes
-//! 250 KB of stack and the others 101 KB. An answer that `include/bixorgun.h` does not have means that another library was
+//! 176 KB of stack and the others 71 KB: give a thread 192 KB or more. An answer that `include/bixorgun.h` does not have means that another library was
 //! linked; the functions panic on it.
 //!
 //! Words in quotation marks are those of the specification.
