@@ -418,6 +418,46 @@ fn large() {
     });
 }
 
+/// A line of about 64 bytes or more, of any kind, by the length that its n or q gives or by another; some have a digit too
+/// many or another character.
+fn long_line(rng: &mut Rng) -> Vec<u8> {
+    let mut frame: Vec<u8> = (0..6).map(|_| rng.below(7) as u8).collect();
+    frame[5] = 16 + rng.below(8) as u8;
+    let crews = if frame[0] == 5 && frame[1] == 2 { 4 } else { 0 };
+    let due = 6 + 3 * usize::from(frame[5]) + crews;
+    let length = if rng.percent(50) { due } else { 60 + rng.below(10) };
+    frame.resize_with(length, || rng.below(4) as u8);
+    let mut line: Vec<u8> = frame.iter().flat_map(|byte| format!("{byte:02X}").into_bytes()).collect();
+    if rng.percent(10) {
+        line.push(b'0');
+    }
+    if rng.percent(10) {
+        let at = rng.below(line.len());
+        line[at] = b'a';
+    }
+    line.push(b'\n');
+    line
+}
+
+/// No good book has a line of over 64 bytes, and the reader keeps no more of one: which refusal it is rests on these and the
+/// line's length.
+#[test]
+fn long_lines() {
+    let mut counts = Counts::default();
+    let first = 0x0B1C_7000_0000 + shift();
+    for seed in first..first + 10_000 {
+        let mut rng = Rng::new(seed);
+        let text = gen::small_book(&mut rng).text();
+        let mut lines: Vec<Vec<u8>> = text.split_inclusive(|&c| c == b'\n').map(<[u8]>::to_vec).collect();
+        lines.insert(rng.below(lines.len() + 1), long_line(&mut rng));
+        let case = Case { run: "long lines", seed, text: lines.concat() };
+        counts.books += 1;
+        case.open(&filled(&mut rng, LEDGER_SIZE), &mut counts);
+    }
+    counts.print("long lines");
+    assert!((2..=5).all(|number| counts.refusals[OPEN][number] > 100));
+}
+
 /// The repository's stored books, good and bad.
 #[test]
 fn stored() {
