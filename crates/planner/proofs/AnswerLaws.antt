@@ -21,8 +21,8 @@ use Rattle.level.proofs.NoteLaws.{asks-length}
 use Rattle.reach.specs.Tracked.{bytesOf}
 use Rattle.drafts.specs.Drafts.{carried, flat}
 use Rattle.drafts.proofs.DraftLaws.{run-carried, flat-append, fives-flat, length-flat}
-use Rattle.planner.specs.Drive.{starts, drafted}
-use Rattle.planner.specs.Scan.{Written}
+use Rattle.search.specs.Drive.{starts, drafted}
+use Rattle.search.specs.Scan.{Written}
 use Rattle.planner.specs.Count.{factCount}
 use Rattle.planner.specs.Promise.{NoWay, Works}
 use Rattle.planner.specs.declared.Planned.{Planned}

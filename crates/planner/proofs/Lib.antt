@@ -1,10 +1,3 @@
-pub mod Tables
-pub mod TermBridge
-pub mod RuleParts
-pub mod WithinLaws
-pub mod SubjectLaws
-pub mod DriveLaws
-pub mod StepLaws
 pub mod CountLaws
 pub mod PromiseLaws
 pub mod AnswerLaws

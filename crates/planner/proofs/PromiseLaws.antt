@@ -23,8 +23,8 @@ use Rattle.reach.proofs.TrackLaws.{lift-mono, track-at}
 use Rattle.reach.proofs.DepotLaws.{depot}
 use Rattle.reach.proofs.ChainLaws.{kept-after, track-after, adding-of, Chained, chain-ran, run-chained}
 use Rattle.reach.proofs.GoalLaws.{goal-mono, met-goal, met-clear, goal-met, goal-local, clear-of, clear-from}
-use Rattle.planner.specs.Drive.{starts}
-use Rattle.planner.specs.Scan.{NoRun}
+use Rattle.search.specs.Drive.{starts}
+use Rattle.search.specs.Scan.{NoRun}
 use Rattle.planner.proofs.CountLaws.{runs-first, runs-last}
 use Rattle.planner.specs.Promise.{NoWay, Changing, Never, Once, Works}
 

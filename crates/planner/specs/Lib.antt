@@ -1,5 +1,3 @@
 pub mod Count
 pub mod Promise
 pub mod Answer
-pub mod Drive
-pub mod Scan

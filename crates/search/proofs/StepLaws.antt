@@ -28,11 +28,11 @@ use Rattle.level.proofs.ChosenLaws.{moves-sound}
 use Rattle.reach.specs.Tracked.{personLevel}
 use Rattle.reach.proofs.DepotLaws.{depot}
 use Rattle.flags.specs.Flags as flags
-use Rattle.planner.specs.Drive.{Driving}
-use Rattle.planner.specs.Scan.{SideMoves, AllAllowed, BlankTable, Scanned, Searched}
-use Rattle.planner.proofs.WithinLaws.{within, all-good}
-use Rattle.planner.proofs.SubjectLaws.{crew-level, crew-terms, crew-adds, crew-dels, person-level, person-terms, person-adds, person-dels}
-use Rattle.planner.proofs.DriveLaws.{Handed, crew-table, person-table, rows-next, drive-stuck, drive-next, drive-best, up-next, down-next}
+use Rattle.search.specs.Drive.{Driving}
+use Rattle.search.specs.Scan.{SideMoves, AllAllowed, BlankTable, Scanned, Searched}
+use Rattle.search.proofs.WithinLaws.{within, all-good}
+use Rattle.search.proofs.SubjectLaws.{crew-level, crew-terms, crew-adds, crew-dels, person-level, person-terms, person-adds, person-dels}
+use Rattle.search.proofs.DriveLaws.{Handed, crew-table, person-table, rows-next, drive-stuck, drive-next, drive-best, up-next, down-next}
 
 -- What is told by the negation.
 pub no-found : (x : Bool) → not x ≡ true → x ≡ false

@@ -26,7 +26,7 @@ use Rattle.level.proofs.Levels.{onLevel}
 use Rattle.level.proofs.LevelLaws.{on-level-at, on-level-out}
 use Rattle.reach.specs.Tracked.{personLevel, tracked, numberOf, lift}
 use Rattle.reach.proofs.TrackLaws.{lift-same, tracked-crew}
-use Rattle.planner.proofs.Tables.{CrewTable, PersonTable}
+use Rattle.search.proofs.Tables.{CrewTable, PersonTable}
 
 any-false : (p : ℕ → Bool) (n : ℕ) → ((i : ℕ) → i < n → p i ≡ false) → shown.anyBelow p n ≡ false
 unfolding shown.anyBelow

@@ -5,9 +5,9 @@ use native.Mathlib.Omega.{arith}
 use Rattle.frames.specs.Book.{contentsOf}
 use Rattle.flags.proofs.FlagLaws.{small-wants, start-flags}
 use Rattle.flags.proofs.BadLaws.{bad-all}
-use Rattle.planner.proofs.StepLaws.{room-up, room-below, room-down, starts-allowed, person-searched}
-use Rattle.planner.proofs.person_level.Statement.{statement}
-use Rattle.planner.proofs.person_level.Tie as tie
+use Rattle.search.proofs.StepLaws.{room-up, room-below, room-down, starts-allowed, person-searched}
+use Rattle.search.proofs.person_level.Statement.{statement}
+use Rattle.search.proofs.person_level.Tie as tie
 
 -- The places that the answers name, each seen from a later one.
 abbrev entry : tie.After-bad → tie.Start

@@ -4,10 +4,10 @@ use mathlib.Core.Path.{refl, sym}
 use native.Mathlib.Omega.{arith}
 use lib.ListN.{length-map}
 use lib.Seq.{length-take-le}
-use Rattle.planner.proofs.StepLaws.{book-good, side-moves}
+use Rattle.search.proofs.StepLaws.{book-good, side-moves}
 use borrow.Author.Needs.{needs}
-use Rattle.planner.proofs.search.Statement.{statement}
-use Rattle.planner.proofs.search.Tie as tie
+use Rattle.search.proofs.search.Statement.{statement}
+use Rattle.search.proofs.search.Tie as tie
 
 -- The places that the answers name, each seen from a later one.
 abbrev start : tie.After-buffer → tie.Start

@@ -6,9 +6,9 @@ use lib.ListN.{length}
 use Rattle.frames.specs.Book.{contentsOf}
 use Rattle.flags.proofs.FlagLaws.{small-wants, start-flags, filled-row}
 use Rattle.flags.proofs.BadLaws.{bad-all}
-use Rattle.planner.proofs.StepLaws.{room-up, room-below, room-down, starts-allowed, crew-scanned}
-use Rattle.planner.proofs.crew_level.Statement.{statement}
-use Rattle.planner.proofs.crew_level.Tie as tie
+use Rattle.search.proofs.StepLaws.{room-up, room-below, room-down, starts-allowed, crew-scanned}
+use Rattle.search.proofs.crew_level.Statement.{statement}
+use Rattle.search.proofs.crew_level.Tie as tie
 
 -- The places that the answers name, each seen from a later one.
 abbrev entry : tie.After-slice-known6 → tie.Start

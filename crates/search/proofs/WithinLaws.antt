@@ -34,7 +34,7 @@ use Rattle.level.proofs.RuleLaws.{rules-good}
 use Rattle.level.proofs.ChosenLaws.{chosen-parts, chosen-from}
 use Rattle.reach.specs.Tracked.{tracked, numberOf, lift, bytesOf, asked, May}
 use Rattle.reach.proofs.DepotLaws.{depot}
-use Rattle.planner.proofs.RuleParts.{Parts, rule-parts, crew-low, rule-crew}
+use Rattle.search.proofs.RuleParts.{Parts, rule-parts, crew-low, rule-crew}
 
 -- ---------------------------------------------------------------- tests over lists
 

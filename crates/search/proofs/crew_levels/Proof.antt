@@ -5,13 +5,13 @@ use mathlib.Core.List.{List}
 use Prim.Native.Nat.{ℕ, _+_, _-_, _*_, _≤_, _<_}
 use lib.ListN.{length}
 use Rattle.frames.specs.Book.{Contents, contentsOf}
-use Rattle.planner.specs.Drive.{Driving}
-use Rattle.planner.specs.Scan.{BlankTable, Scanned}
-use Rattle.planner.proofs.StepLaws.{no-found, was-found}
+use Rattle.search.specs.Drive.{Driving}
+use Rattle.search.specs.Scan.{BlankTable, Scanned}
+use Rattle.search.proofs.StepLaws.{no-found, was-found}
 use borrow.Author.Needs.{needs}
 use native.Mathlib.Omega.{arith}
-use Rattle.planner.proofs.crew_levels.Statement.{statement}
-use Rattle.planner.proofs.crew_levels.Tie as tie
+use Rattle.search.proofs.crew_levels.Statement.{statement}
+use Rattle.search.proofs.crew_levels.Tie as tie
 
 few : {n k crews : ℕ} → n ≤ 160 * (k + 1) → k < crews → crews ≤ 32 → n < 18446744073709551616
 few a h b = omega arith

@@ -4,10 +4,10 @@ use Prim.Native.Nat.{_-_, _≤_}
 use native.Mathlib.Omega.{arith}
 use lib.ListN.{length}
 use Rattle.flags.proofs.FlagLaws.{filled-row}
-use Rattle.planner.proofs.StepLaws.{ReachSoFar, reach-first, reach-next, reach-all}
+use Rattle.search.proofs.StepLaws.{ReachSoFar, reach-first, reach-next, reach-all}
 use borrow.Author.Needs.{needs}
-use Rattle.planner.proofs.fill_reach.Statement.{statement}
-use Rattle.planner.proofs.fill_reach.Tie as tie
+use Rattle.search.proofs.fill_reach.Statement.{statement}
+use Rattle.search.proofs.fill_reach.Tie as tie
 
 abbrev Inv-loop : tie.InvT-loop
 Inv-loop juniors reach₀ x table₀ k₀ reach table k = (k ≤ 32) × (ReachSoFar juniors k reach × (length table ≡ 5280))

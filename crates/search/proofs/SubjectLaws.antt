@@ -25,10 +25,10 @@ use Rattle.level.specs.Terms.{termShown, GoodRule}
 use Rattle.level.proofs.Levels.{onLevel}
 use Rattle.reach.specs.Tracked.{personLevel, tracked, numberOf, lift}
 use Rattle.reach.proofs.TrackLaws.{tracked-value, tracked-crew, tracked-member}
-use Rattle.planner.proofs.Tables.{CrewTable, PersonTable}
-use Rattle.planner.proofs.RuleParts.{Parts, crew-low, rule-value, rule-crew}
-use Rattle.planner.proofs.TermBridge.{crew-term, person-term}
-use Rattle.planner.proofs.WithinLaws.{LevelIs, SideIs}
+use Rattle.search.proofs.Tables.{CrewTable, PersonTable}
+use Rattle.search.proofs.RuleParts.{Parts, crew-low, rule-value, rule-crew}
+use Rattle.search.proofs.TermBridge.{crew-term, person-term}
+use Rattle.search.proofs.WithinLaws.{LevelIs, SideIs}
 
 -- The ops on a crew, and those on a person.
 abbrev pub OnCrew : ℕ → Type 0

@@ -6,12 +6,12 @@ use Prim.Native.Nat.{ℕ}
 use native.Mathlib.Omega.{arith}
 use lib.ListN.{getD-replicate}
 use Rattle.frames.specs.Book.{Contents, contentsOf}
-use Rattle.planner.specs.Scan.{NoRun, Searched}
-use Rattle.planner.proofs.DriveLaws.{drive-first}
-use Rattle.planner.proofs.StepLaws.{no-found, was-found}
+use Rattle.search.specs.Scan.{NoRun, Searched}
+use Rattle.search.proofs.DriveLaws.{drive-first}
+use Rattle.search.proofs.StepLaws.{no-found, was-found}
 use borrow.Author.Needs.{needs}
-use Rattle.planner.proofs.all_levels.Statement.{statement}
-use Rattle.planner.proofs.all_levels.Tie as tie
+use Rattle.search.proofs.all_levels.Statement.{statement}
+use Rattle.search.proofs.all_levels.Tie as tie
 
 none-found : {b : Contents} {up down : List ℕ} {found : Bool} {ups at : ℕ} → found ≡ false → NoRun b → Searched b up down found ups at
 none-found e never = record { written = λ f. absurd (true≢false (sym f ∙ e)); stuck = λ f. never }

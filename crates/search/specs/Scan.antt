@@ -14,7 +14,7 @@ use Rattle.level.specs.Notes.{asks}
 use Rattle.reach.specs.Tracked.{bytesOf}
 use Rattle.reach.specs.Goal.{bad}
 use Rattle.reach.proofs.DepotLaws.{depot}
-use Rattle.planner.specs.Drive.{starts, Driving}
+use Rattle.search.specs.Drive.{starts, Driving}
 
 -- The moves of a level's two sides, out of the rules with the query's roles.
 pub record SideMoves (b : Book) (add₁ add₂ del₁ del₂ : ℕ) (adds dels : Moves) : Type 0 where

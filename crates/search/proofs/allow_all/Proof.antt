@@ -10,8 +10,8 @@ use mathlib.Core.List.{List}
 use mathlib.Core.Bool.{Bool}
 use borrow.Author.Needs.{needs}
 use native.Mathlib.Omega.{arith}
-use Rattle.planner.proofs.allow_all.Statement.{statement}
-use Rattle.planner.proofs.allow_all.Tie as tie
+use Rattle.search.proofs.allow_all.Statement.{statement}
+use Rattle.search.proofs.allow_all.Tie as tie
 
 one-more : (u : List Bool) (f : ℕ) → f < length u → ((g : ℕ) → g < f → getD u g false ≡ true) → (g : ℕ) → g < f + 1 → getD (set u f true) g false ≡ true
 one-more u f room below g h =

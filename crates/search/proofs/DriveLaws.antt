@@ -36,9 +36,9 @@ use Rattle.reach.specs.Goal.{bad}
 use Rattle.reach.proofs.TrackLaws.{tracked-crew, level-low}
 use Rattle.reach.proofs.DepotLaws.{depot, levels}
 use Rattle.flags.specs.Flags as flags
-use Rattle.planner.proofs.Tables.{CrewTable, PersonTable}
-use Rattle.planner.specs.Drive.{starts, Rows, Driving}
-use Rattle.planner.proofs.TermBridge.{crew-effective, lower-holds}
+use Rattle.search.proofs.Tables.{CrewTable, PersonTable}
+use Rattle.search.specs.Drive.{starts, Rows, Driving}
+use Rattle.search.proofs.TermBridge.{crew-effective, lower-holds}
 
 -- What is shown behind the direct facts is what is effective.
 shown-at : (T : List Bool) (S : State) (f : ℕ) → shown T S (160 + f) ≡ effective T S f
