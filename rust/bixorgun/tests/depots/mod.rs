@@ -1,0 +1,270 @@
+//! Small depots drawn from a seed: 1-2 persons, 0-3 crews, 1-2 attributes of 1-3 values, at most twelve facts and
+//! twelve rules of every op and every kind of term, starting facts, and a query of either mode.
+
+use crate::seed::Seed;
+use crate::trials::{Draft, Ledger};
+
+/// A search over all ledgers of a depot stays small.
+const MOST_FACTS: usize = 12;
+
+const MOST_RULES: usize = 12;
+
+/// The first line's numbers.
+#[derive(Clone, Copy)]
+pub struct Sizes {
+    pub persons: u8,
+    pub crews: u8,
+    pub attrs: u8,
+    pub values: u8,
+}
+
+/// A fact as its line has it: kind 1 a person's value, 2 a crew's, 3 a person in crew a.
+#[derive(Clone, Copy, PartialEq, Eq)]
+pub struct Fact {
+    pub kind: u8,
+    pub subject: u8,
+    pub a: u8,
+    pub v: u8,
+}
+
+/// A drawn depot with all the facts that its sizes give.
+pub struct Depot {
+    pub sizes: Sizes,
+    pub facts: Vec<Fact>,
+    pub draft: Draft,
+}
+
+/// Whether an op adds its fact; the others delete it.
+pub const fn is_adding(op: u8) -> bool {
+    op % 2 == 1
+}
+
+impl Fact {
+    /// The fact that a request is about.
+    pub fn of(request: &[u8]) -> Self {
+        Fact { kind: request[0].div_ceil(2), subject: request[2], a: request[3], v: request[4] }
+    }
+
+    /// The fact's byte in a ledger and its bit there: "Person p's attribute a is a two-byte set at 16·p + 2·a, crew
+    /// c's at 1,024 + 16·c + 2·a, person p's crews a four-byte set at 1,536 + 4·p; big-endian".
+    fn place(self) -> (usize, u8) {
+        let [s, a, v] = [self.subject, self.a, self.v].map(usize::from);
+        let (set, last, number) = match self.kind {
+            1 => (16 * s + 2 * a, 1, v),
+            2 => (1_024 + 16 * s + 2 * a, 1, v),
+            _ => (1_536 + 4 * s, 3, a),
+        };
+        (set + last - number / 8, 1 << (number % 8))
+    }
+
+    pub fn holds(self, ledger: &Ledger) -> bool {
+        let (byte, bit) = self.place();
+        ledger[byte] & bit != 0
+    }
+
+    pub fn put(self, ledger: &mut Ledger, on: bool) {
+        let (byte, bit) = self.place();
+        ledger[byte] = if on { ledger[byte] | bit } else { ledger[byte] & !bit };
+    }
+}
+
+impl Sizes {
+    fn fact_count(self) -> usize {
+        let [persons, crews, attrs, values] = [self.persons, self.crews, self.attrs, self.values].map(usize::from);
+        (persons + crews) * attrs * values + persons * crews
+    }
+
+    /// Every fact: the persons' values, the crews', the memberships.
+    fn facts(self) -> Vec<Fact> {
+        let mut facts = Vec::new();
+        for (kind, subjects) in [(1, self.persons), (2, self.crews)] {
+            for subject in 0..subjects {
+                for a in 0..self.attrs {
+                    facts.extend((0..self.values).map(|v| Fact { kind, subject, a, v }));
+                }
+            }
+        }
+        for subject in 0..self.persons {
+            facts.extend((0..self.crews).map(|a| Fact { kind: 3, subject, a, v: 0 }));
+        }
+        facts
+    }
+}
+
+impl Depot {
+    /// Draws a depot.
+    pub fn draw(seed: &mut Seed) -> Self {
+        let sizes = draw_sizes(seed);
+        let facts = sizes.facts();
+        let mut frames = vec![vec![1, sizes.persons, sizes.crews, sizes.attrs, sizes.values]];
+        let lines = 12 + seed.below(14);
+        let mut rules = 0;
+        for _ in 0..lines {
+            frames.extend(draw_line(seed, sizes, &facts, &mut rules));
+        }
+        frames.push(draw_query(seed, sizes));
+        Depot { sizes, facts, draft: Draft::new(frames) }
+    }
+
+    /// The rules' frames: 03, op, role, a, v, n and the terms.
+    pub fn rules(&self) -> impl Iterator<Item = &[u8]> {
+        self.draft.frames.iter().filter(|frame| frame[0] == 3).map(Vec::as_slice)
+    }
+
+    /// How many subjects an op may be about.
+    pub fn subjects(&self, op: u8) -> u8 {
+        if matches!(op, 3 | 4) {
+            self.sizes.crews
+        } else {
+            self.sizes.persons
+        }
+    }
+
+    /// The number of a fact among the depot's facts.
+    pub fn number_of(&self, fact: Fact) -> Option<usize> {
+        self.facts.iter().position(|&other| other == fact)
+    }
+
+    /// F, how many facts a plan may be about: those of the crews and of the query's person.
+    pub fn tracked(&self) -> usize {
+        let person = self.draft.query()[2];
+        self.facts.iter().filter(|fact| fact.kind == 2 || fact.subject == person).count()
+    }
+}
+
+/// 0 to 3 crews, more of them oftener.
+fn draw_crews(seed: &mut Seed) -> u8 {
+    match seed.below(8) {
+        n @ 0..=4 => n.div_ceil(2),
+        _ => 3,
+    }
+}
+
+/// Sizes drawn, and cut where they give too many facts.
+fn draw_sizes(seed: &mut Seed) -> Sizes {
+    let persons = 1 + seed.below(2);
+    let crews = draw_crews(seed);
+    let attrs = 1 + seed.below(2);
+    let values = 1 + seed.below(3);
+    let drawn = Sizes { persons, crews, attrs, values };
+    let one = Sizes { attrs: 1, ..drawn };
+    let least = Sizes { persons: 1, values: 2, ..one };
+    [drawn, one].into_iter().find(|sizes| sizes.fact_count() <= MOST_FACTS).unwrap_or(least)
+}
+
+/// A line between the first and the query: an edge, a starting fact, or a rule while there are not too many.
+fn draw_line(seed: &mut Seed, sizes: Sizes, facts: &[Fact], rules: &mut usize) -> Option<Vec<u8>> {
+    match seed.below(10) {
+        0 | 1 => draw_edge(seed, sizes),
+        2 | 3 => Some(draw_fact(seed, facts)),
+        _ if *rules < MOST_RULES => {
+            *rules += 1;
+            Some(draw_rule(seed, sizes))
+        }
+        _ => None,
+    }
+}
+
+/// An edge from a crew to one of smaller number, where there is such a pair.
+fn draw_edge(seed: &mut Seed, sizes: Sizes) -> Option<Vec<u8>> {
+    let senior = seed.below(sizes.crews);
+    let junior = seed.below(senior);
+    (senior > 0).then(|| vec![2, senior, junior])
+}
+
+fn draw_fact(seed: &mut Seed, facts: &[Fact]) -> Vec<u8> {
+    let fact = facts[usize::from(seed.below(facts.len() as u8))];
+    vec![4, fact.kind, fact.subject, fact.a, fact.v]
+}
+
+fn draw_rule(seed: &mut Seed, sizes: Sizes) -> Vec<u8> {
+    let op = draw_op(seed, sizes);
+    let role = draw_role(seed);
+    let joins = op > 4;
+    let n = draw_length(seed);
+    let (mut a, mut v) = (seed.below(sizes.attrs), seed.below(sizes.values));
+    if joins {
+        (a, v) = (seed.below(sizes.crews), 0);
+    }
+    let mut frame = vec![3, op, role, a, v, n];
+    for _ in 0..n {
+        frame.extend(draw_term(seed, sizes, joins));
+    }
+    frame
+}
+
+/// Any of the ops that the sizes have a subject for.
+fn draw_op(seed: &mut Seed, sizes: Sizes) -> u8 {
+    1 + seed.below(if sizes.crews == 0 { 2 } else { 6 })
+}
+
+/// One of the roles 0, 1, 2 and 15.
+fn draw_role(seed: &mut Seed) -> u8 {
+    [0, 1, 2, 15][usize::from(seed.below(4))]
+}
+
+/// How many terms: none or one, seldom two or three.
+fn draw_length(seed: &mut Seed) -> u8 {
+    [0, 0, 0, 1, 1, 1, 2, 3][usize::from(seed.below(8))]
+}
+
+/// A term on values, or, where a rule joins persons and crews, on crews half of the time.
+fn draw_term(seed: &mut Seed, sizes: Sizes, joins: bool) -> [u8; 3] {
+    let kind = 1 + seed.below(2);
+    let on_crew = seed.below(2) == 1;
+    if joins && on_crew {
+        return [kind + 2, seed.below(sizes.crews), 0];
+    }
+    [kind, seed.below(sizes.attrs), seed.below(sizes.values)]
+}
+
+fn draw_query(seed: &mut Seed, sizes: Sizes) -> Vec<u8> {
+    let mode = draw_mode(seed);
+    let person = seed.below(sizes.persons);
+    let high = 128 * seed.below(2);
+    let low = draw_roles(seed);
+    let named = [seed.below(8) > 0, seed.below(8) > 0 && sizes.attrs > 1];
+    let q = named.iter().filter(|&&is_named| is_named).count() as u8;
+    let mut frame = vec![5, mode, person, high, low, q];
+    for (a, _) in (0..).zip(named).filter(|&(_, is_named)| is_named) {
+        frame.extend([a, 0, draw_want(seed, sizes, mode)]);
+    }
+    if mode == 2 {
+        frame.extend([0, 0, 0, draw_set(seed, sizes.crews)]);
+    }
+    frame
+}
+
+/// Mode 02 three times out of four.
+fn draw_mode(seed: &mut Seed) -> u8 {
+    if seed.below(4) > 0 {
+        2
+    } else {
+        1
+    }
+}
+
+/// The low byte of the query's roles: 0, 1 and 2, or any of them.
+fn draw_roles(seed: &mut Seed) -> u8 {
+    if seed.below(8) > 0 {
+        7
+    } else {
+        seed.below(8)
+    }
+}
+
+/// The set of a named attribute: in mode 01 drawn again where it is empty, which asks for nothing.
+fn draw_want(seed: &mut Seed, sizes: Sizes, mode: u8) -> u8 {
+    match draw_set(seed, sizes.values) {
+        0 if mode == 1 => draw_set(seed, sizes.values),
+        set => set,
+    }
+}
+
+/// A set of numbers below n, at most 3.
+fn draw_set(seed: &mut Seed, n: u8) -> u8 {
+    if n == 0 {
+        return 0;
+    }
+    seed.below(1 << n)
+}

@@ -1,0 +1,95 @@
+//! Every ledger that chains of requests reach in a small depot, by open, request and show alone.
+//!
+//! A ledger is a number here, a state: fact i of the depot has the weight 2^i.
+
+use bixorgun::{bytes, LEDGER_SIZE};
+
+use crate::depots::{is_adding, Depot, Fact};
+use crate::trials::Ledger;
+
+/// A request that a rule names, and the number of its fact.
+struct Move {
+    request: [u8; 5],
+    fact: usize,
+}
+
+/// A breadth-first search under way.
+struct Search<'d> {
+    depot: &'d Depot,
+    moves: Vec<Move>,
+    seen: Vec<bool>,
+    queue: Vec<usize>,
+}
+
+/// Whether some chain of requests leads from the starting facts to a ledger that meets the query.
+pub fn is_reachable(depot: &Depot) -> bool {
+    let seen = vec![false; 1 << depot.facts.len()];
+    let mut search = Search { depot, moves: moves_of(depot), seen, queue: Vec::new() };
+    search.enter(search.state_of(&depot.draft.open()));
+    let mut head = 0;
+    while let Some(&state) = search.queue.get(head) {
+        if depot.draft.is_met(&search.ledger_of(state)) {
+            return true;
+        }
+        search.expand(state);
+        head += 1;
+    }
+    false
+}
+
+/// The requests that may be permitted, on any person and crew: one that no rule names, or of a role outside the
+/// query's, leads nowhere.
+fn moves_of(depot: &Depot) -> Vec<Move> {
+    let mut moves = Vec::new();
+    for rule in depot.rules() {
+        let &[_, op, role, a, v, ..] = rule else { panic!("a rule") };
+        if !depot.draft.asks(role) {
+            continue;
+        }
+        for subject in 0..depot.subjects(op) {
+            let request = [op, role, subject, a, v];
+            let fact = depot.number_of(Fact::of(&request)).expect("a rule is about a fact of the depot");
+            moves.push(Move { request, fact });
+        }
+    }
+    moves
+}
+
+impl Search<'_> {
+    fn ledger_of(&self, state: usize) -> Ledger {
+        let mut ledger = [0; LEDGER_SIZE];
+        for (i, fact) in self.depot.facts.iter().enumerate() {
+            fact.put(&mut ledger, state >> i & 1 == 1);
+        }
+        ledger
+    }
+
+    fn state_of(&self, ledger: &Ledger) -> usize {
+        let facts = self.depot.facts.iter().enumerate();
+        facts.map(|(i, fact)| usize::from(fact.holds(ledger)) << i).sum()
+    }
+
+    /// A state enters the queue when it is first seen.
+    fn enter(&mut self, state: usize) {
+        if !self.seen[state] {
+            self.seen[state] = true;
+            self.queue.push(state);
+        }
+    }
+
+    /// The states one move from a state. A move to a state that was seen is not tried: it leads to nothing new.
+    fn expand(&mut self, state: usize) {
+        let ledger = self.ledger_of(state);
+        for i in 0..self.moves.len() {
+            let Move { request, fact } = &self.moves[i];
+            let aim = if is_adding(request[0]) { state | 1 << fact } else { state & !(1 << fact) };
+            if self.seen[aim] {
+                continue;
+            }
+            let mut next = ledger;
+            if bytes::request(self.depot.draft.text(), &mut next, request).is_ok() {
+                self.enter(self.state_of(&next));
+            }
+        }
+    }
+}
