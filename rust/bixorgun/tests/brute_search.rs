@@ -1,13 +1,15 @@
 //! Small depots drawn from a seed, each planned, and searched over every ledger that chains of requests reach. The
 //! search knows open, request and show alone.
 //!
-//! The planner is a parameter, so that another one can be tried in its place.
+//! The planner is a parameter: wrong planners in its place have to be caught.
 
 mod depots;
 mod search;
 mod seed;
 mod trials;
+mod wrong_planners;
 
+use std::collections::BTreeMap;
 use std::sync::OnceLock;
 
 use bixorgun::bytes::{self, Planned};
@@ -15,6 +17,7 @@ use bixorgun::{Judgement, Refusal};
 
 use depots::{is_adding, Depot, Fact};
 use seed::Seed;
+use wrong_planners::{RIGHT, WRONG};
 
 const BOOKS: usize = 20_000;
 const SEED: u64 = 20_261_115;
@@ -157,4 +160,87 @@ fn the_planner_agrees_with_the_search() {
     // These do not rest on which plan is given.
     assert_eq!((met, no_way, plans), (4_432, 11_605, 8_395));
     assert!(deleting > 0 && longest > 0);
+}
+
+/// How often a planner differs from the search, by the first difference in each depot.
+fn differences(planner: Planner) -> BTreeMap<Difference, usize> {
+    let mut counts = BTreeMap::new();
+    for difference in searched().iter().filter_map(|searched| judge(searched, planner).err()) {
+        *counts.entry(difference).or_default() += 1;
+    }
+    counts
+}
+
+/// Each wrong planner is caught, and the small planner that most of them are is right without its fault.
+#[test]
+fn wrong_planners_are_caught() {
+    for right in RIGHT {
+        assert_eq!(differences(right), BTreeMap::new());
+    }
+    for (fault, planner) in WRONG {
+        let counts = differences(planner);
+        let total: usize = counts.values().sum();
+        let each: Vec<String> = counts.iter().map(|(difference, count)| format!("{count} {difference}")).collect();
+        println!("{fault}: {total} differences ({})", each.join("; "));
+        assert!(total > 0, "{fault}: not caught");
+    }
+}
+
+/// The specification's "Plans that would mislead a depot", each with the marked example that it misses.
+const MISLEADING: [(&str, &[&[u8]]); 5] = [
+    // D6: holds none, both may be added, no deletions, exactly {0}.
+    (
+        "all added that can be, then deleted",
+        &[&[1, 1, 0, 1, 2], &[3, 1, 0, 0, 0, 0], &[3, 1, 0, 0, 1, 0], &[5, 2, 0, 255, 255, 1, 0, 0, 1, 0, 0, 0, 0]],
+    ),
+    // D5: holds 0 and 1, deleting 0 needs 1, deleting 1 needs no term, none wanted.
+    (
+        "deleted in any order that is permitted",
+        &[
+            &[1, 1, 0, 1, 2],
+            &[4, 1, 0, 0, 0],
+            &[4, 1, 0, 0, 1],
+            &[3, 2, 0, 0, 1, 0],
+            &[3, 2, 0, 0, 0, 1, 1, 0, 1],
+            &[5, 2, 0, 255, 255, 1, 0, 0, 0, 0, 0, 0, 0],
+        ],
+    ),
+    // D9: deleting 0 needs 0, none wanted, 0 held.
+    (
+        "a deletion's terms tested after the fact is gone",
+        &[
+            &[1, 1, 0, 1, 2],
+            &[4, 1, 0, 0, 0],
+            &[3, 2, 0, 0, 0, 1, 1, 0, 0],
+            &[5, 2, 0, 255, 255, 1, 0, 0, 0, 0, 0, 0, 0],
+        ],
+    ),
+    // D10: in senior crew 1, junior crew 0 holds 0, which is wanted.
+    (
+        "juniors inherit from seniors",
+        &[&[1, 1, 2, 1, 2], &[2, 1, 0], &[4, 2, 0, 0, 0], &[4, 3, 0, 1, 0], &[5, 1, 0, 255, 255, 1, 0, 0, 1]],
+    ),
+    // D2: the second of the two requests is of a role outside the query's.
+    (
+        "rules of roles outside the query used",
+        &[
+            &[1, 1, 1, 1, 2],
+            &[3, 1, 0, 0, 1, 0],
+            &[3, 5, 1, 0, 0, 1, 1, 0, 1],
+            &[4, 2, 0, 0, 0],
+            &[5, 1, 0, 0, 1, 1, 0, 0, 1],
+        ],
+    ),
+];
+
+/// The library's planner and the small one without a fault are right on each example, the misleading plan is not.
+#[test]
+fn misleading_plans_miss_their_examples() {
+    for (fault, frames) in MISLEADING {
+        let searched = Searched::of(Depot::of(frames.iter().map(|frame| frame.to_vec()).collect()));
+        assert!(RIGHT.into_iter().chain([library as Planner]).all(|right| judge(&searched, right).is_ok()), "{fault}");
+        let (_, wrong) = WRONG.into_iter().find(|(other, _)| *other == fault).expect("a wrong planner");
+        let difference = judge(&searched, wrong).err().expect("a difference");
+        println!("{fault}: {difference}");
+    }
 }

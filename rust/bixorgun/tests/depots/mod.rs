@@ -45,6 +45,11 @@ impl Fact {
         Fact { kind: request[0].div_ceil(2), subject: request[2], a: request[3], v: request[4] }
     }
 
+    /// The fact of a starting fact's line.
+    pub fn of_frame(frame: &[u8]) -> Self {
+        Fact { kind: frame[1], subject: frame[2], a: frame[3], v: frame[4] }
+    }
+
     /// The fact's byte in a ledger and its bit there: "Person p's attribute a is a two-byte set at 16·p + 2·a, crew
     /// c's at 1,024 + 16·c + 2·a, person p's crews a four-byte set at 1,536 + 4·p; big-endian".
     fn place(self) -> (usize, u8) {
@@ -92,6 +97,13 @@ impl Sizes {
 }
 
 impl Depot {
+    /// The depot of a book's frames.
+    pub fn of(frames: Vec<Vec<u8>>) -> Self {
+        let [_, persons, crews, attrs, values] = frames[0][..] else { panic!("a first line") };
+        let sizes = Sizes { persons, crews, attrs, values };
+        Depot { sizes, facts: sizes.facts(), draft: Draft::new(frames) }
+    }
+
     /// Draws a depot.
     pub fn draw(seed: &mut Seed) -> Self {
         let sizes = draw_sizes(seed);
