@@ -1,0 +1,275 @@
+//! Plans of thousands of requests at the largest sizes, each carried out request by request and replayed whole and
+//! damaged. What replay must answer to a damaged plan is found by request and show.
+
+mod seed;
+mod trials;
+
+use bixorgun::bytes::{self, Planned};
+use bixorgun::{Judgement, PLAN_MAX};
+
+use seed::Seed;
+use trials::{Draft, Ledger};
+
+const SEED: u64 = 20_261_115;
+
+/// The values of all attributes stand in one row: place i is value i % 16 of attribute i / 16.
+const PLACES: u8 = 128;
+const CREWS: u8 = 32;
+
+/// A plan is changed at one place of so many: a request is doubled, and swapped with the next.
+const GAP: u8 = 40;
+/// At one of so many of these a request is also left out. That is rarer, since such a list runs on to its end where it
+/// does not stop, at a whole reading of the book for each request.
+const RARE: u8 = 16;
+
+type Frames = Vec<Vec<u8>>;
+
+/// Which rules stand for every place: op and role, and terms of a kind on at most so many places before it. An own
+/// rule counts its own place among these.
+struct Rules {
+    op: u8,
+    role: u8,
+    kind: u8,
+    most: u8,
+    own: bool,
+}
+
+impl Rules {
+    fn frames(&self) -> Frames {
+        (0..PLACES).map(|place| self.frame(place)).collect()
+    }
+
+    fn frame(&self, place: u8) -> Vec<u8> {
+        let top = place + u8::from(self.own);
+        let n = self.most.min(top);
+        let mut frame = vec![3, self.op, self.role, place / 16, place % 16, n];
+        frame.extend((top - n..top).rev().flat_map(|before| [self.kind, before / 16, before % 16]));
+        frame
+    }
+
+    /// These rules, which add, and rules of the same role, own ones or not, that delete by terms of kind 01.
+    fn there_and_back(&self, own: bool) -> Frames {
+        let back = Rules { op: self.op + 1, kind: 1, own, ..*self };
+        [self.frames(), back.frames()].concat()
+    }
+}
+
+/// Rules that assign or remove whoever is directly in the next crew; of crew 31 anybody.
+fn joins(op: u8, role: u8) -> Frames {
+    let join = |crew| match crew + 1 {
+        CREWS => vec![3, op, role, crew, 0, 0],
+        next => vec![3, op, role, crew, 0, 1, 3, next, 0],
+    };
+    (0..CREWS).map(join).collect()
+}
+
+/// Each crew above the one before it.
+fn chain_of_crews() -> Frames {
+    (1..CREWS).map(|senior| vec![2, senior, senior - 1]).collect()
+}
+
+/// Each crew above all before it.
+fn dense_crews() -> Frames {
+    (1..CREWS).flat_map(|senior| (0..senior).map(move |junior| vec![2, senior, junior])).collect()
+}
+
+/// The sizes, and a person in crew 31.
+fn start(person: u8) -> Frames {
+    vec![vec![1, 64, CREWS, 8, 16], vec![4, 3, person, CREWS - 1, 0]]
+}
+
+/// A query that names every attribute: attribute 0 by the byte `first`, 255 for all values and 0 for none, the
+/// others by the byte `rest`. In mode 02 crew 31 alone is listed.
+fn query(mode: u8, person: u8, roles: u8, first: u8, rest: u8) -> Frames {
+    let mut frame = vec![5, mode, person, 0, roles, 8, 0, first, first];
+    frame.extend((1..8).flat_map(|a| [a, rest, rest]));
+    if mode == 2 {
+        frame.extend([128, 0, 0, 0]);
+    }
+    vec![frame]
+}
+
+/// Each value needs the one before it, to be added and to be deleted; nothing is to stay.
+fn chain() -> Frames {
+    let crews = Rules { op: 3, role: 0, kind: 1, most: 1, own: false };
+    let persons = Rules { op: 1, ..crews };
+    [start(5), chain_of_crews(), crews.there_and_back(false), persons.there_and_back(false), query(2, 5, 1, 0, 0)]
+        .concat()
+}
+
+/// Each value may be added by itself; the crews are joined from 31 down. A third of the rules are of roles that are
+/// not asked.
+fn free() -> Frames {
+    let crews = Rules { op: 3, role: 0, kind: 1, most: 0, own: false };
+    let persons = Rules { op: 1, role: 1, ..crews };
+    let others = Rules { op: 4, role: 2, ..crews };
+    let added = [crews.frames(), persons.frames(), joins(5, 3)].concat();
+    let deleted = [others.frames(), joins(6, 2)].concat();
+    [start(62), added, deleted, query(1, 63, 11, 255, 255)].concat()
+}
+
+/// To be added each value needs the eight before it effectively; to be deleted, itself and the seven before it
+/// directly. Every crew is above all before it. The values of attribute 0 are to stay.
+fn dense() -> Frames {
+    let crews = Rules { op: 3, role: 0, kind: 2, most: 8, own: false };
+    let persons = Rules { op: 1, role: 1, ..crews };
+    [start(17), dense_crews(), crews.there_and_back(true), persons.there_and_back(true), query(2, 17, 3, 255, 0)]
+        .concat()
+}
+
+/// Each value needs the two before it effectively; the crews are joined from 31 down; all values are wanted.
+fn row() -> Frames {
+    let crews = Rules { op: 3, role: 0, kind: 2, most: 2, own: false };
+    let persons = Rules { op: 1, role: 2, ..crews };
+    let query = query(1, 40, 7, 255, 255);
+    [start(0), chain_of_crews(), crews.frames(), joins(5, 1), persons.frames(), query].concat()
+}
+
+/// What is done to a plan at a place.
+#[derive(Clone, Copy)]
+enum Change {
+    LeftOut,
+    Doubled,
+    Swapped,
+}
+
+const CHANGES: [(Change, &str); 3] =
+    [(Change::LeftOut, "left out"), (Change::Doubled, "doubled"), (Change::Swapped, "swapped")];
+
+impl Change {
+    /// The plan with its request k left out, doubled, or swapped with the next.
+    fn list(self, plan: &[u8], k: usize) -> Vec<u8> {
+        let (before, rest) = plan.split_at(5 * k);
+        match self {
+            Change::LeftOut => [before, &rest[5..]].concat(),
+            Change::Doubled => [before, &rest[..5], rest].concat(),
+            Change::Swapped => [before, &rest[5..10], &rest[..5], &rest[10..]].concat(),
+        }
+    }
+
+    /// How many requests of the plan two requests of the list, from the changed place on, stand for.
+    const fn window(self) -> usize {
+        match self {
+            Change::LeftOut => 3,
+            Change::Doubled => 1,
+            Change::Swapped => 2,
+        }
+    }
+}
+
+/// At most so many requests from request k on.
+fn part(list: &[u8], k: usize, requests: usize) -> &[u8] {
+    let from = list.len().min(5 * k);
+    let to = list.len().min(5 * (k + requests));
+    &list[from..to]
+}
+
+/// How many requests go from the ledger on, up to the first that does not.
+fn count_going(draft: &Draft, ledger: &mut Ledger, list: &[u8]) -> usize {
+    list.chunks_exact(5).take_while(|request| draft.goes(ledger, request)).count()
+}
+
+/// What a list comes to that is a plan changed at place k, where the ledger before that place is given. Where the
+/// ledger is the plan's own two requests later, the rest of both is the same, and the plan reaches.
+fn course_of(draft: &Draft, ledger: &Ledger, plan: &[u8], change: Change, k: usize, list: &[u8]) -> Judgement {
+    let (mut here, mut there) = (*ledger, *ledger);
+    let first = part(list, k, 2);
+    let went = count_going(draft, &mut here, first);
+    if went < first.len() / 5 {
+        return Judgement::Stops(k + went + 1);
+    }
+    count_going(draft, &mut there, part(plan, k, change.window()));
+    if here == there {
+        return Judgement::Reaches;
+    }
+    let rest = part(list, k + 2, list.len());
+    let went = count_going(draft, &mut here, rest);
+    if went < rest.len() / 5 {
+        Judgement::Stops(k + 2 + went + 1)
+    } else if draft.is_met(&here) {
+        Judgement::Reaches
+    } else {
+        Judgement::EndsShort
+    }
+}
+
+/// How many lists of each change reach, end short and stop, and in how many replay says otherwise.
+#[derive(Default)]
+struct Tally {
+    courses: [[usize; 3]; CHANGES.len()],
+    differences: usize,
+}
+
+impl Tally {
+    fn expect(&mut self, good: bool) {
+        self.differences += usize::from(!good);
+    }
+
+    /// Tries the plan changed at place k, where the ledger before that place is given.
+    fn try_change(&mut self, draft: &Draft, ledger: &Ledger, plan: &[u8], change: Change, k: usize) {
+        let list = change.list(plan, k);
+        let course = course_of(draft, ledger, plan, change, k, &list);
+        let column = match course {
+            Judgement::Reaches => 0,
+            Judgement::EndsShort => 1,
+            Judgement::Stops(_) => 2,
+        };
+        self.courses[change as usize][column] += 1;
+        self.expect(bytes::replay(draft.text(), &list) == Ok(course));
+    }
+
+    /// Tries changes at place k, by chance.
+    fn try_place(&mut self, draft: &Draft, ledger: &Ledger, plan: &[u8], k: usize, seed: &mut Seed) {
+        let is_left_out = seed.below(RARE) == 0;
+        if seed.below(GAP) > 0 {
+            return;
+        }
+        self.try_change(draft, ledger, plan, Change::Doubled, k);
+        if 5 * (k + 1) < plan.len() {
+            self.try_change(draft, ledger, plan, Change::Swapped, k);
+        }
+        if is_left_out {
+            self.try_change(draft, ledger, plan, Change::LeftOut, k);
+        }
+    }
+
+    /// Carries the plan out: each request goes, the last ledger meets the query, replay answers reaches; its
+    /// changes are tried on the way.
+    fn try_plan(&mut self, draft: &Draft, plan: &[u8], seed: &mut Seed) {
+        let mut ledger = draft.open();
+        for (k, request) in plan.chunks_exact(5).enumerate() {
+            self.try_place(draft, &ledger, plan, k, seed);
+            self.expect(draft.goes(&mut ledger, request));
+        }
+        self.expect(bytes::replay(draft.text(), plan) == Ok(Judgement::Reaches));
+        self.expect(draft.is_met(&ledger));
+    }
+
+    fn print(&self) {
+        for (change, name) in CHANGES {
+            let [reaches, short, stops] = self.courses[change as usize];
+            println!("{name}, reaches {reaches}\n{name}, ends short {short}\n{name}, stops {stops}");
+        }
+        println!("differences {}", self.differences);
+    }
+}
+
+#[test]
+fn replay_of_long_plans_whole_and_damaged() {
+    let mut seed = Seed::new(SEED);
+    let mut tally = Tally::default();
+    for (name, frames) in [("chain", chain()), ("free", free()), ("dense", dense()), ("row", row())] {
+        let draft = Draft::new(frames);
+        let mut buffer = vec![0; PLAN_MAX];
+        let Ok(Planned::Plan(count)) = bytes::plan_into(draft.text(), &mut buffer) else { panic!("{name}: a plan") };
+        println!("{name} {count}");
+        tally.try_plan(&draft, &buffer[..5 * count], &mut seed);
+    }
+    tally.print();
+    assert_eq!(tally.differences, 0);
+    // The counts rest on which plans are given; each course that a change can take has to be there.
+    let [left_out, doubled, swapped] = tally.courses;
+    assert!(left_out.iter().all(|&count| count > 0), "left out: {left_out:?}");
+    assert!(doubled[0] > 0 && doubled[2] > 0, "doubled: {doubled:?}");
+    assert!(swapped[0] > 0 && swapped[2] > 0, "swapped: {swapped:?}");
+}
