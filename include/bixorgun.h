@@ -1,8 +1,9 @@
-/* Bixorgun for C and C++: the five operations on a book, a ledger and a plan.
+/* Bixorgun for C and C++: the five operations on a book, a ledger and a plan. docs/BOOK.md says how to write a book.
  *
- * Link with libbixorgun.a (x86-64). The functions keep no state, allocate nothing and write to the one lent buffer alone, so any
- * number of threads may call them at once; a buffer that one call writes is in no other call's hands meanwhile. As measured, plan
- * takes 176 KB of stack (of 1,024 bytes) and the other operations 71 KB: give a thread 192 KB or more.
+ * Link with libbixorgun.a (x86-64). The functions keep no state, allocate nothing and write to the one lent buffer
+ * alone, so any number of threads may call them at once; a buffer that one call writes is in no other call's hands
+ * meanwhile. Give a thread 320 KB of stack or more (BIXORGUN_STACK). As measured with threads, plan needs 174 KB (of
+ * 1,024 bytes) and each other operation 72 KB or less; the rest is room for later versions.
  *
  * What the proofs take for granted, and a caller has to see to:
  *   - a pointer is valid for the length that follows it and is never NULL. For length 0 any non-null pointer will do;
@@ -21,6 +22,14 @@
 extern "C" {
 #endif
 
+/* ---------------------------------------------------------------- version */
+
+/* The minor rises with every later change of a format or of this interface. */
+#define BIXORGUN_VERSION_MAJOR 0
+#define BIXORGUN_VERSION_MINOR 1
+#define BIXORGUN_VERSION_PATCH 0
+#define BIXORGUN_VERSION "0.1.0"
+
 /* ---------------------------------------------------------------- sizes, in bytes */
 
 #define BIXORGUN_BOOK_MAX 65536 /* the characters of the longest book that is not refused */
@@ -28,6 +37,7 @@ extern "C" {
 #define BIXORGUN_REQUEST_SIZE 5
 #define BIXORGUN_VIEW_SIZE 20
 #define BIXORGUN_PLAN_MAX 42560 /* a plan buffer that is long enough for every book */
+#define BIXORGUN_STACK 327680   /* the stack that a thread is given, at least */
 
 /* A plan buffer that is long enough for a book of these sizes (its first line is 01 P G A V): 10 x F, F = (1 + G) x A x V + G. */
 static inline size_t bixorgun_plan_size(size_t crews, size_t attributes, size_t values)

@@ -1,9 +1,11 @@
 /* Plans a book, from a file or standard input, carries the plan out on a ledger and shows the query's person before and after.
  *
  *     plan_book [FILE]
+ *     plan_book --version
  */
 #include <inttypes.h>
 #include <stdio.h>
+#include <string.h>
 
 #include "bixorgun.h"
 
@@ -52,6 +54,10 @@ static uint8_t query_person(size_t book_len)
 
 int main(int argc, char **argv)
 {
+    if (argc > 1 && strcmp(argv[1], "--version") == 0) {
+        puts(BIXORGUN_VERSION);
+        return 0;
+    }
     FILE *in = argc > 1 ? fopen(argv[1], "rb") : stdin;
     if (!in) {
         perror(argv[1]);

@@ -30,9 +30,9 @@
 //! # }
 //! ```
 //!
-//! The operations keep no state, allocate nothing and may run on any number of threads at once. As measured, plan takes
-//! 176 KB of stack and the others 71 KB: give a thread 192 KB or more. An answer that `include/bixorgun.h` does not have means that another library was
-//! linked; the functions panic on it.
+//! The operations keep no state, allocate nothing and may run on any number of threads at once. Give a thread [`STACK`]
+//! or more. An answer that `include/bixorgun.h` does not have means that another library was linked; the functions
+//! panic on it.
 //!
 //! Words in quotation marks are those of the specification.
 
@@ -57,6 +57,16 @@ pub use plan::{Answer, Judgement, Plan, Requests};
 pub use refusal::Refusal;
 pub use request::{Act, Request};
 
+/// The version of the library's interface, as `include/bixorgun.h` has it. The minor rises with every later change of a
+/// format or of the interface.
+pub const VERSION: &str = "0.1.0";
+/// The first number of [`VERSION`].
+pub const VERSION_MAJOR: u32 = 0;
+/// The second number of [`VERSION`].
+pub const VERSION_MINOR: u32 = 1;
+/// The third number of [`VERSION`].
+pub const VERSION_PATCH: u32 = 0;
+
 /// The characters of the longest book that is not refused.
 pub const BOOK_MAX: usize = 65_536;
 /// The bytes of a ledger.
@@ -67,6 +77,9 @@ pub const REQUEST_SIZE: usize = 5;
 pub const VIEW_SIZE: usize = 20;
 /// The bytes of a plan buffer that is long enough for every book.
 pub const PLAN_MAX: usize = plan_size(32, 8, 16);
+/// The bytes of stack that a thread is given, at least. As measured with threads, plan needs 174 KB (of 1,024 bytes)
+/// and each other operation 72 KB or less; the rest is room for later versions.
+pub const STACK: usize = 320 * 1_024;
 
 /// The bytes of a plan buffer that is long enough for a book whose first line is `01 P G A V`: 10 × F, with
 /// "F = (1 + G) × A × V + G".

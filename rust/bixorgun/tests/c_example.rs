@@ -1,16 +1,23 @@
-//! `examples/c/plan_book.c`, built by the C compiler (`CC`, else `cc`) against the header and the archive, says of each stored
-//! book what this crate says.
+//! `examples/c/plan_book.c`, built by the C compiler (`CC`, else `cc`) against the header and the archive, says of each
+//! stored book what this crate says, and has its version.
 
 use std::env;
 use std::fmt::Write as _;
 use std::fs;
 use std::path::{Path, PathBuf};
 use std::process::{Command, Output};
+use std::sync::OnceLock;
 
 use bixorgun::{Answer, Book, Person, Refusal, View};
 
 fn repository() -> PathBuf {
     [env!("CARGO_MANIFEST_DIR"), "..", ".."].iter().collect()
+}
+
+/// The example's program, built once for all tests.
+fn program() -> &'static Path {
+    static PROGRAM: OnceLock<PathBuf> = OnceLock::new();
+    PROGRAM.get_or_init(built)
 }
 
 /// Builds the example with every warning an error; the program's path.
@@ -74,7 +81,6 @@ fn compare(name: &str, book: &str, ran: &Output) {
 
 #[test]
 fn c_says_the_same_of_each_stored_book() {
-    let program = built();
     let data = repository().join("crates/plan_books/data");
     let mut books: Vec<PathBuf> =
         fs::read_dir(&data).expect("the stored books").map(|entry| entry.expect("a name").path()).collect();
@@ -82,7 +88,14 @@ fn c_says_the_same_of_each_stored_book() {
     assert!(books.len() >= 37, "{} books", books.len());
     for path in books {
         let book = fs::read_to_string(&path).expect("a stored book");
-        let ran = Command::new(&program).arg(&path).output().expect("the example runs");
+        let ran = Command::new(program()).arg(&path).output().expect("the example runs");
         compare(&path.display().to_string(), &book, &ran);
     }
+}
+
+#[test]
+fn c_says_its_version() {
+    let ran = Command::new(program()).arg("--version").output().expect("the example runs");
+    let out = String::from_utf8_lossy(&ran.stdout);
+    assert_eq!((ran.status.code(), &*out), (Some(0), &*format!("{}\n", bixorgun::VERSION)));
 }
