@@ -11,6 +11,8 @@ use crate::table::{markdown, short, thousands, Cost, Measured, Ratio, Row};
 const AIM: f64 = 4.0;
 /// A function is listed from this share of some book's instructions on, in percent.
 const LISTED: f64 = 2.0;
+/// The characters of the document's longest line, tables aside.
+const COLUMNS: usize = 120;
 /// So many of the stored books are listed as the dearest to plan.
 const DEAREST: usize = 6;
 
@@ -196,13 +198,16 @@ impl Results {
             let mut over: Vec<_> = nets().filter(|&(.., net)| net > AIM).collect();
             over.sort_by(|a, b| b.2.total_cmp(&a.2));
             let all = nets().count();
-            text += &format!(
+            let mut paragraph = format!(
                 "By {measure}, {} of the {all} ratios of the larger stored books are within {AIM} times.",
                 all - over.len()
             );
             let list = over.iter().map(|(book, op, net)| format!("{} {} {}", book.name, op.name(), short(*net)));
             let list: Vec<String> = list.collect();
-            text += &if list.is_empty() { "\n\n".to_owned() } else { format!(" Over: {}.\n\n", list.join(", ")) };
+            if !list.is_empty() {
+                paragraph += &format!(" Over: {}.", list.join(", "));
+            }
+            text += &format!("{}\n\n", wrapped(&paragraph));
         }
         text.trim_end().to_owned() + "\n"
     }
@@ -287,6 +292,23 @@ pub fn rank(name: &str) -> usize {
     }
 }
 
+/// A paragraph in lines of at most [`COLUMNS`] characters.
+fn wrapped(paragraph: &str) -> String {
+    let (mut text, mut width) = (String::new(), 0);
+    for word in paragraph.split_whitespace() {
+        let length = word.chars().count();
+        let fits = width + 1 + length <= COLUMNS;
+        match width {
+            0 => {}
+            _ if fits => text.push(' '),
+            _ => text.push('\n'),
+        }
+        width = if width > 0 && fits { width + 1 + length } else { length };
+        text += word;
+    }
+    text
+}
+
 /// Puts a text between `<!-- measured: NAME -->` and the next `<!-- end -->`.
 pub fn replace(document: &str, name: &str, text: &str) -> Result<String, String> {
     let first = format!("<!-- measured: {name} -->\n");
@@ -307,6 +329,16 @@ mod tests {
         assert_eq!(new, "a\n<!-- measured: x -->\n\nnew\n<!-- end -->\nb\n");
         assert_eq!(replace(&new, "x", "new"), Ok(new.clone()));
         assert!(replace(document, "y", "").is_err());
+    }
+
+    #[test]
+    fn a_paragraph_is_wrapped_between_words() {
+        let long = "four ".repeat(60);
+        let text = wrapped(&long);
+        assert!(text.lines().all(|line| line.len() <= COLUMNS) && text.lines().count() == 3, "{text}");
+        assert!(text.split_whitespace().eq(long.split_whitespace()));
+        assert_eq!(wrapped("By time."), "By time.");
+        assert_eq!(wrapped(""), "");
     }
 
     #[test]
