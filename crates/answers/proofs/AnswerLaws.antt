@@ -1,29 +1,22 @@
--- The laws of written answers: texts that grow, digits read back, counts, and the room that an answer takes.
+-- The laws of written answers: the digits of bytes, digits read back, and counts.
 use mathlib.Core.Path.{_≡_, refl, ap, sym, _∙_}
 use mathlib.Core.Bool.{Bool, true, false, _&&_, true≢false}
-use mathlib.Core.List.{List, [], _∷_, _++_, append-assoc}
+use mathlib.Core.List.{List, [], _∷_, _++_}
 use mathlib.Core.Logic.{dite}
 use Prim.Native.Nat.{ℕ, zero, suc, _+_, _*_, _/_, _%_, _≤_, _<_}
 use native.Mathlib.Decide.{decLt}
 use native.Mathlib.Numerals.{add-one}
 use native.Mathlib.Omega.{arith}
-use lib.Dec.{eqb, lit≤}
-use lib.ListN.{length, length-append, take, drop, set, getD, drop-of-length-le}
-use lib.Seq.{take-suc-set, drop-cons}
+use lib.Dec.{eqb}
+use lib.ListN.{length, length-append, drop, getD, drop-of-length-le}
+use lib.Seq.{drop-cons}
 use borrow.Author.Tests.{eqb-true}
 use Rattle.sets.specs.Sets.{member}
 use Rattle.lines.specs.Digits.{digit, character, frameOf}
 use Rattle.gate.specs.Gate.{allBelow}
-use Rattle.frames.specs.declared.Outcome.{Outcome}
-use Rattle.frames.specs.declared.Outcome.the-variants.{Accepted, Refused}
-use Rattle.frames.specs.declared.Book.{Book}
-use Rattle.answers.specs.Answers.{hex, hexLine, refusedBytes, noWayBytes, countBytes, size, total, count, bookLine, answerLine}
+use Rattle.answers.specs.Answers.{hex, hexLine, size, total}
 
--- ---------------------------------------------------------------- a text that grows
-
--- A character put at the place i stands behind the first i.
-pub char-behind : (s : List ℕ) (i c : ℕ) → i < length s → take (i + 1) (set s i c) ≡ take i s ++ (c ∷ [])
-char-behind s i c h = rw add-one (take-suc-set s i c h)
+-- ---------------------------------------------------------------- the digits of bytes
 
 -- The digits of two lists of bytes, one behind the other.
 pub hex-append : (xs ys : List ℕ) → hex (xs ++ ys) ≡ hex xs ++ hex ys
@@ -31,24 +24,16 @@ unfolding hex
 hex-append [] ys = refl
 hex-append (x ∷ xs) ys = ap (λ (l : List ℕ). character (x / 16) ∷ character (x % 16) ∷ l) (hex-append xs ys)
 
--- Bytes written behind bytes are the bytes of both.
-pub bytes-behind :
-    (a : List ℕ) {y z : List ℕ} (xs ys : List ℕ) → y ≡ a ++ hex xs → z ≡ y ++ hex ys → z ≡ a ++ hex (xs ++ ys)
-bytes-behind a xs ys p q = q ∙ rw (p, append-assoc, hex-append)
-
--- The two digits of a byte, written one behind the other.
-pub digits-behind :
-    (a : List ℕ) {y z : List ℕ} {h l : ℕ} (b : ℕ) →
-    h ≡ character (b / 16) → l ≡ character (b % 16) → y ≡ a ++ (h ∷ []) → z ≡ y ++ (l ∷ []) → z ≡ a ++ hex (b ∷ [])
+-- Two digits a byte.
+pub hex-long : (bs : List ℕ) → length (hex bs) ≡ 2 * length bs
 unfolding hex
-digits-behind a b d e p q = q ∙ rw (p, append-assoc, d, e)
+hex-long [] = refl
+hex-long (b ∷ bs) = omega (arith, hex-long bs)
 
--- A blank, a byte and the line's end, written one behind the other.
-pub last-behind :
-    (a : List ℕ) {x y z : List ℕ} (b : ℕ) →
-    x ≡ a ++ (32 ∷ []) → y ≡ x ++ hex (b ∷ []) → z ≡ y ++ (10 ∷ []) → z ≡ a ++ (32 ∷ hexLine (b ∷ []))
+-- A line has two digits a byte, and its end.
+pub line-long : (bs : List ℕ) → length (hexLine bs) ≡ 2 * length bs + 1
 unfolding hexLine
-last-behind a b p q s = s ∙ rw (q, p) (simp append-assoc)
+line-long bs = length-append (hex bs) (10 ∷ []) ∙ rw (hex-long bs)
 
 -- Five bytes, one by one.
 pub five-bytes : (q : List ℕ) → length q ≡ 5 → q ≡ getD q 0 0 ∷ getD q 1 0 ∷ getD q 2 0 ∷ getD q 3 0 ∷ getD q 4 0 ∷ []
@@ -108,33 +93,3 @@ total-step w xs i h = rw (add-one, drop-cons xs i 0)
 pub total-end : (w : ℕ) (xs : List ℕ) (i : ℕ) → length xs ≤ i → total w (drop i xs) ≡ 0
 unfolding total
 total-end w xs i h = rw (drop-of-length-le xs {i = i} h)
-
--- ---------------------------------------------------------------- room
-
--- An answer has its line end at least, and fits a text.
-pub answer-fits : (o : Outcome) (b : Book) → (1 ≤ length (answerLine o b)) × (length (answerLine o b) ≤ 64)
-unfolding answerLine bookLine hexLine refusedBytes count hex
-answer-fits Accepted b = (lit≤ tt, lit≤ tt)
-answer-fits (Refused r) b = (lit≤ tt, lit≤ tt)
-
-hex-long : (bs : List ℕ) → length (hex bs) ≡ 2 * length bs
-unfolding hex
-hex-long [] = refl
-hex-long (b ∷ bs) = omega (arith, hex-long bs)
-
--- A line has two digits a byte, and its end.
-pub line-long : (bs : List ℕ) → length (hexLine bs) ≡ 2 * length bs + 1
-unfolding hexLine
-line-long bs = length-append (hex bs) (10 ∷ []) ∙ rw (hex-long bs)
-
-pub no-way-long : length (hexLine noWayBytes) ≡ 3
-unfolding noWayBytes hexLine hex
-no-way-long = refl
-
-pub count-long : (n : ℕ) → length (hexLine (countBytes n)) ≡ 7
-unfolding countBytes hexLine hex
-count-long n = refl
-
-pub refused-long : (number line : ℕ) → length (hexLine (refusedBytes number line)) ≡ 9
-unfolding refusedBytes hexLine hex
-refused-long number line = refl

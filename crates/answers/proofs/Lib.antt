@@ -1,1 +1,3 @@
 pub mod AnswerLaws
+pub mod WrittenLaws
+pub mod ReadingLaws

@@ -1,26 +1,11 @@
 -- The line that answers a book: "in the book's hexadecimal and line ends".
 use Prim.Native.Nat.{ℕ, zero, suc, _+_, _/_, _%_}
-use mathlib.Core.Path.{_≡_}
 use mathlib.Core.Bool.{cond}
 use mathlib.Core.List.{List, [], _∷_, _++_}
-use lib.ListN.{length, take}
 use Rattle.lines.specs.Digits.{character}
 use Rattle.sets.specs.Sets.{member}
-use Rattle.frames.specs.Book.{refusalNumber, refusalLine}
+use Rattle.frames.specs.Book.{Contents, Answer, refused, accepted, refusalNumber, refusalLine}
 use Rattle.frames.specs.declared.Refusal.{Refusal}
-use Rattle.frames.specs.declared.Outcome.{Outcome}
-use Rattle.frames.specs.declared.Outcome.the-variants.{Accepted, Refused}
-use Rattle.frames.specs.declared.Book.{Book}
-use Rattle.answers.specs.declared.Text.{Text}
-
--- The characters of a text.
-abbrev pub chars : Text → List ℕ
-chars t = take (t .len) (t .chars)
-
--- The text t is the characters cs.
-pub record Writes (t : Text) (cs : List ℕ) : Type 0 where
-  pub long : t .len ≡ length cs
-  pub same : chars t ≡ cs
 
 -- "digits 0-9 and A-F, two a byte": the two digits of each byte.
 unfoldable pub hex : List ℕ → List ℕ
@@ -50,6 +35,11 @@ noWayBytes = 128 ∷ []
 unfoldable pub countBytes : ℕ → List ℕ
 countBytes n = 129 ∷ pair n
 
+-- The plan below it, "one request a line".
+unfoldable pub requestLines : List (List ℕ) → List ℕ
+requestLines [] = []
+requestLines (q ∷ qs) = hexLine q ++ requestLines qs
+
 -- How many numbers below w are members of x.
 unfoldable pub size : ℕ → ℕ → ℕ
 size x zero = 0
@@ -65,13 +55,13 @@ unfoldable pub count : ℕ → List ℕ
 count n = 32 ∷ hex (pair n)
 
 -- The line of an accepted book where it is only judged: 01 and the sizes; how many edges, rules and starting facts it has; q.
-unfoldable pub bookLine : Book → List ℕ
+unfoldable pub bookLine : Contents → List ℕ
 bookLine b =
     hex (1 ∷ b .sizes .persons ∷ b .sizes .crews ∷ b .sizes .attrs ∷ b .sizes .values ∷ [])
-    ++ count (total 32 (b .juniors)) ++ count (b .rules .count) ++ count (total 8 (b .facts))
+    ++ count (total 32 (b .juniors)) ++ count (b .count) ++ count (total 8 (b .facts))
     ++ 32 ∷ hexLine (b .query .q ∷ [])
 
--- The line that answers a book that is only judged, by what reading it gave.
-unfoldable pub answerLine : Outcome → Book → List ℕ
-answerLine Accepted b = bookLine b
-answerLine (Refused r) b = hexLine (refusalBytes r)
+-- The line that answers a book that is only judged, by what reading it comes to.
+unfoldable pub answerLine : Answer → List ℕ
+answerLine (refused r) = hexLine (refusalBytes r)
+answerLine (accepted b) = bookLine b

@@ -1,109 +1,14 @@
-// How a book is answered: one line in the book's hexadecimal.
+// How a book is answered, in the book's hexadecimal: one line, and below it a plan.
 
 ghost use mathlib.Core.Path.{_≡_};
-ghost use mathlib.Core.List.{[], _∷_, _++_};
-ghost use Prim.Native.Nat.{_+_, _≤_};
+ghost use mathlib.Core.List.{[], _∷_};
+ghost use Prim.Native.Nat.{_+_, _*_, _/_, _%_, _≤_};
 ghost use lib.ListN.{length};
-ghost use Rattle.answers.specs.Answers.{chars, Writes, hex, hexLine, pair, refusedBytes, refusalBytes, noWayBytes, countBytes, size, total, count, bookLine, answerLine};
-
-// The characters of an answer: the first `len`.
-pub struct Text {
-    pub len: usize,
-    pub chars: [u8; 64],
-}
-
-fn no_text() -> Text
-    ensures { λ t. ⌜ (t .len ≡ 0) × (chars t ≡ []) ⌝ }
-{
-    Text {
-        len: 0,
-        chars: [0; 64],
-    }
-}
-
-// One character more.
-fn with_char(t: Text, c: u8) -> Text
-    requires { ⌜ t .len + 1 ≤ 64 ⌝ }
-    ensures { λ r. ⌜ (r .len ≡ t .len + 1) × (chars r ≡ chars t ++ (c ∷ [])) ⌝ }
-{
-    let at = t.len;
-    let mut chars = t.chars;
-    chars[at] = c;
-    Text { len: at + 1, chars }
-}
-
-// One byte more, as its two digits.
-fn with_byte(t: Text, b: u8) -> Text
-    requires { ⌜ t .len + 2 ≤ 64 ⌝ }
-    ensures { λ r. ⌜ (r .len ≡ t .len + 2) × (chars r ≡ chars t ++ hex (b ∷ [])) ⌝ }
-{
-    let high = lines::character_of(b / 16);
-    let low = lines::character_of(b % 16);
-    with_char(with_char(t, high), low)
-}
-
-// A number more, as two bytes.
-fn with_pair(t: Text, n: usize) -> Text
-    requires { ⌜ t .len + 4 ≤ 64 ⌝ }
-    ensures { λ r. ⌜ (r .len ≡ t .len + 4) × (chars r ≡ chars t ++ hex (pair n)) ⌝ }
-{
-    let high = (n / 256 % 256) as u8;
-    let low = (n % 256) as u8;
-    with_byte(with_byte(t, high), low)
-}
-
-// 8F, the number and the line of a refusal.
-pub fn refused_text(number: u8, line: usize) -> Text
-    ensures { λ t. ⌜ Writes t (hexLine (refusedBytes number line)) ⌝ }
-{
-    let marked = with_byte(no_text(), 0x8F);
-    let numbered = with_byte(marked, number);
-    let whole = with_pair(numbered, line);
-    with_char(whole, b'\n')
-}
-
-// The line of a refused book.
-pub fn refusal_text(r: frames::Refusal) -> Text
-    ensures { λ t. ⌜ Writes t (hexLine (refusalBytes r)) ⌝ }
-{
-    let number = frames::refusal_number(r);
-    let line = frames::refusal_line(r);
-    refused_text(number, line)
-}
-
-// 80: no way.
-pub fn no_way_text() -> Text
-    ensures { λ t. ⌜ Writes t (hexLine noWayBytes) ⌝ }
-{
-    with_char(with_byte(no_text(), 0x80), b'\n')
-}
-
-// 81 and the count of a plan's requests.
-pub fn count_text(n: usize) -> Text
-    ensures { λ t. ⌜ Writes t (hexLine (countBytes n)) ⌝ }
-{
-    let marked = with_byte(no_text(), 0x81);
-    let counted = with_pair(marked, n);
-    with_char(counted, b'\n')
-}
-
-// A request of a plan, its five bytes.
-pub fn request_text(q: &[u8]) -> Text
-    requires { ⌜ length (now q) ≡ 5 ⌝ }
-    ensures { λ t. ⌜ Writes t (hexLine (now (q .entry))) ⌝ }
-{
-    let op = q[0];
-    let role = q[1];
-    let subject = q[2];
-    let a = q[3];
-    let v = q[4];
-    let first = with_byte(no_text(), op);
-    let second = with_byte(first, role);
-    let third = with_byte(second, subject);
-    let fourth = with_byte(third, a);
-    let whole = with_byte(fourth, v);
-    with_char(whole, b'\n')
-}
+ghost use Rattle.frames.specs.Book.{contentsOf, toldBy};
+ghost use Rattle.replay.specs.Chains.{fives};
+ghost use Rattle.planner.specs.Answer.{said};
+ghost use Rattle.answers.specs.Answers.{hex, hexLine, refusedBytes, size, total, count, bookLine, answerLine, requestLines};
+ghost use Rattle.answers.specs.Written.{answerText, Written, Room};
 
 // How many numbers below w are members of x.
 fn size_of(x: u32, w: u8) -> usize
@@ -153,53 +58,147 @@ fn fact_count(ledger: [u8; 1792]) -> usize
     n
 }
 
-// 01 and the sizes.
-fn sizes_text(z: gate::Sizes) -> Text
-    ensures { λ t. ⌜ (t .len ≡ 10) × (chars t ≡ hex (1 ∷ z .persons ∷ z .crews ∷ z .attrs ∷ z .values ∷ [])) ⌝ }
+// One byte in a lent text, as its two digits. Each of these functions returns the place behind what it wrote.
+fn put_byte(b: u8, text: &mut [u8], at: usize) -> usize
+    requires { ⌜ at + 2 ≤ length (now text) ⌝ }
+    ensures { λ end. ⌜ Written (now (text .entry)) at (hex (b ∷ [])) (now (text .exit)) end ⌝ }
 {
-    let marked = with_byte(no_text(), 1);
-    let persons = with_byte(marked, z.persons);
-    let crews = with_byte(persons, z.crews);
-    let attrs = with_byte(crews, z.attrs);
-    with_byte(attrs, z.values)
+    let high = lines::character_of(b / 16);
+    let low = lines::character_of(b % 16);
+    text[at] = high;
+    text[at + 1] = low;
+    at + 2
 }
 
-// A blank and a number more.
-fn with_count(t: Text, n: usize) -> Text
-    requires { ⌜ t .len + 5 ≤ 64 ⌝ }
-    ensures { λ r. ⌜ (r .len ≡ t .len + 5) × (chars r ≡ chars t ++ count n) ⌝ }
+// The digits of bytes in a lent text.
+fn put_bytes(bytes: &[u8], text: &mut [u8], at: usize) -> usize
+    requires { ⌜ at + 2 * length (now bytes) ≤ length (now text) ⌝ }
+    ensures { λ end. ⌜ Written (now (text .entry)) at (hex (now (bytes .entry))) (now (text .exit)) end ⌝ }
 {
-    with_pair(with_char(t, b' '), n)
+    let mut end = at;
+    let mut k: usize = 0;
+    while k < bytes.len() {
+        end = put_byte(bytes[k], text, end);
+        k += 1;
+    }
+    end
 }
 
-// The line of an accepted book.
-pub fn book_text(b: frames::Book) -> Text
-    ensures { λ t. ⌜ Writes t (bookLine b) ⌝ }
+// A line in a lent text.
+fn put_line(bytes: &[u8], text: &mut [u8], at: usize) -> usize
+    requires { ⌜ at + 2 * length (now bytes) + 1 ≤ length (now text) ⌝ }
+    ensures { λ end. ⌜ Written (now (text .entry)) at (hexLine (now (bytes .entry))) (now (text .exit)) end ⌝ }
+{
+    let end = put_bytes(bytes, text, at);
+    text[end] = b'\n';
+    end + 1
+}
+
+// The requests of a plan in a lent text, one a line.
+fn put_requests(plan: &[u8], text: &mut [u8], at: usize) -> usize
+    requires { ⌜ 5 * at + 11 * length (now plan) ≤ 5 * length (now text) ⌝ }
+    ensures { λ end. ⌜ Written (now (text .entry)) at (requestLines (fives (now (plan .entry)))) (now (text .exit)) end ⌝ }
+{
+    let mut end = at;
+    let mut from: usize = 0;
+    while from + 5 <= plan.len() {
+        let next = from + 5;
+        end = put_line(&plan[from..next], text, end);
+        from = next;
+    }
+    end
+}
+
+fn high_byte(n: usize) -> u8
+    ensures { λ r. ⌜ r ≡ n / 256 % 256 ⌝ }
+{
+    (n / 256 % 256) as u8
+}
+
+fn low_byte(n: usize) -> u8
+    ensures { λ r. ⌜ r ≡ n % 256 ⌝ }
+{
+    (n % 256) as u8
+}
+
+// 8F, the number and the line of a refusal, in the front of a lent text.
+fn put_refused(number: u8, line: usize, text: &mut [u8]) -> usize
+    requires { ⌜ 9 ≤ length (now text) ⌝ }
+    ensures { λ end. ⌜ Written (now (text .entry)) 0 (hexLine (refusedBytes number line)) (now (text .exit)) end ⌝ }
+{
+    let high = high_byte(line);
+    let low = low_byte(line);
+    put_line(&[0x8F, number, high, low], text, 0)
+}
+
+// The planner's answer in the front of a lent text, with the plan in the front of `plan`.
+pub fn put_answer(answer: planner::Planned, plan: &[u8], text: &mut [u8]) -> usize
+    requires { ⌜ Room answer (now plan) (now text) ⌝ }
+    ensures { λ end. ⌜ Written (now (text .entry)) 0 (answerText (said answer) (now (plan .entry))) (now (text .exit)) end ⌝ }
+{
+    match answer {
+        planner::Planned::NoWay => put_line(&[0x80], text, 0),
+        planner::Planned::Plan(n) => {
+            let high = high_byte(n);
+            let low = low_byte(n);
+            let first = put_line(&[0x81, high, low], text, 0);
+            let end = 5 * n;
+            put_requests(&plan[..end], text, first)
+        }
+        planner::Planned::Refused(r) => {
+            let number = planner::refusal_number(r);
+            let line = planner::refusal_line(r);
+            put_refused(number, line, text)
+        }
+    }
+}
+
+// A blank and a number as two bytes, in a lent text.
+fn put_count(n: usize, text: &mut [u8], at: usize) -> usize
+    requires { ⌜ at + 5 ≤ length (now text) ⌝ }
+    ensures { λ end. ⌜ Written (now (text .entry)) at (count n) (now (text .exit)) end ⌝ }
+{
+    text[at] = b' ';
+    let high = high_byte(n);
+    let low = low_byte(n);
+    let digits = at + 1;
+    put_bytes(&[high, low], text, digits)
+}
+
+// The line of an accepted book in the front of a lent text.
+fn put_book(b: frames::Book, text: &mut [u8]) -> usize
+    requires { ⌜ 29 ≤ length (now text) ⌝ }
+    ensures { λ end. ⌜ Written (now (text .entry)) 0 (bookLine (contentsOf b)) (now (text .exit)) end ⌝ }
 {
     let juniors = b.juniors;
     let edges = edge_count(juniors);
     let ledger = b.facts;
     let facts = fact_count(ledger);
-    let sizes = b.sizes;
-    let sized = sizes_text(sizes);
-    let edged = with_count(sized, edges);
-    let ruled = with_count(edged, b.rules.count);
-    let whole = with_count(ruled, facts);
-    let apart = with_char(whole, b' ');
-    let asked = with_byte(apart, b.query.q);
-    with_char(asked, b'\n')
+    let z = b.sizes;
+    let sized = put_bytes(&[1, z.persons, z.crews, z.attrs, z.values], text, 0);
+    let edged = put_count(edges, text, sized);
+    let ruled = put_count(b.rules.count, text, edged);
+    let counted = put_count(facts, text, ruled);
+    text[counted] = b' ';
+    let digits = counted + 1;
+    put_line(&[b.query.q], text, digits)
 }
 
-// The line that answers a book.
-pub fn reading_text(r: frames::Reading) -> Text
-    ensures { λ t. ⌜ Writes t (answerLine (r .outcome) (r .book)) ⌝ }
+// The line that answers a book that is only judged, in the front of a lent text.
+pub fn put_reading(r: frames::Reading, text: &mut [u8]) -> usize
+    requires { ⌜ 29 ≤ length (now text) ⌝ }
+    ensures { λ end. ⌜ Written (now (text .entry)) 0 (answerLine (toldBy r .answer)) (now (text .exit)) end ⌝ }
 {
     let outcome = r.outcome;
     match outcome {
-        frames::Outcome::Refused(f) => refusal_text(f),
+        frames::Outcome::Refused(f) => {
+            let number = frames::refusal_number(f);
+            let line = frames::refusal_line(f);
+            put_refused(number, line, text)
+        }
         frames::Outcome::Accepted => {
             let book = r.book;
-            book_text(book)
+            put_book(book, text)
         }
     }
 }

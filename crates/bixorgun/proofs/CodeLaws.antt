@@ -11,8 +11,8 @@ use Rattle.ledger.specs.declared.Refusal.{Refusal}
 use Rattle.ledger.specs.declared.Outcome.{Outcome}
 use Rattle.ledger.specs.declared.Outcome.the-variants.{Done, Refused}
 use Rattle.ledger.specs.declared.Shown.{Shown}
-use Rattle.ledger.specs.Ledger.{refusalNumber, refusalLine}
-use Rattle.ledger.specs.Show.{View, hidden, shown, viewFor, viewOf}
+use Rattle.ledger.specs.Ledger.{refusal, said, refusalNumber, refusalLine}
+use Rattle.ledger.specs.Show.{View, shown, viewOf}
 use Rattle.bixorgun.specs.Codes.{code, two, putTwo, twos, viewBytes, coded, viewCoded}
 
 -- ---------------------------------------------------------------- one number read back
@@ -101,16 +101,16 @@ module _ {sets before : List ℕ} {i : ℕ} {view : List ℕ} (eight : length se
 -- ---------------------------------------------------------------- what show answers
 
 module _ (s : Shown) (v : View) (e : viewOf s ≡ v) where
-  pub view-hidden : (r : Refusal) → s .outcome ≡ Refused r → v ≡ hidden r
+  pub view-hidden : (r : Refusal) → s .outcome ≡ Refused r → v .answer ≡ refusal (refusalNumber r) (refusalLine r)
   unfolding viewOf
-  view-hidden r o = sym e ∙ ap (λ (w : Outcome). viewFor w (s .sets) (s .crews)) o
+  view-hidden r o = ap (λ (x : View). x .answer) (sym e) ∙ ap said o
 
   pub view-shown : s .outcome ≡ Done → v ≡ shown (s .sets) (s .crews)
   unfolding viewOf
-  view-shown o = sym e ∙ ap (λ (w : Outcome). viewFor w (s .sets) (s .crews)) o
+  view-shown o = sym e ∙ ap (λ (w : Outcome). record { answer = said w; sets = s .sets; crews = s .crews }) o
 
 module _ (v : View) (before : List ℕ) (n : ℕ) where
-  pub hidden-coded : (r : Refusal) → v ≡ hidden r → n ≡ code 1 (refusalNumber r) (refusalLine r) → coded n before ≡ viewCoded v before
+  pub hidden-coded : (r : Refusal) → v .answer ≡ refusal (refusalNumber r) (refusalLine r) → n ≡ code 1 (refusalNumber r) (refusalLine r) → coded n before ≡ viewCoded v before
   hidden-coded r e is = rw (e, is) refl
 
   pub no-room-coded : (sets : List ℕ) (crews : ℕ) → v ≡ shown sets crews → length before < 20 → n ≡ code 7 0 0 → coded n before ≡ viewCoded v before

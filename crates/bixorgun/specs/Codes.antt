@@ -5,20 +5,13 @@ use mathlib.Core.List.{List, [], _∷_, _++_}
 use Prim.Native.Nat.{ℕ, _+_, _*_, _/_, _%_}
 use lib.Dec.{leb}
 use lib.ListN.{length, drop, set}
-use Rattle.ledger.specs.declared.Outcome.{Outcome}
-use Rattle.ledger.specs.declared.Outcome.the-variants.{Done, Refused}
-use Rattle.ledger.specs.Ledger as ledger
-use Rattle.ledger.specs.Ledger.{Reply}
-use Rattle.ledger.specs.Show.{View, hidden, shown}
+use Rattle.ledger.specs.Ledger.{Reply, Said, done as doneSaid, refusal}
+use Rattle.ledger.specs.Show.{View}
 use Rattle.replay.specs.declared.Judgement.{Judgement}
 use Rattle.replay.specs.declared.Judgement.the-variants.{Reaches, Stops, EndsShort}
-use Rattle.replay.specs.declared.Replayed.{Replayed}
-use Rattle.replay.specs.declared.Replayed.the-variants.{Judged, Refused as ReplayRefused}
-use Rattle.replay.specs.Replay as replay
+use Rattle.replay.specs.Replay.{Said as ReplaySaid, judged, refusal as replayRefusal}
 use Rattle.planner.specs.declared.Planned.{Planned}
-use Rattle.planner.specs.declared.Planned.the-variants.{NoWay, Plan, Refused as PlanRefused}
-use Rattle.planner.specs.Answer as planner
-use Rattle.planner.specs.Answer.{PlanPromise}
+use Rattle.planner.specs.Answer.{Said as PlanSaid, said80, said81, said8F, said as planSaid, PlanPromise}
 
 -- ---------------------------------------------------------------- one number
 
@@ -54,23 +47,23 @@ code result number value = result + 256 * number + 65536 * (value % 281474976710
 
 -- ---------------------------------------------------------------- the operations' answers
 
-abbrev pub outcomeCode : Outcome → ℕ
-outcomeCode Done = code done 0 0
-outcomeCode (Refused r) = code refused (ledger.refusalNumber r) (ledger.refusalLine r)
+abbrev pub saidCode : Said → ℕ
+saidCode doneSaid = code done 0 0
+saidCode (refusal number line) = code refused number line
 
 abbrev pub judgementCode : Judgement → ℕ
 judgementCode Reaches = code reaches 0 0
 judgementCode (Stops k) = code stops 0 k
 judgementCode EndsShort = code endsShort 0 0
 
-abbrev pub replayCode : Replayed → ℕ
-replayCode (Judged j) = judgementCode j
-replayCode (ReplayRefused r) = code refused (replay.refusalNumber r) (replay.refusalLine r)
+abbrev pub replayCode : ReplaySaid → ℕ
+replayCode (judged j) = judgementCode j
+replayCode (replayRefusal number line) = code refused number line
 
-abbrev pub planCode : Planned → ℕ
-planCode NoWay = code noWay 0 0
-planCode (Plan n) = code plan 0 n
-planCode (PlanRefused r) = code refused (planner.refusalNumber r) (planner.refusalLine r)
+abbrev pub planCode : PlanSaid → ℕ
+planCode said80 = code noWay 0 0
+planCode (said81 n) = code plan 0 n
+planCode (said8F number line) = code refused number line
 
 -- ---------------------------------------------------------------- answers with a lent buffer
 
@@ -84,7 +77,7 @@ coded n bytes = record { number = n; bytes = bytes }
 
 -- open and request.
 abbrev pub replyCoded : Reply → Coded
-replyCoded r = coded (outcomeCode (r .outcome)) (r .ledger)
+replyCoded r = coded (saidCode (r .answer)) (r .ledger)
 
 -- "Sets are big-endian": a set of values as two bytes, a set of crews as four.
 abbrev pub two : ℕ → List ℕ
@@ -107,13 +100,16 @@ abbrev pub viewBytes : List ℕ → ℕ → List ℕ
 viewBytes sets crews = twos sets ++ four crews
 
 -- show: the view fills the buffer's front; a buffer under 20 bytes, and one lent on a refusal, keeps its bytes.
-abbrev pub viewCoded : View → List ℕ → Coded
-viewCoded (hidden r) before = coded (code refused (ledger.refusalNumber r) (ledger.refusalLine r)) before
-viewCoded (shown sets crews) before =
+abbrev pub viewCodedFor : Said → List ℕ → ℕ → List ℕ → Coded
+viewCodedFor (refusal number line) sets crews before = coded (code refused number line) before
+viewCodedFor doneSaid sets crews before =
     cond (leb 20 (length before)) (coded (code done 0 0) (viewBytes sets crews ++ drop 20 before)) (coded (code noRoom 0 0) before)
+
+abbrev pub viewCoded : View → List ℕ → Coded
+viewCoded v before = viewCodedFor (v .answer) (v .sets) (v .crews) before
 
 -- plan: the number of an answer that keeps the promise of plan.
 pub record PlanCoded (chars before : List ℕ) (n : ℕ) (out : List ℕ) : Type 0 where
   pub answer : Planned
-  pub is : n ≡ planCode answer
+  pub is : n ≡ planCode (planSaid answer)
   pub kept : PlanPromise chars before answer out

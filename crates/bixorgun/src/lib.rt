@@ -3,10 +3,11 @@ ghost use mathlib.Core.Path.{_≡_};
 ghost use mathlib.Core.List.{_++_};
 ghost use Prim.Native.Nat.{_+_, _≤_};
 ghost use lib.ListN.{length, drop};
-ghost use Rattle.ledger.specs.Ledger.{openReply, requestReply};
+ghost use Rattle.ledger.specs.Ledger.{said, openReply, requestReply};
 ghost use Rattle.ledger.specs.Show.{showView};
-ghost use Rattle.replay.specs.Replay.{replayed};
-ghost use Rattle.bixorgun.specs.Codes.{code, outcomeCode, judgementCode, replayCode, planCode, coded, replyCoded, putTwo, viewBytes, viewCoded, PlanCoded};
+ghost use Rattle.replay.specs.Replay.{said as replaySaid, replayed};
+ghost use Rattle.planner.specs.Answer.{said as planSaid};
+ghost use Rattle.bixorgun.specs.Codes.{code, saidCode, judgementCode, replayCode, planCode, coded, replyCoded, putTwo, viewBytes, viewCoded, PlanCoded};
 use facts::Person;
 
 // A result, a refusal's number and a line or count as one number.
@@ -18,7 +19,7 @@ fn code_of(result: u8, number: u8, value: usize) -> u64
 }
 
 fn outcome_code(o: ledger::Outcome) -> u64
-    ensures { λ r. ⌜ r ≡ outcomeCode o ⌝ }
+    ensures { λ r. ⌜ r ≡ saidCode (said o) ⌝ }
 {
     match o {
         ledger::Outcome::Done => code_of(0, 0, 0),
@@ -41,7 +42,7 @@ fn judgement_code(j: replay::Judgement) -> u64
 }
 
 fn replay_code(a: replay::Replayed) -> u64
-    ensures { λ r. ⌜ r ≡ replayCode a ⌝ }
+    ensures { λ r. ⌜ r ≡ replayCode (replaySaid a) ⌝ }
 {
     match a {
         replay::Replayed::Judged(j) => judgement_code(j),
@@ -54,7 +55,7 @@ fn replay_code(a: replay::Replayed) -> u64
 }
 
 fn plan_code(a: planner::Planned) -> u64
-    ensures { λ r. ⌜ r ≡ planCode a ⌝ }
+    ensures { λ r. ⌜ r ≡ planCode (planSaid a) ⌝ }
 {
     match a {
         planner::Planned::NoWay => code_of(2, 0, 0),

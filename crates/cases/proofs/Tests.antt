@@ -22,9 +22,7 @@ use Rattle.ledger.specs.Ledger.{reply, after, allowed, requestIn, requestReply}
 use Rattle.ledger.specs.Show.{valueSets, crewSet, showIn, showView}
 use Rattle.ledger.proofs.LedgerLaws.{open-starts, after-suitable}
 use Rattle.replay.specs.declared.Judgement.the-variants.{Reaches, Stops, EndsShort}
-use Rattle.replay.specs.declared.Replayed.{Replayed}
-use Rattle.replay.specs.declared.Replayed.the-variants.{Judged, Refused}
-use Rattle.replay.specs.Replay.{replayIn, replayed}
+use Rattle.replay.specs.Replay.{Said, judged, refusal, replayIn, replayed}
 use Rattle.cases.specs.Text.{written, five, fivesOf}
 use Rattle.cases.specs.Claims.{Claim, reaches, no-way, shows, unchanged, deletes, Row, sorter, eightSets, Opened, Viewed, Means, Meant}
 use Rattle.cases.proofs.Search.{sameBytes, same-bytes, reached, shut, shut-no-way}
@@ -32,11 +30,11 @@ use Rattle.cases.proofs.Search.{sameBytes, same-bytes, reached, shut, s
 -- ---------------------------------------------------------------- the test
 
 -- Replay's answer is "reaches".
-unfoldable pub isReaches : Replayed → Bool
-isReaches (Judged Reaches) = true
-isReaches (Judged (Stops k)) = false
-isReaches (Judged EndsShort) = false
-isReaches (Refused r) = false
+unfoldable pub isReaches : Said → Bool
+isReaches (judged Reaches) = true
+isReaches (judged (Stops k)) = false
+isReaches (judged EndsShort) = false
+isReaches (refusal n k) = false
 
 -- How many requests far the search for "no way" goes. Where it finds too few ledgers the test fails.
 abbrev pub depth : ℕ
@@ -73,12 +71,12 @@ test r = passesOn (bookOf (written (r .book))) (r .claim)
 
 -- ---------------------------------------------------------------- what it tells
 
-reaches-is : (r : Replayed) → isReaches r ≡ true → r ≡ Judged Reaches
+reaches-is : (r : Said) → isReaches r ≡ true → r ≡ judged Reaches
 unfolding isReaches
-reaches-is (Judged Reaches) e = refl
-reaches-is (Judged (Stops k)) e = absurd (true≢false (sym e))
-reaches-is (Judged EndsShort) e = absurd (true≢false (sym e))
-reaches-is (Refused r) e = absurd (true≢false (sym e))
+reaches-is (judged Reaches) e = refl
+reaches-is (judged (Stops k)) e = absurd (true≢false (sym e))
+reaches-is (judged EndsShort) e = absurd (true≢false (sym e))
+reaches-is (refusal n k) e = absurd (true≢false (sym e))
 
 module _ (chars : List ℕ) (b : Contents) (read : bookOf chars ≡ accepted b) where
   admitted : Admitted b

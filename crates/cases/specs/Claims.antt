@@ -13,8 +13,7 @@ use Rattle.ledger.specs.declared.Outcome.the-variants.{Done}
 use Rattle.ledger.specs.Ledger.{reply, openReply, requestReply}
 use Rattle.ledger.specs.Show.{shown, showView}
 use Rattle.replay.specs.declared.Judgement.the-variants.{Reaches}
-use Rattle.replay.specs.declared.Replayed.the-variants.{Judged}
-use Rattle.replay.specs.Replay.{replayed}
+use Rattle.replay.specs.Replay.{judged, replayed}
 use Rattle.planner.specs.Promise.{NoWay}
 use Rattle.cases.specs.Text.{written, five, fivesOf}
 
@@ -80,7 +79,7 @@ pub record Deleting (chars q : List ℕ) (values crews : ℕ) : Type 0 where
 
 -- What a claim means of a book's characters.
 unfoldable pub Means : List ℕ → Claim → Type 0
-Means chars (reaches list) = replayed chars (fivesOf list) ≡ Judged Reaches
+Means chars (reaches list) = replayed chars (fivesOf list) ≡ judged Reaches
 Means chars no-way = Unreachable chars
 Means chars (shows values crews) = Showing chars values crews
 Means chars (unchanged q values crews) = Unchanging chars (five q) values crews

@@ -4,7 +4,7 @@ ghost use Prim.Native.Nat.{_+_, _*_, _<_, _≤_};
 ghost use lib.ListN.{length};
 ghost use Rattle.lines.specs.Digits.{byteAt};
 ghost use Rattle.lines.specs.Lines.{lines};
-ghost use Rattle.frames.specs.Book.{refusalNumber, refusalLine, termAt, termsOf, ruleOf, knownAfter, juniorsAfter, factOf, factsAfter, wantAt, wantsOf, queryOf, queryAfter, noQuery, noRule, nothing, walk, bookOf, answerOf, refused};
+ghost use Rattle.frames.specs.Book.{refusalNumber, refusalLine, termAt, termsOf, ruleOf, knownAfter, juniorsAfter, factOf, factsAfter, wantAt, wantsOf, queryOf, queryAfter, noQuery, noRule, nothing, walk, bookOf, alone, toldBy, refused};
 use facts::Attr;
 use facts::Crew;
 use facts::Fact;
@@ -313,9 +313,9 @@ fn no_rule() -> Rule
     }
 }
 
-// A refusal; what stands in the book's place beside it counts for nothing.
+// A refusal, and a book of nothing beside it.
 fn turned_back(r: Refusal) -> Reading
-    ensures { λ a. ⌜ answerOf a ≡ refused r ⌝ }
+    ensures { λ a. ⌜ toldBy a ≡ alone (refused r) ⌝ }
 {
     let rule = no_rule();
     let rules = Rules {
@@ -345,7 +345,7 @@ fn turned_back(r: Refusal) -> Reading
 // Line by line: the earliest bad line, the end without a query, or the book.
 fn read_lines(book: &[u8]) -> Reading
     requires { ⌜ length (now book) ≤ 65536 ⌝ }
-    ensures { λ r. ⌜ answerOf r ≡ walk nothing 1 (lines (now (book .entry))) ⌝ }
+    ensures { λ r. ⌜ toldBy r ≡ alone (walk nothing 1 (lines (now (book .entry)))) ⌝ }
 {
     let mut known = gate::Known {
         headed: false,
@@ -428,7 +428,7 @@ fn read_lines(book: &[u8]) -> Reading
 
 // Any characters at all: the accepted book, or the one refusal 1-9.
 pub fn read(book: &[u8]) -> Reading
-    ensures { λ r. ⌜ answerOf r ≡ bookOf (now (book .entry)) ⌝ }
+    ensures { λ r. ⌜ toldBy r ≡ alone (bookOf (now (book .entry))) ⌝ }
 {
     if 65536 < book.len() {
         return turned_back(Refusal::TooLong);

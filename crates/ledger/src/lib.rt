@@ -2,7 +2,8 @@
 ghost use mathlib.Core.Path.{_≡_};
 ghost use Prim.Native.Nat.{_≤_, _<_};
 ghost use lib.ListN.{length};
-ghost use Rattle.facts.specs.Facts.{holds};
+ghost use Rattle.facts.specs.Facts.{holds, putFact};
+ghost use Rattle.requests.specs.Requests.{adds};
 ghost use Rattle.gate.specs.Gate.{InRange};
 ghost use Rattle.frames.specs.Book.{contentsOf};
 ghost use Rattle.frames.specs.Fits.{Admitted};
@@ -27,7 +28,7 @@ pub enum Outcome {
     Refused(Refusal),
 }
 
-// What show gives. The sets and crews count only where the outcome is Done.
+// What show gives. Beside a refusal the sets and the crews are 0.
 pub struct Shown {
     pub outcome: Outcome,
     pub sets: [u32; 8],
@@ -105,6 +106,15 @@ fn is_allowed(b: Book, ledger: &[u8], q: requests::Request) -> bool
     rules::first_listed(rules, ledger, &juniors, q) < n
 }
 
+// Sets or clears the one fact of a request.
+fn carry_out(ledger: &mut [u8], q: requests::Request)
+    ensures { λ _. ⌜ now (ledger .exit) ≡ putFact (now (ledger .entry)) (q .fact) (adds (q .op)) ⌝ }
+{
+    let f = q.fact;
+    let on = requests::is_adding(q.op);
+    facts::put_fact(ledger, f, on);
+}
+
 fn request_in(b: Book, ledger: &mut [u8], request: &[u8]) -> Outcome
     requires { ⌜ Admitted (contentsOf b) ⌝ }
     ensures { λ r. ⌜ reply r (now (ledger .exit)) ≡ requestIn (contentsOf b) (now (ledger .entry)) (now (request .entry)) ⌝ }
@@ -120,9 +130,7 @@ fn request_in(b: Book, ledger: &mut [u8], request: &[u8]) -> Outcome
     if !is_allowed(b, ledger, q) {
         return Outcome::Refused(Refusal::NotPermitted);
     }
-    let on = requests::is_adding(q.op);
-    let f = q.fact;
-    facts::put_fact(ledger, f, on);
+    carry_out(ledger, q);
     Outcome::Done
 }
 
@@ -199,7 +207,7 @@ fn value_sets(z: gate::Sizes, ledger: &[u8], juniors: &[u32], p: Person) -> [u32
 
 // A refused show.
 fn not_shown(r: Refusal) -> Shown
-    ensures { λ s. ⌜ viewOf s ≡ hidden r ⌝ }
+    ensures { λ s. ⌜ viewOf s ≡ hidden (refusalNumber r) (refusalLine r) ⌝ }
 {
     Shown {
         outcome: Outcome::Refused(r),

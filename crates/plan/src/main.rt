@@ -1,72 +1,68 @@
 // Reads a book on standard input, and writes the planner's answer: no way, a plan, or a refusal.
 //
-// Clearing the buffers that serve every book would be most of what a short book costs, so small ones are tried first. No answer rests
-// on that: a book that fills the small buffer is read on into the large one, and where a plan's buffer is too short the large one serves.
-ghost use Prim.Native.Nat.{_+_, _*_, _≤_};
+// Clearing buffers that serve every book would be most of what a short book costs, so the sizes in the book's first line choose smaller
+// ones. No answer rests on that choice: what finds its buffer too short is read on, or planned again, in the largest.
+ghost use Prim.Native.Nat.{_+_, _*_, _≤_, _<_};
 ghost use mathlib.Core.Path.{_≡_};
-ghost use lib.ListN.{length};
+ghost use lib.ListN.{length, take};
 ghost use Rattle.io.specs.Counts.{Counts};
+ghost use Rattle.planner.specs.Answer.{said};
+ghost use Rattle.answers.specs.Written.{Written};
+ghost use Rattle.plan.specs.Printed.{Printed};
+ghost use Rattle.plan.specs.Inner.Tried.{isShort, Tried};
 use libc::STDIN_FILENO;
 use libc::STDOUT_FILENO;
 
-fn write_text(t: answers::Text)
-    requires { ⌜ t .len ≤ 64 ⌝ }
+// Plans the book in the first n bytes of `text`, and puts all that the program prints in its place: the first bytes, as many as returned.
+// The buffer of the plan is long enough for every book.
+fn answer(text: &mut [u8], n: usize) -> usize
+    requires { ⌜ (n ≤ length (now text)) × (93639 ≤ length (now text)) ⌝ }
+    ensures { λ end. ⌜ (end ≤ length (now (text .exit))) × Printed (take n (now (text .entry))) (take end (now (text .exit))) ⌝ }
 {
-    let len = t.len;
-    let chars = t.chars;
-    io::write_all(STDOUT_FILENO, &chars[..len]);
+    let mut plan = [0u8; 42560];
+    let planned = planner::plan(&text[..n], &mut plan);
+    answers::put_answer(planned, &plan, text)
 }
 
-// The requests in the front of `out`, one a line.
-fn write_requests(out: &[u8], count: usize)
-    requires { ⌜ 5 * count ≤ length (now out) ⌝ }
+// Whether the answer is refusal 10.
+fn is_short(answer: planner::Planned) -> bool
+    ensures { λ r. ⌜ r ≡ isShort (said answer) ⌝ }
 {
-    let mut k: usize = 0;
-    while k < count {
-        let at = 5 * k;
-        let end = at + 5;
-        let t = answers::request_text(&out[at..end]);
-        write_text(t);
-        k += 1;
-    }
-}
-
-// Plans a book into a buffer and writes the answer, unless the buffer is too short for the book (refusal 10). Returns whether it is written.
-fn answer(book: &[u8], out: &mut [u8]) -> bool {
-    let answer = planner::plan(book, out);
     match answer {
-        planner::Planned::NoWay => {
-            let t = answers::no_way_text();
-            write_text(t);
-        }
-        planner::Planned::Plan(count) => {
-            let t = answers::count_text(count);
-            write_text(t);
-            write_requests(out, count);
-        }
-        planner::Planned::Refused(r) => {
-            let number = planner::refusal_number(r);
-            let line = planner::refusal_line(r);
-            if number == 10 {
-                return false;
-            }
-            let t = answers::refused_text(number, line);
-            write_text(t);
-        }
+        planner::Planned::NoWay => false,
+        planner::Planned::Plan(_) => false,
+        planner::Planned::Refused(r) => planner::refusal_number(r) == 10,
     }
-    true
 }
 
-// With a small buffer for the plan.
-fn answer_small(book: &[u8]) -> bool {
-    let mut out = [0u8; 8192];
-    answer(book, &mut out)
+// The same with a buffer that may be too short for the book: then the text is left as it was, and 0 returned.
+fn answer_in(text: &mut [u8], n: usize, plan: &mut [u8]) -> usize
+    requires { ⌜ (n ≤ length (now text)) × ((9 ≤ length (now text)) × (35 + 11 * length (now plan) ≤ 5 * length (now text))) ⌝ }
+    ensures { λ end. ⌜ Tried (take n (now (text .entry))) (now (text .entry)) end (now (text .exit)) ⌝ }
+{
+    let planned = planner::plan(&text[..n], plan);
+    if is_short(planned) {
+        return 0;
+    }
+    answers::put_answer(planned, plan, text)
 }
 
-// With a buffer that is long enough for every book.
-fn answer_large(book: &[u8]) -> bool {
-    let mut out = [0u8; 42560];
-    answer(book, &mut out)
+// With a buffer for the plans of books of up to 849 facts.
+fn answer_849(text: &mut [u8], n: usize) -> usize
+    requires { ⌜ (n ≤ length (now text)) × (18688 ≤ length (now text)) ⌝ }
+    ensures { λ end. ⌜ Tried (take n (now (text .entry))) (now (text .entry)) end (now (text .exit)) ⌝ }
+{
+    let mut plan = [0u8; 8490];
+    answer_in(text, n, &mut plan)
+}
+
+// Of up to 204 facts.
+fn answer_204(text: &mut [u8], n: usize) -> usize
+    requires { ⌜ (n ≤ length (now text)) × (18688 ≤ length (now text)) ⌝ }
+    ensures { λ end. ⌜ Tried (take n (now (text .entry))) (now (text .entry)) end (now (text .exit)) ⌝ }
+{
+    let mut plan = [0u8; 2040];
+    answer_in(text, n, &mut plan)
 }
 
 // The number that the two characters at a place write, whether they are digits or not.
@@ -79,53 +75,88 @@ fn size_at(book: &[u8], at: usize) -> usize
     16 * high + low
 }
 
-// Whether the sizes in the book's first line, where they stand there, ask for no more than the small buffer: 10 × F.
-fn is_small(book: &[u8]) -> bool {
+// How many facts the sizes in the book's first line give, where they stand there: F.
+fn facts_asked(book: &[u8]) -> usize {
     if book.len() < 10 {
-        return true;
+        return 0;
     }
     let crews = size_at(book, 4);
     let attrs = size_at(book, 6);
     let values = size_at(book, 8);
-    10 * ((1 + crews) * attrs * values + crews) <= 8192
+    (1 + crews) * attrs * values + crews
 }
 
-fn answer_book(book: &[u8]) {
-    if is_small(book) {
-        if answer_small(book) {
-            return;
-        }
-    }
-    answer_large(book);
-}
-
-// Puts `front` into the buffer and reads on behind it. Returns how many characters there are.
-fn read_on(front: &[u8; 8192], buf: &mut [u8]) -> usize
-    requires { ⌜ length (now buf) ≡ 65537 ⌝ }
-    ensures { λ r. ⌜ Counts r (now (buf .exit)) ⌝ }
+// With a small buffer for the plan. 0 where that is too short, and where the book fills the text, so that more of it may follow.
+fn answer_small(text: &mut [u8], n: usize) -> usize
+    requires { ⌜ (n ≤ length (now text)) × (18688 ≤ length (now text)) ⌝ }
+    ensures { λ end. ⌜ Tried (take n (now (text .entry))) (now (text .entry)) end (now (text .exit)) × (0 < end → n < length (now (text .entry))) ⌝ }
 {
-    let mut i: usize = 0;
-    while i < 8192 {
-        buf[i] = front[i];
-        i += 1;
+    if n == text.len() {
+        return 0;
     }
-    let n = io::read_full(STDIN_FILENO, &mut buf[8192..]);
-    8192 + n
+    if facts_asked(&text[..n]) <= 204 {
+        return answer_204(text, n);
+    }
+    answer_849(text, n)
 }
 
-// A book that begins with `front`. The buffer holds one character more than a book may have, so that refusal 1 shows.
-fn answer_long(front: &[u8; 8192]) {
-    let mut buf = [0u8; 65537];
-    let n = read_on(front, &mut buf);
-    answer_book(&buf[..n]);
+// Puts `front` in the front of the text.
+fn put_front(front: &[u8], text: &mut [u8])
+    requires { ⌜ length (now front) ≤ length (now text) ⌝ }
+    ensures { λ _. ⌜ Written (now (text .entry)) 0 (now (front .entry)) (now (text .exit)) (length (now (front .entry))) ⌝ }
+{
+    let mut k: usize = 0;
+    while k < front.len() {
+        text[k] = front[k];
+        k += 1;
+    }
+}
+
+// Puts what was read, `front`, in the front of the text, and reads on behind it. Returns how many characters there are. What was read fills
+// its buffer, of 64 characters or 292 times as many, unless the input has ended.
+fn read_on(front: &[u8], text: &mut [u8]) -> usize
+    requires { ⌜ length (now front) ≤ length (now text) ⌝ }
+    ensures { λ n. ⌜ Counts n (now (text .exit)) × ((length (now (front .entry)) ≤ n) × (take (length (now (front .entry))) (now (text .exit)) ≡ now (front .entry))) ⌝ }
+{
+    put_front(front, text);
+    let k = front.len();
+    if k % 64 != 0 {
+        return k;
+    }
+    let n = io::read_full(STDIN_FILENO, &mut text[k..]);
+    k + n
+}
+
+// The text holds more characters than a book may have, so that refusal 1 shows, and the longest answer: 7 characters, and 11 for each of
+// 8,512 requests.
+fn print_large(front: &[u8])
+    requires { ⌜ length (now front) ≤ 18688 ⌝ }
+{
+    let mut text = [0u8; 93639];
+    let n = read_on(front, &mut text);
+    let end = answer(&mut text, n);
+    io::write_all(STDOUT_FILENO, &text[..end]);
+}
+
+fn print_small(front: &[u8])
+    requires { ⌜ length (now front) ≤ 64 ⌝ }
+{
+    let mut text = [0u8; 18688];
+    let n = read_on(front, &mut text);
+    let end = answer_small(&mut text, n);
+    if end == 0 {
+        print_large(&text[..n]);
+        return;
+    }
+    io::write_all(STDOUT_FILENO, &text[..end]);
 }
 
 fn main() {
-    let mut front = [0u8; 8192];
+    let mut front = [0u8; 64];
     let n = io::read_full(STDIN_FILENO, &mut front);
-    if n < 8192 {
-        answer_book(&front[..n]);
+    if facts_asked(&front[..n]) <= 849 {
+        print_small(&front[..n]);
     } else {
-        answer_long(&front);
+        print_large(&front[..n]);
     }
 }

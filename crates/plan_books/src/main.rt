@@ -1,15 +1,5 @@
 // Plans each of the books that the arguments name, a line each: the answer's first line, what replay says of the plan, the name.
-ghost use Prim.Native.Nat.{_≤_};
 use libc::STDOUT_FILENO;
-
-// A text without its line end.
-fn write_front(t: answers::Text)
-    requires { ⌜ (1 ≤ t .len) × (t .len ≤ 64) ⌝ }
-{
-    let len = t.len - 1;
-    let chars = t.chars;
-    io::write_all(STDOUT_FILENO, &chars[..len]);
-}
 
 // Where the requests of a plan lead, by replay.
 fn write_judgement(j: replay::Judgement) {
@@ -37,7 +27,8 @@ fn write_replayed(r: replay::Replayed) {
     }
 }
 
-// The book's buffer holds one character more than a book may have, so that refusal 1 shows; the plan's is long enough for every book.
+// The book's buffer holds one character more than a book may have, so that refusal 1 shows; the plan's is long enough for every book, and
+// the text's for every answer.
 fn plan(name: &[u8]) {
     let fd = os::open_read(name);
     if fd < 0 {
@@ -49,29 +40,25 @@ fn plan(name: &[u8]) {
     libc::close(fd);
     let mut out = [0u8; 42560];
     let answer = planner::plan(&buf[..n], &mut out);
+    let mut text = [0u8; 93639];
+    answers::put_answer(answer, &out, &mut text);
+    let end = lines::line_end(&text, 0);
+    io::write_all(STDOUT_FILENO, &text[..end]);
     match answer {
         planner::Planned::NoWay => {
-            let t = answers::no_way_text();
-            write_front(t);
             io::write_all(STDOUT_FILENO, b" - ");
         }
         planner::Planned::Plan(count) => {
-            let t = answers::count_text(count);
-            write_front(t);
-            let end = 5 * count;
-            let r = replay::replay(&buf[..n], &out[..end]);
+            let requests = 5 * count;
+            let r = replay::replay(&buf[..n], &out[..requests]);
             write_replayed(r);
         }
         planner::Planned::Refused(r) => {
-            let number = planner::refusal_number(r);
-            let line = planner::refusal_line(r);
-            let t = answers::refused_text(number, line);
-            write_front(t);
             io::write_all(STDOUT_FILENO, b" - ");
         }
     }
     io::write_all(STDOUT_FILENO, name);
-    io::write_all(STDOUT_FILENO, &[b'\n']);
+    io::write_all(STDOUT_FILENO, b"\n");
 }
 
 fn plan_argument(k: usize) {

@@ -1,6 +1,6 @@
 -- From the buffers of the search to the answer.
 use mathlib.Core.Path.{_≡_, refl, ap, sym, subst, _∙_}
-use mathlib.Core.Bool.{true, false}
+use mathlib.Core.Bool.{Bool, true, false, true≢false}
 use mathlib.Core.List.{List, [], _∷_, _++_, map, append-assoc}
 use Prim.Native.Nat.{ℕ, zero, suc, _+_, _-_, _*_, _≤_, _<_}
 use native.Mathlib.Omega.{arith}
@@ -22,15 +22,16 @@ use Rattle.reach.specs.Tracked.{bytesOf}
 use Rattle.drafts.specs.Drafts.{carried, flat}
 use Rattle.drafts.proofs.DraftLaws.{run-carried, flat-append, fives-flat, length-flat}
 use Rattle.search.specs.Drive.{starts, drafted}
-use Rattle.search.specs.Scan.{Written}
+use Rattle.search.specs.Scan.{NoRun, Written}
 use Rattle.planner.specs.Count.{factCount}
 use Rattle.planner.specs.Promise.{NoWay, Works}
 use Rattle.planner.specs.declared.Planned.{Planned}
 use Rattle.planner.specs.declared.Planned.the-variants.{Refused}
 use Rattle.planner.specs.declared.Refusal.the-variants.{BadBook, ShortBuffer}
-use Rattle.planner.specs.Answer.{front, PlanGiven, Decided, Answered, PlanPromise}
+use Rattle.planner.specs.Answer.{front, Said, said80, said81, said8F, said, PlanGiven, Decided, Answered, PlanPromise}
+use Rattle.planner.specs.Inner.Found.{Found, Reply, reply, given}
 use Rattle.planner.proofs.CountLaws.{plan-few}
-use Rattle.planner.proofs.PromiseLaws.{lastLedger, best-no-way, best-leads, best-works}
+use Rattle.planner.proofs.PromiseLaws.{lastLedger, no-run-no-way, best-no-way, best-leads, best-works}
 
 -- ---------------------------------------------------------------- the bound F
 
@@ -149,20 +150,84 @@ both-copied up ups down at before middle out size few room first second =
         ∙ drop-drop (5 * (5280 - at)) (5 * (0 + ups)) before
         ∙ ap (λ (k : ℕ). drop k before) joined
 
+-- ---------------------------------------------------------------- what was found
+
+-- How many requests two buffers have.
+pub drafted-length : (up : List ℕ) (ups : ℕ) (down : List ℕ) (at : ℕ) → length (drafted up ups down at) ≡ ups + (5280 - at)
+drafted-length up ups down at =
+    length-append (map bytesOf (asks up 0 ups)) (map bytesOf (asks down at (5280 - at)))
+    ∙ ap (λ (n : ℕ). n + length (map bytesOf (asks down at (5280 - at)))) (length-map (asks up 0 ups) bytesOf ∙ asks-length up 0 ups)
+    ∙ ap (λ (n : ℕ). ups + n) (length-map (asks down at (5280 - at)) bytesOf ∙ asks-length down at (5280 - at))
+
+-- No way is given, or the plan.
+pub given-none : (found : Bool) (chain : List (List ℕ)) {before : List ℕ} → found ≡ false → reply said80 before ≡ given found chain before
+given-none found chain {before} e = ap (λ (t : Bool). given t chain before) (sym e)
+
+pub given-plan : (found : Bool) (up : List ℕ) (ups : ℕ) (down : List ℕ) (at : ℕ) (before : List ℕ) {out : List ℕ} {n : ℕ} → found ≡ true → n ≡ ups + (5280 - at)
+    → out ≡ flat (drafted up ups down at) ++ drop (5 * (ups + (5280 - at))) before
+    → reply (said81 n) out ≡ given found (drafted up ups down at) before
+given-plan found up ups down at before {out} {n} e count is =
+    ap (λ (k : ℕ). reply (said81 k) out) (count ∙ sym long)
+    ∙ ap (reply (said81 (length (drafted up ups down at)))) (is ∙ ap (λ (k : ℕ). flat (drafted up ups down at) ++ drop (5 * k) before) (sym long))
+    ∙ ap (λ (t : Bool). given t (drafted up ups down at) before) (sym e)
+  where
+    long : length (drafted up ups down at) ≡ ups + (5280 - at)
+    long = drafted-length up ups down at
+
+module _ (b : Contents) (ok : Admitted b) {up down : List ℕ} where
+  -- No run ends clear of the forbidden facts: nothing is found.
+  pub found-none : NoRun b → Found b up down false 0 5280
+  found-none stuck =
+      record {
+        reached = λ e. absurd (true≢false (sym e));
+        none = λ e. no-run-no-way b ok stuck;
+        few-up = omega arith;
+        most-down = omega arith;
+        few = omega arith;
+      }
+
+  -- The best plan's last ledger decides.
+  pub found-best : {ups at : ℕ} (found : Bool) → Written b up down ups at
+      → found ≡ met b (holds (carried (b .facts) (drafted up ups down at))) → Found b up down found ups at
+  found-best {ups} {at} found w e =
+      record {
+        reached = λ t. record { written = w; meets = sym e ∙ t };
+        none = λ f. not-reached b ok w (sym e ∙ f);
+        few-up = w .few-up;
+        most-down = w .most-down;
+        few = written-few b ok w;
+      }
+
+  -- What is given for it is what demand 3 says.
+  pub given-decided : {ups at : ℕ} {found : Bool} → Found b up down found ups at → (before : List ℕ) {s : Said} {out : List ℕ}
+      → 10 * factCount (b .sizes) ≤ length before → reply s out ≡ given found (drafted up ups down at) before → Decided b before s out
+  given-decided {ups} {at} {found} f before {s} {out} long e = by-found found refl e
+    where
+      count : length (drafted up ups down at) ≡ ups + (5280 - at)
+      count = drafted-length up ups down at
+
+      by-found : (t : Bool) → found ≡ t → reply s out ≡ given t (drafted up ups down at) before → Decided b before s out
+      by-found false is g =
+          subst (λ (r : Reply). Decided b before (r .answer) (r .buffer)) (sym g) (f .none is, refl)
+      by-found true is g =
+          subst (λ (r : Reply). Decided b before (r .answer) (r .buffer)) (sym g)
+          (reached b ok (f .reached is .written) (f .reached is .meets) before (length (drafted up ups down at)) _ count
+          (omega (arith, count, f .few, long)) refl)
+
 -- ---------------------------------------------------------------- the answer
 
 module _ (b : Contents) (before : List ℕ) where
   -- A short buffer is refused, as it was.
-  pub answered-short : length before < 10 * factCount (b .sizes) → Answered b before (Refused ShortBuffer) before
+  pub answered-short : length before < 10 * factCount (b .sizes) → Answered b before (said8F 10 0) before
   answered-short h = record { short = λ l. (refl, refl); long = λ l. absurd (omega arith) }
 
   -- On a long one it is decided.
-  pub answered-long : 10 * factCount (b .sizes) ≤ length before → {answer : Planned} {out : List ℕ} → Decided b before answer out → Answered b before answer out
+  pub answered-long : 10 * factCount (b .sizes) ≤ length before → {answer : Said} {out : List ℕ} → Decided b before answer out → Answered b before answer out
   answered-long h decided = record { short = λ l. absurd (omega arith); long = λ l. decided }
 
 -- The promise, of a refused book and of an accepted one.
 pub promise-refused : (chars before : List ℕ) {r : frames.Refusal} → bookOf chars ≡ refused r → PlanPromise chars before (Refused (BadBook r)) before
 promise-refused chars before e = record { kept = rw e (refl, refl) }
 
-pub promise-accepted : (chars before : List ℕ) (answer : Planned) (out : List ℕ) {b : Contents} → bookOf chars ≡ accepted b → Answered b before answer out → PlanPromise chars before answer out
+pub promise-accepted : (chars before : List ℕ) (answer : Planned) (out : List ℕ) {b : Contents} → bookOf chars ≡ accepted b → Answered b before (said answer) out → PlanPromise chars before answer out
 promise-accepted chars before answer out e answered = record { kept = rw e answered }

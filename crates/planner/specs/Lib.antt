@@ -1,3 +1,4 @@
 pub mod Count
 pub mod Promise
 pub mod Answer
+pub mod Inner

@@ -10,10 +10,12 @@ ghost use Rattle.gate.specs.Gate.{InRange};
 ghost use Rattle.replay.specs.Met.{met};
 ghost use Rattle.drafts.specs.Drafts.{carried, flat};
 ghost use Rattle.planner.specs.Count.{factCount};
-ghost use Rattle.planner.specs.Answer.{refusalNumber, refusalLine, Answered, PlanPromise};
+ghost use Rattle.planner.specs.Answer.{refusalNumber, refusalLine, said, Answered, PlanPromise};
+ghost use Rattle.planner.specs.Inner.Found.{Found, reply, given};
 ghost use Rattle.search.specs.Drive.{drafted};
 use frames::Book;
 use gate::Sizes;
+use level::Outcome;
 
 // What the planner answers: no way, the count of the plan's requests, or a refusal.
 pub enum Planned {
@@ -72,6 +74,28 @@ fn is_reached(b: Book, up: &[u8], ups: usize, down: &[u8], at: usize) -> bool
     replay::is_met(b, &ledger)
 }
 
+// The requests of the best plan, found where they lead to a ledger that meets the query; none else.
+fn best_plan(b: Book, up: &mut [u8], down: &mut [u8]) -> Outcome
+    requires { ⌜ Admitted (contentsOf b) ⌝ }
+    requires { ⌜ (length (now up) ≡ 26400) × (length (now down) ≡ 26400) ⌝ }
+    ensures { λ r. ⌜ Found (contentsOf b) (now (up .exit)) (now (down .exit)) (r .found) (r .ups) (r .at) ⌝ }
+{
+    let r = search::search(b, up, down);
+    if !r.found {
+        return Outcome {
+            found: false,
+            ups: 0,
+            at: 5280,
+        };
+    }
+    let found = is_reached(b, up, r.ups, down, r.at);
+    Outcome {
+        found,
+        ups: r.ups,
+        at: r.at,
+    }
+}
+
 // Writes the plan to the front of the caller's buffer.
 fn write_plan(up: &[u8], ups: usize, down: &[u8], at: usize, out: &mut [u8]) -> usize
     requires { ⌜ (ups ≤ 5280) × ((at ≤ 5280) × (5 * (ups + (5280 - at)) ≤ length (now out))) ⌝ }
@@ -84,10 +108,23 @@ fn write_plan(up: &[u8], ups: usize, down: &[u8], at: usize, out: &mut [u8]) -> 
     ups + n
 }
 
+// The answer to what was found: no way, or the plan in the front of the caller's buffer.
+fn give(found: bool, up: &[u8], ups: usize, down: &[u8], at: usize, out: &mut [u8]) -> Planned
+    requires { ⌜ (ups ≤ 5280) × ((at ≤ 5280) × (5 * (ups + (5280 - at)) ≤ length (now out))) ⌝ }
+    requires { ⌜ (length (now up) ≡ 26400) × (length (now down) ≡ 26400) ⌝ }
+    ensures { λ r. ⌜ reply (said r) (now (out .exit)) ≡ given found (drafted (now (up .entry)) ups (now (down .entry)) at) (now (out .entry)) ⌝ }
+{
+    if !found {
+        return Planned::NoWay;
+    }
+    let n = write_plan(up, ups, down, at, out);
+    Planned::Plan(n)
+}
+
 // Plans an accepted book.
 fn plan_in(b: Book, out: &mut [u8]) -> Planned
     requires { ⌜ Admitted (contentsOf b) ⌝ }
-    ensures { λ r. ⌜ Answered (contentsOf b) (now (out .entry)) r (now (out .exit)) ⌝ }
+    ensures { λ r. ⌜ Answered (contentsOf b) (now (out .entry)) (said r) (now (out .exit)) ⌝ }
 {
     let z = b.sizes;
     let f = fact_count(z);
@@ -96,15 +133,8 @@ fn plan_in(b: Book, out: &mut [u8]) -> Planned
     }
     let mut up = [0u8; 26400];
     let mut down = [0u8; 26400];
-    let r = search::search(b, &mut up, &mut down);
-    if !r.found {
-        return Planned::NoWay;
-    }
-    if !is_reached(b, &up, r.ups, &down, r.at) {
-        return Planned::NoWay;
-    }
-    let n = write_plan(&up, r.ups, &down, r.at, out);
-    Planned::Plan(n)
+    let r = best_plan(b, &mut up, &mut down);
+    give(r.found, &up, r.ups, &down, r.at, out)
 }
 
 // Plans the query of a book, given as characters: no way, or a plan in the front of `out`.

@@ -15,7 +15,7 @@ ghost use Rattle.ledger.specs.Show.{setBelow};
 ghost use Rattle.replay.specs.Chains.{goes, run, fives};
 ghost use Rattle.replay.specs.Lent.{standing, fiveAt, due, ranTo};
 ghost use Rattle.replay.specs.Met.{wants, effectiveSet, met};
-ghost use Rattle.replay.specs.Replay.{refusalNumber, refusalLine, replayIn, replayed, runFor};
+ghost use Rattle.replay.specs.Replay.{refusalNumber, refusalLine, said, replayIn, replayed, runFor};
 use facts::Crew;
 use facts::Fact;
 use facts::Person;
@@ -269,7 +269,7 @@ pub fn is_met(b: Book, ledger: &[u8]) -> bool
 
 fn replay_in(b: Book, plan: &[u8]) -> Replayed
     requires { ⌜ Admitted (contentsOf b) ⌝ }
-    ensures { λ r. ⌜ r ≡ replayIn (contentsOf b) (now (plan .entry)) ⌝ }
+    ensures { λ r. ⌜ said r ≡ replayIn (contentsOf b) (now (plan .entry)) ⌝ }
 {
     if plan.len() % 5 != 0 {
         return Replayed::Refused(Refusal::BadLength);
@@ -287,7 +287,7 @@ fn replay_in(b: Book, plan: &[u8]) -> Replayed
 
 // Judges a list of requests, five bytes each, from the book's starting facts.
 pub fn replay(book: &[u8], plan: &[u8]) -> Replayed
-    ensures { λ r. ⌜ r ≡ replayed (now (book .entry)) (now (plan .entry)) ⌝ }
+    ensures { λ r. ⌜ said r ≡ replayed (now (book .entry)) (now (plan .entry)) ⌝ }
 {
     let reading = frames::read(book);
     let outcome = reading.outcome;

@@ -16,6 +16,10 @@ Inv-loop x w n₀ v₀ n v = (v ≤ w) × ((n ≡ size x v) × (n ≤ v))
 abbrev μ-loop : tie.MeasureT-loop
 μ-loop x w n₀ v₀ n v = w - v
 
+-- The places that the answers name, each seen from a later one.
+abbrev start : tie.Joined1 Inv-loop μ-loop → tie.Start Inv-loop μ-loop
+start c = c .before .before .before .before
+
 loop-holds : tie.Need-loop-holds Inv-loop μ-loop
 unfolding size
 loop-holds c = (omega arith, (refl, omega arith))
@@ -34,7 +38,7 @@ loop-less c = omega arith
 
 loop-again : tie.Need-loop-again Inv-loop μ-loop
 loop-again c =
-    let x = c .before .before .before .before .args .x in
+    let x = start c .args .x in
     let v = c .before .before .before .loop .v in
     let is = sym (c .before .has .ensures) in
     ⊎-elim

@@ -12,7 +12,7 @@ use Rattle.gate.specs.declared.Fault.{Fault}
 use Rattle.gate.proofs.PassedLaws.{rule-passed}
 use Rattle.facts.specs.Facts.{noFacts}
 use Rattle.frames.specs.declared.Refusal.the-variants.{BadLine}
-use Rattle.frames.specs.Book.{refused, answerOf, contentsOf, listed, nothing}
+use Rattle.frames.specs.Book.{refused, alone, toldBy, contentsOf, listed, nothing}
 use Rattle.frames.proofs.WalkLaws.{held, Held, at-end-good, at-end-bad, unread-bad, long-refused, line-framed, line-less, line-bad}
 use Rattle.frames.proofs.WalkLaws.{edge-good, fact-good, rule-good, other-good, edge-small}
 use Rattle.frames.proofs.read_lines.Statement.{statement}
@@ -111,7 +111,8 @@ returns : tie.Need-returns Inv-loop μ-loop
 returns c =
     let told = c .before in
     let r = told .before .before .before in
-    c .turned-back .ensures ∙ unread-bad (at-loop r .loop .inv .0) (r .read-frame .ensures) (tested-at r .if1 .taken) (told .enum-told .given .1)
+    c .turned-back .ensures
+    ∙ ap alone (unread-bad (at-loop r .loop .inv .0) (r .read-frame .ensures) (tested-at r .if1 .taken) (told .enum-told .given .1))
 
 enum-known-decoded : tie.Need-enum-known-decoded Inv-loop μ-loop
 enum-known-decoded c = search needs
@@ -131,8 +132,8 @@ returns-2 c =
     let long = faulted .before .before .before in
     let r = long .before .before .before in
     let at = at-loop r .loop in
-    c .turned-back2 .ensures ∙ ap (λ (f : Fault). refused (BadLine f (at .cursor .line))) (faulted .long-fault .ensures)
-    ∙ long-refused (at .inv .0) (r .read-frame .ensures) (long .decoded .given .1) (read-size (r .read-frame .ensures) ∙ at .inv .1)
+    c .turned-back2 .ensures ∙ ap (λ (f : Fault). alone (refused (BadLine f (at .cursor .line)))) (faulted .long-fault .ensures)
+    ∙ ap alone (long-refused (at .inv .0) (r .read-frame .ensures) (long .decoded .given .1) (read-size (r .read-frame .ensures) ∙ at .inv .1))
 
 enum-known-decoded-2 : tie.Need-enum-known-decoded-2 Inv-loop μ-loop
 enum-known-decoded-2 c = search needs
@@ -164,7 +165,8 @@ returns-3 c =
     let d = framed-at j in
     let inv = at-loop (read-at d) .loop .inv .0 in
     let framed = line-framed inv (read-at d .read-frame .ensures) (d .decoded2 .given .1) in
-    c .turned-back3 .ensures ∙ line-bad inv framed (told .verdict .given .0 .0) (sym (j .judge-frame .ensures) ∙ told .verdict .given .1)
+    c .turned-back3 .ensures
+    ∙ ap alone (line-bad inv framed (told .verdict .given .0 .0) (sym (j .judge-frame .ensures) ∙ told .verdict .given .1))
 
 enum-told-2 : tie.Need-enum-told-2 Inv-loop μ-loop
 enum-told-2 c = search needs
@@ -295,13 +297,14 @@ turned-back-requires-4 c κs = search needs
 returns-4 : tie.Need-returns-4 Inv-loop μ-loop
 returns-4 c =
     let ended = c .before .before .before in
-    c .turned-back4 .ensures ∙ at-end-bad (ended .before .before .loop .inv .0) (ended .if1 .left) (not-true _ (c .before .if5 .taken))
+    c .turned-back4 .ensures
+    ∙ ap alone (at-end-bad (ended .before .before .loop .inv .0) (ended .if1 .left) (not-true _ (c .before .if5 .taken)))
 
 returns-5 : tie.Need-returns-5 Inv-loop μ-loop
-unfolding answerOf contentsOf listed held
+unfolding toldBy contentsOf listed held
 returns-5 c =
     let ended = c .before .before .before in
-    at-end-good (ended .before .before .loop .inv .0) (ended .if1 .left) (not-false _ (c .before .if5 .left))
+    ap alone (at-end-good (ended .before .before .loop .inv .0) (ended .if1 .left) (not-false _ (c .before .if5 .left)))
 
 pub read-lines-spec : {M : Type 1} → statement M
 read-lines-spec =

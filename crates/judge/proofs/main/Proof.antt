@@ -1,6 +1,6 @@
--- `judge::main` is safe: an answer fits its text. Assumes nothing.
-use native.Mathlib.Omega.{arith}
-use Rattle.answers.proofs.AnswerLaws.{answer-fits}
+-- `judge::main` is safe: what `answer` puts in the buffer lies within it. Assumes nothing.
+use mathlib.Core.Path.{sym}
+use lib.Seq.{length-take-le}
 use borrow.Author.Needs.{needs}
 use Rattle.judge.proofs.main.Statement.{statement}
 use Rattle.judge.proofs.main.Tie as tie
@@ -11,20 +11,20 @@ slice-aggregate-read-full c = search needs
 read-full-requires : tie.Need-read-full-requires
 read-full-requires c κs = search needs
 
-array-share-prefix-buf : tie.Need-array-share-prefix-buf
-array-share-prefix-buf c = search needs
+slice-aggregate-answer : tie.Need-slice-aggregate-answer
+slice-aggregate-answer c = search needs
 
-slice-aggregate-read : tie.Need-slice-aggregate-read
-slice-aggregate-read c = search needs
+answer-requires : tie.Need-answer-requires
+answer-requires c κs = search needs
 
-read-requires : tie.Need-read-requires
-read-requires c κs = search needs
+array-share-prefix-text : tie.Need-array-share-prefix-text
+array-share-prefix-text c = search needs
 
-reading-text-requires : tie.Need-reading-text-requires
-reading-text-requires c κs = search needs
+slice-aggregate-write-all : tie.Need-slice-aggregate-write-all
+slice-aggregate-write-all c = let answered = c .before .before .answer in sym (length-take-le (answered .result) (answered .last .0) (answered .ensures .0))
 
-write-text-requires : tie.Need-write-text-requires
-write-text-requires c κs = omega (arith, c .reading-text .ensures .long, answer-fits (c .before .read .result .outcome) (c .before .read .result .book) .1)
+write-all-requires : tie.Need-write-all-requires
+write-all-requires c κs = search needs
 
 returns : tie.Need-returns
 returns c = search needs
@@ -35,9 +35,9 @@ main-spec =
     (tie.spec
     slice-aggregate-read-full
     read-full-requires
-    array-share-prefix-buf
-    slice-aggregate-read
-    read-requires
-    reading-text-requires
-    write-text-requires
+    slice-aggregate-answer
+    answer-requires
+    array-share-prefix-text
+    slice-aggregate-write-all
+    write-all-requires
     returns)

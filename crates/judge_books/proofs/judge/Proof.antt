@@ -1,9 +1,15 @@
--- `judge_books::judge` is safe: an answer has its line end at least, and fits its text. Assumes nothing.
+-- `judge_books::judge` is safe: the first line of the text ends within it. Assumes nothing.
+use mathlib.Core.Path.{sym}
 use native.Mathlib.Omega.{arith}
-use Rattle.answers.proofs.AnswerLaws.{answer-fits}
+use lib.Seq.{length-take-le}
+use Rattle.lines.proofs.LineLaws.{end-within}
 use borrow.Author.Needs.{needs}
 use Rattle.judge_books.proofs.judge.Statement.{statement}
 use Rattle.judge_books.proofs.judge.Tie as tie
+
+-- The places that the answers name, each seen from a later one.
+abbrev after-put-reading : tie.After-text4 → tie.After-put-reading
+after-put-reading c = c .before .before .before .before
 
 open-read-requires : tie.Need-open-read-requires
 open-read-requires c κs = search needs
@@ -32,13 +38,31 @@ slice-aggregate-read c = search needs
 read-requires : tie.Need-read-requires
 read-requires c κs = search needs
 
-reading-text-requires : tie.Need-reading-text-requires
-reading-text-requires c κs = search needs
+slice-aggregate-put-reading : tie.Need-slice-aggregate-put-reading
+slice-aggregate-put-reading c = search needs
+
+put-reading-requires : tie.Need-put-reading-requires
+put-reading-requires c κs = search needs
+
+slice-aggregate-line-end : tie.Need-slice-aggregate-line-end
+slice-aggregate-line-end c = search needs
+
+line-end-requires : tie.Need-line-end-requires
+line-end-requires c κs = search needs
+
+array-share-prefix-text : tie.Need-array-share-prefix-text
+array-share-prefix-text c =
+    let answered = c .before .before .before .put-reading in
+    omega (arith, c .line-end .ensures, end-within (answered .last .1 .0), answered .ensures .size)
+
+slice-aggregate-write-answer : tie.Need-slice-aggregate-write-answer
+slice-aggregate-write-answer c =
+    let answered = after-put-reading c .put-reading in
+    let ended = c .before .line-end in
+    sym (length-take-le (ended .result) (answered .last .1 .0) (omega (arith, ended .ensures, end-within (answered .last .1 .0))))
 
 write-answer-requires : tie.Need-write-answer-requires
-write-answer-requires c κs =
-    let fits = answer-fits (c .before .read .result .outcome) (c .before .read .result .book) in
-    (omega (arith, c .reading-text .ensures .long, fits .0), omega (arith, c .reading-text .ensures .long, fits .1))
+write-answer-requires c κs = search needs
 
 returns-2 : tie.Need-returns-2
 returns-2 c = search needs
@@ -56,6 +80,11 @@ judge-spec =
     array-share-prefix-buf
     slice-aggregate-read
     read-requires
-    reading-text-requires
+    slice-aggregate-put-reading
+    put-reading-requires
+    slice-aggregate-line-end
+    line-end-requires
+    array-share-prefix-text
+    slice-aggregate-write-answer
     write-answer-requires
     returns-2)

@@ -41,18 +41,25 @@ returns-3 : tie.Need-returns-3
 unfolding requestIn contentsOf after
 returns-3 c = rw (sym (c .before .before .before .before .before .before .before .is-suitable .ensures) ∙ not-false _ (c .before .before .before .before .before .before .if1 .left), sym (c .before .before .before .before .before .is-request .ensures) ∙ not-false _ (c .before .before .before .before .if2 .left), ← c .before .before .before .request-of .ensures, sym (c .before .is-allowed .ensures) ∙ not-true _ (c .if3 .taken))
 
-is-adding-requires : tie.Need-is-adding-requires
-is-adding-requires c κs = search needs
-
-put-fact-requires : tie.Need-put-fact-requires
-put-fact-requires c κs = search needs
+carry-out-requires : tie.Need-carry-out-requires
+carry-out-requires c κs = search needs
 
 same-length-4 : tie.Need-same-length-4
 same-length-4 c = search needs
 
 returns-4 : tie.Need-returns-4
 unfolding requestIn contentsOf after
-returns-4 c = rw (sym (c .before .before .before .before .before .before .before .before .before .before .before .before .is-suitable .ensures) ∙ not-false _ (c .before .before .before .before .before .before .before .before .before .before .before .if1 .left), sym (c .before .before .before .before .before .before .before .before .before .before .is-request .ensures) ∙ not-false _ (c .before .before .before .before .before .before .before .before .before .if2 .left), ← c .before .before .before .before .before .before .before .before .request-of .ensures, sym (c .before .before .before .before .before .before .is-allowed .ensures) ∙ not-false _ (c .before .before .before .before .before .if3 .left), ← c .before .before .before .before .is-adding .ensures) (ap (reply Done) (c .before .before .put-fact .ensures))
+returns-4 c =
+    let carried = c .before .before in
+    let permitted = carried .before .before in
+    let formed = permitted .before .before .before .before in
+    let suited = formed .before .before in
+    rw (
+      sym (suited .before .is-suitable .ensures) ∙ not-false _ (suited .if1 .left),
+      sym (formed .before .is-request .ensures) ∙ not-false _ (formed .if2 .left),
+      ← permitted .before .before .before .request-of .ensures,
+      sym (permitted .before .is-allowed .ensures) ∙ not-false _ (permitted .if3 .left),
+    ) (ap (reply Done) (carried .carry-out .ensures))
 
 pub request-in-spec : {M : Type 1} → statement M
 request-in-spec =
@@ -68,7 +75,6 @@ request-in-spec =
     is-allowed-requires
     same-length-3
     returns-3
-    is-adding-requires
-    put-fact-requires
+    carry-out-requires
     same-length-4
     returns-4)

@@ -1,105 +1,68 @@
--- `plan::answer` is safe: each answer fits its text, and a plan's requests lie within the buffer. Assumes nothing.
+-- `plan::answer` meets its contract: the planner's promise on a buffer of 42,560 bytes, and the text of its answer. Assumes nothing.
+use mathlib.Core.Path.{_≡_, sym}
+use Prim.Native.Nat.{ℕ}
 use native.Mathlib.Omega.{arith}
-use Rattle.answers.proofs.AnswerLaws.{no-way-long, count-long, refused-long}
-use Rattle.planner.proofs.RoomLaws.{plan-room}
+use lib.ListN.{length, length-replicate}
+use lib.Seq.{length-take-le}
 use borrow.Author.Needs.{needs}
+use Rattle.planner.proofs.RoomLaws.{plan-room}
+use Rattle.answers.proofs.WrittenLaws.{end-within}
+use Rattle.plan.proofs.PrintedLaws.{printed-any}
 use Rattle.plan.proofs.answer.Statement.{statement}
 use Rattle.plan.proofs.answer.Tie as tie
 
--- From the count that is told to the planner's answer.
-abbrev planned : tie.After-known-told → tie.After-plan
-planned c = c .before .before .before .before .before
+-- The places that the answers name, each seen from a later one.
+abbrev entry : tie.After-plan2 → tie.Start
+entry c = c .before .before .before .before
+
+abbrev after-plan2 : tie.After-text → tie.After-plan2
+after-plan2 c = c .before .before .before .before .before
+
+slice-reshare-prefix-plan : tie.Need-slice-reshare-prefix-plan
+slice-reshare-prefix-plan c = search needs
+
+slice-aggregate-plan : tie.Need-slice-aggregate-plan
+slice-aggregate-plan c =
+    let start = c .before .before in
+    sym (length-take-le (start .args .n) (start .args .text .now) (start .pre .0))
+
+slice-aggregate-plan-2 : tie.Need-slice-aggregate-plan-2
+slice-aggregate-plan-2 c = search needs
 
 plan-requires : tie.Need-plan-requires
 plan-requires c κs = search needs
 
-enum-told : tie.Need-enum-told
-enum-told c = search needs
+slice-aggregate-put-answer : tie.Need-slice-aggregate-put-answer
+slice-aggregate-put-answer c = search needs
 
-no-way-text-requires : tie.Need-no-way-text-requires
-no-way-text-requires c κs = search needs
-
-write-text-requires : tie.Need-write-text-requires
-write-text-requires c κs = omega (arith, c .no-way-text .ensures .long, no-way-long)
-
-enum-known-answer : tie.Need-enum-known-answer
-enum-known-answer c = search needs
-
-count-text-requires : tie.Need-count-text-requires
-count-text-requires c κs = search needs
-
-write-text-requires-2 : tie.Need-write-text-requires-2
-write-text-requires-2 c κs = omega (arith, c .count-text .ensures .long, count-long (c .before .before .answer .given .0 .0))
-
-write-requests-requires : tie.Need-write-requests-requires
-write-requests-requires c κs =
-    let counted = c .before .before .before in
-    let answer = counted .before .answer .given in
-    plan-room (answer .0 .0) (answer .1) (planned counted .plan .ensures)
-
-enum-known-answer-2 : tie.Need-enum-known-answer-2
-enum-known-answer-2 c = search needs
-
-refusal-number-requires : tie.Need-refusal-number-requires
-refusal-number-requires c κs = search needs
-
-refusal-line-requires : tie.Need-refusal-line-requires
-refusal-line-requires c κs = search needs
+put-answer-requires : tie.Need-put-answer-requires
+put-answer-requires c κs =
+    let at-plan = c .before .before .before in
+    let start = entry at-plan in
+    let size : length (at-plan .plan2 .last .1 .0) ≡ 42560 = omega arith in
+    record {
+      first = omega (arith, start .pre .1);
+      requests = λ n e. let room = plan-room n e (at-plan .plan2 .ensures) in (room, omega (arith, start .pre .1, room, size));
+    }
 
 same-length : tie.Need-same-length
 same-length c = search needs
 
 returns : tie.Need-returns
-returns c = search needs
-
-refused-text-requires : tie.Need-refused-text-requires
-refused-text-requires c κs = search needs
-
-write-text-requires-3 : tie.Need-write-text-requires-3
-write-text-requires-3 c κs =
-    let told = c .before .before in
-    omega (arith, c .refused-text .ensures .long, refused-long (told .before .refusal-number .result) (told .refusal-line .result))
-
-same-length-2 : tie.Need-same-length-2
-same-length-2 c = search needs
-
-returns-2 : tie.Need-returns-2
-returns-2 c = search needs
-
-same-length-3 : tie.Need-same-length-3
-same-length-3 c = search needs
-
-returns-3 : tie.Need-returns-3
-returns-3 c = search needs
-
-same-length-4 : tie.Need-same-length-4
-same-length-4 c = search needs
-
-returns-4 : tie.Need-returns-4
-returns-4 c = search needs
+returns c =
+    let written = c .before .before .put-answer .ensures in
+    let planned = after-plan2 (c .before) .plan2 in
+    (end-within written, printed-any (planned .result) (length-replicate {A = ℕ} 42560 0) (planned .ensures) (written .upto))
 
 pub answer-spec : {M : Type 1} → statement M
 answer-spec =
     tie.close
     (tie.spec
+    slice-reshare-prefix-plan
+    slice-aggregate-plan
+    slice-aggregate-plan-2
     plan-requires
-    enum-told
-    no-way-text-requires
-    write-text-requires
-    enum-known-answer
-    count-text-requires
-    write-text-requires-2
-    write-requests-requires
-    enum-known-answer-2
-    refusal-number-requires
-    refusal-line-requires
+    slice-aggregate-put-answer
+    put-answer-requires
     same-length
-    returns
-    refused-text-requires
-    write-text-requires-3
-    same-length-2
-    returns-2
-    same-length-3
-    returns-3
-    same-length-4
-    returns-4)
+    returns)

@@ -1,13 +1,22 @@
--- `plan_books::plan` is safe: each answer fits its text, and a plan's requests lie within the buffer. Assumes nothing.
-use mathlib.Core.Path.{sym}
+-- `plan_books::plan` is safe: each answer fits its text, the text's first line ends within it, and a plan's requests lie within the buffer.
+-- Assumes nothing.
+use mathlib.Core.Path.{_≡_, sym}
 use Prim.Native.Nat.{_*_}
 use native.Mathlib.Omega.{arith}
+use lib.ListN.{length}
 use lib.Seq.{length-take-le}
-use Rattle.answers.proofs.AnswerLaws.{no-way-long, count-long, refused-long}
+use Rattle.lines.proofs.LineLaws.{end-within}
 use Rattle.planner.proofs.RoomLaws.{plan-room}
 use borrow.Author.Needs.{needs}
 use Rattle.plan_books.proofs.plan.Statement.{statement}
 use Rattle.plan_books.proofs.plan.Tie as tie
+
+-- The places that the answers name, each seen from a later one.
+abbrev after-plan : tie.After-known-told → tie.After-plan
+after-plan c = c .before .before .before .before .before .before .before .before .before .before .before .before
+
+abbrev after-put-answer : tie.After-text4 → tie.After-put-answer
+after-put-answer c = c .before .before .before .before
 
 open-read-requires : tie.Need-open-read-requires
 open-read-requires c κs = search needs
@@ -39,37 +48,58 @@ slice-aggregate-plan-2 c = search needs
 plan-requires : tie.Need-plan-requires
 plan-requires c κs = search needs
 
-enum-told : tie.Need-enum-told
-enum-told c = search needs
+slice-aggregate-put-answer : tie.Need-slice-aggregate-put-answer
+slice-aggregate-put-answer c = search needs
 
-no-way-text-requires : tie.Need-no-way-text-requires
-no-way-text-requires c κs = search needs
+slice-aggregate-put-answer-2 : tie.Need-slice-aggregate-put-answer-2
+slice-aggregate-put-answer-2 c = search needs
 
-write-front-requires : tie.Need-write-front-requires
-write-front-requires c κs = (omega (arith, c .no-way-text .ensures .long, no-way-long), omega (arith, c .no-way-text .ensures .long, no-way-long))
+put-answer-requires : tie.Need-put-answer-requires
+put-answer-requires c κs =
+    let planned = c .before .before .before .plan in
+    let size : length (planned .last .1 .0) ≡ 42560 = omega arith in
+    record {
+      first = omega arith;
+      requests = λ n e. let room = plan-room n e (planned .ensures) in (room, omega (arith, room, size));
+    }
+
+slice-aggregate-line-end : tie.Need-slice-aggregate-line-end
+slice-aggregate-line-end c = search needs
+
+line-end-requires : tie.Need-line-end-requires
+line-end-requires c κs = search needs
+
+array-share-prefix-text : tie.Need-array-share-prefix-text
+array-share-prefix-text c =
+    let answered = c .before .before .before .put-answer in
+    omega (arith, c .line-end .ensures, end-within (answered .last .1 .1 .0), answered .ensures .size)
 
 slice-aggregate-write-all : tie.Need-slice-aggregate-write-all
-slice-aggregate-write-all c = search needs
+slice-aggregate-write-all c =
+    let answered = after-put-answer c .put-answer in
+    let ended = c .before .line-end in
+    sym (length-take-le (ended .result) (answered .last .1 .1 .0)
+    (omega (arith, ended .ensures, end-within (answered .last .1 .1 .0))))
 
 write-all-requires : tie.Need-write-all-requires
 write-all-requires c κs = search needs
 
+enum-told : tie.Need-enum-told
+enum-told c = search needs
+
+slice-aggregate-write-all-2 : tie.Need-slice-aggregate-write-all-2
+slice-aggregate-write-all-2 c = search needs
+
+write-all-requires-2 : tie.Need-write-all-requires-2
+write-all-requires-2 c κs = search needs
+
 enum-known-answer : tie.Need-enum-known-answer
 enum-known-answer c = search needs
 
-count-text-requires : tie.Need-count-text-requires
-count-text-requires c κs = search needs
-
-write-front-requires-2 : tie.Need-write-front-requires-2
-write-front-requires-2 c κs =
-    let long = count-long (c .before .before .answer .given .0 .0) in
-    (omega (arith, c .count-text .ensures .long, long), omega (arith, c .count-text .ensures .long, long))
-
-mul-end : tie.Need-mul-end
-mul-end c =
-    let answer = c .before .before .before .answer .given in
-    let room = plan-room (answer .0 .0) (answer .1) (c .before .before .before .before .before .before .plan .ensures) in
-    omega (arith, room)
+mul-requests : tie.Need-mul-requests
+mul-requests c =
+    let answer = c .before .answer .given in
+    omega (arith, plan-room (answer .0 .0) (answer .1) (after-plan c .plan .ensures))
 
 array-share-prefix-buf-2 : tie.Need-array-share-prefix-buf-2
 array-share-prefix-buf-2 c = search needs
@@ -79,15 +109,14 @@ slice-aggregate-replay c = search needs
 
 array-share-prefix-out : tie.Need-array-share-prefix-out
 array-share-prefix-out c =
-    let answer = c .before .before .before .before .answer .given in
-    let room = plan-room (answer .0 .0) (answer .1) (c .before .before .before .before .before .before .before .plan .ensures) in
-    omega (arith, room)
+    let answer = c .before .before .answer .given in
+    omega (arith, plan-room (answer .0 .0) (answer .1) (after-plan (c .before) .plan .ensures))
 
 slice-aggregate-replay-2 : tie.Need-slice-aggregate-replay-2
 slice-aggregate-replay-2 c =
-    let answer = c .before .before .before .before .before .answer .given in
-    let room = plan-room (answer .0 .0) (answer .1) (c .before .before .before .before .before .before .before .before .plan .ensures) in
-    sym (length-take-le (5 * answer .0 .0) _ room)
+    let answer = c .before .before .before .answer .given in
+    sym (length-take-le (5 * answer .0 .0) _
+    (plan-room (answer .0 .0) (answer .1) (after-plan (c .before .before) .plan .ensures)))
 
 replay-requires : tie.Need-replay-requires
 replay-requires c κs = search needs
@@ -98,34 +127,20 @@ write-replayed-requires c κs = search needs
 enum-known-answer-2 : tie.Need-enum-known-answer-2
 enum-known-answer-2 c = search needs
 
-refusal-number-requires : tie.Need-refusal-number-requires
-refusal-number-requires c κs = search needs
-
-refusal-line-requires : tie.Need-refusal-line-requires
-refusal-line-requires c κs = search needs
-
-refused-text-requires : tie.Need-refused-text-requires
-refused-text-requires c κs = search needs
-
-write-front-requires-3 : tie.Need-write-front-requires-3
-write-front-requires-3 c κs =
-    let long = refused-long (c .before .before .refusal-number .result) (c .before .refusal-line .result) in
-    (omega (arith, c .refused-text .ensures .long, long), omega (arith, c .refused-text .ensures .long, long))
-
-slice-aggregate-write-all-2 : tie.Need-slice-aggregate-write-all-2
-slice-aggregate-write-all-2 c = search needs
-
-write-all-requires-2 : tie.Need-write-all-requires-2
-write-all-requires-2 c κs = search needs
+slice-aggregate-write-all-3 : tie.Need-slice-aggregate-write-all-3
+slice-aggregate-write-all-3 c = search needs
 
 write-all-requires-3 : tie.Need-write-all-requires-3
 write-all-requires-3 c κs = search needs
 
-slice-aggregate-write-all-3 : tie.Need-slice-aggregate-write-all-3
-slice-aggregate-write-all-3 c = search needs
-
 write-all-requires-4 : tie.Need-write-all-requires-4
 write-all-requires-4 c κs = search needs
+
+slice-aggregate-write-all-4 : tie.Need-slice-aggregate-write-all-4
+slice-aggregate-write-all-4 c = search needs
+
+write-all-requires-5 : tie.Need-write-all-requires-5
+write-all-requires-5 c κs = search needs
 
 returns-2 : tie.Need-returns-2
 returns-2 c = search needs
@@ -144,15 +159,19 @@ plan-spec =
     slice-aggregate-plan
     slice-aggregate-plan-2
     plan-requires
-    enum-told
-    no-way-text-requires
-    write-front-requires
+    slice-aggregate-put-answer
+    slice-aggregate-put-answer-2
+    put-answer-requires
+    slice-aggregate-line-end
+    line-end-requires
+    array-share-prefix-text
     slice-aggregate-write-all
     write-all-requires
+    enum-told
+    slice-aggregate-write-all-2
+    write-all-requires-2
     enum-known-answer
-    count-text-requires
-    write-front-requires-2
-    mul-end
+    mul-requests
     array-share-prefix-buf-2
     slice-aggregate-replay
     array-share-prefix-out
@@ -160,13 +179,9 @@ plan-spec =
     replay-requires
     write-replayed-requires
     enum-known-answer-2
-    refusal-number-requires
-    refusal-line-requires
-    refused-text-requires
-    write-front-requires-3
-    slice-aggregate-write-all-2
-    write-all-requires-2
-    write-all-requires-3
     slice-aggregate-write-all-3
+    write-all-requires-3
     write-all-requires-4
+    slice-aggregate-write-all-4
+    write-all-requires-5
     returns-2)

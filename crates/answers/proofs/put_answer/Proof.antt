@@ -1,0 +1,152 @@
+-- `answers::put_answer` meets its contract: one case for each answer. Assumes nothing.
+use mathlib.Core.Path.{refl, sym}
+use Prim.Native.Nat.{_*_}
+use native.Mathlib.Omega.{arith}
+use lib.Seq.{length-take-le}
+use lib.ListN.{length-take}
+use Rattle.answers.specs.Answers.{hex, hexLine}
+use Rattle.answers.proofs.WrittenLaws.{room-behind, no-way-written, plan-written, refused-written}
+use borrow.Author.Needs.{needs}
+use Rattle.answers.proofs.put_answer.Statement.{statement}
+use Rattle.answers.proofs.put_answer.Tie as tie
+
+-- The places that the answers name, each seen from a later one.
+abbrev entry : tie.After-slice-known → tie.Start
+entry c = c .before .before
+
+abbrev after-answer2 : tie.After-refusal-number → tie.After-answer2
+after-answer2 c = c .before .before
+
+abbrev after-enum-told : tie.After-text → tie.After-enum-told
+after-enum-told c = c .before .before .before .before
+
+abbrev after-answer : tie.After-slice-known3 → tie.After-answer
+after-answer c = c .before .before .before .before .before .before .before .before
+
+abbrev after-refusal-line : tie.After-text4 → tie.After-refusal-line
+after-refusal-line c = c .before .before .before
+
+abbrev after-put-line2 : tie.After-put-requests-arg2 → tie.After-put-line2
+after-put-line2 c = c .before .before .before .before
+
+enum-told : tie.Need-enum-told
+enum-told c = search needs
+
+slice-aggregate-put-line : tie.Need-slice-aggregate-put-line
+slice-aggregate-put-line c = search needs
+
+put-line-requires : tie.Need-put-line-requires
+put-line-requires c κs = search needs
+
+enum-known-answer : tie.Need-enum-known-answer
+enum-known-answer c = search needs
+
+high-byte-requires : tie.Need-high-byte-requires
+high-byte-requires c κs = search needs
+
+low-byte-requires : tie.Need-low-byte-requires
+low-byte-requires c κs = search needs
+
+slice-aggregate-put-line-2 : tie.Need-slice-aggregate-put-line-2
+slice-aggregate-put-line-2 c = search needs
+
+put-line-requires-2 : tie.Need-put-line-requires-2
+put-line-requires-2 c κs = search needs
+
+mul-end : tie.Need-mul-end
+mul-end c =
+    let at-answer = after-answer c in
+    let answer = at-answer .answer .given in
+    omega (arith, entry (at-answer .before .before) .pre .requests (answer .0 .0) (answer .1) .0)
+
+slice-aggregate-put-requests : tie.Need-slice-aggregate-put-requests
+slice-aggregate-put-requests c =
+    let at-answer = after-answer (c .before) in
+    let start = entry (at-answer .before .before) in
+    let answer = at-answer .answer .given in
+    sym (length-take-le (5 * answer .0 .0) (start .args .plan .now) (start .pre .requests (answer .0 .0) (answer .1) .0))
+
+put-requests-requires : tie.Need-put-requests-requires
+unfolding hexLine hex
+put-requests-requires c κs =
+    let at-answer = after-answer (c .before .before) in
+    let start = entry (at-answer .before .before) in
+    let answer = at-answer .answer .given in
+    let room = start .pre .requests (answer .0 .0) (answer .1) in
+    let below = room-behind 7 (11 * answer .0 .0) (after-put-line2 c .put-line2 .ensures) refl (room .1) in
+    omega (arith, below, room .0, length-take (5 * answer .0 .0) (start .args .plan .now))
+
+enum-known-answer-2 : tie.Need-enum-known-answer-2
+enum-known-answer-2 c = search needs
+
+refusal-number-requires : tie.Need-refusal-number-requires
+refusal-number-requires c κs = search needs
+
+refusal-line-requires : tie.Need-refusal-line-requires
+refusal-line-requires c κs = search needs
+
+put-refused-requires : tie.Need-put-refused-requires
+put-refused-requires c κs = search needs
+
+same-length : tie.Need-same-length
+same-length c = search needs
+
+returns : tie.Need-returns
+returns c =
+    let at-told = after-enum-told (c .before) in
+    no-way-written (entry (at-told .before .before) .args .plan .now) (at-told .enum-told .given .1)
+    (c .before .before .put-line .ensures)
+
+same-length-2 : tie.Need-same-length-2
+same-length-2 c = search needs
+
+returns-2 : tie.Need-returns-2
+returns-2 c =
+    let at-requests = c .before .before in
+    let at-line = after-put-line2 (at-requests .before) in
+    let at-low = at-line .before .before .before in
+    let at-high = at-low .before in
+    let at-answer = at-high .before .before in
+    let plan = entry (at-answer .before .before) .args .plan .now in
+    let answer = at-answer .answer .given in
+    plan-written plan (answer .0 .0) (answer .1) (at-high .high-byte .ensures) (at-low .low-byte .ensures)
+    (at-line .put-line2 .ensures)
+    (at-requests .put-requests .ensures)
+
+same-length-3 : tie.Need-same-length-3
+same-length-3 c = search needs
+
+returns-3 : tie.Need-returns-3
+returns-3 c =
+    let at-refusal-line = after-refusal-line (c .before) in
+    let at-answer2 = after-answer2 (at-refusal-line .before) in
+    let answer = at-answer2 .answer2 .given in
+    refused-written (entry (at-answer2 .before .before) .args .plan .now) (answer .0 .0) (answer .1)
+    (at-refusal-line .before .refusal-number .ensures) (at-refusal-line .refusal-line .ensures)
+    (c .before .before .put-refused .ensures)
+
+pub put-answer-spec : {M : Type 1} → statement M
+put-answer-spec =
+    tie.close
+    (tie.spec
+    enum-told
+    slice-aggregate-put-line
+    put-line-requires
+    enum-known-answer
+    high-byte-requires
+    low-byte-requires
+    slice-aggregate-put-line-2
+    put-line-requires-2
+    mul-end
+    slice-aggregate-put-requests
+    put-requests-requires
+    enum-known-answer-2
+    refusal-number-requires
+    refusal-line-requires
+    put-refused-requires
+    same-length
+    returns
+    same-length-2
+    returns-2
+    same-length-3
+    returns-3)

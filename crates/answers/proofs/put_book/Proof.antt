@@ -1,0 +1,137 @@
+-- `answers::put_book` meets its contract: the parts of the line, one behind the other. Assumes nothing.
+use mathlib.Core.Path.{refl, _∙_}
+use native.Mathlib.Omega.{arith}
+use Prim.Native.Nat.{_+_, _≤_}
+use lib.ListN.{length, length-set}
+use Rattle.frames.specs.Book.{contentsOf}
+use Rattle.answers.specs.Answers.{hex, count}
+use Rattle.answers.proofs.WrittenLaws.{written-more, room-behind}
+use Rattle.answers.proofs.ReadingLaws.{book-written}
+use borrow.Author.Needs.{needs}
+use Rattle.answers.proofs.put_book.Statement.{statement}
+use Rattle.answers.proofs.put_book.Tie as tie
+
+-- The places that the answers name, each seen from a later one.
+abbrev start : tie.After-put-bytes → tie.Start
+start c = c .before .before .before .before .before .before .before .before .before
+
+abbrev after-fact-count : tie.After-put-bytes → tie.After-fact-count
+after-fact-count c = c .before .before .before .before
+
+abbrev after-put-bytes : tie.After-put-count → tie.After-put-bytes
+after-put-bytes c = c .before .before .before .before
+
+abbrev after-put-count : tie.After-put-count2 → tie.After-put-count
+after-put-count c = c .before .before .before .before
+
+abbrev after-put-count2 : tie.After-put-count3 → tie.After-put-count2
+after-put-count2 c = c .before .before .before .before
+
+abbrev after-put-count3 : tie.After-put-line-arg2 → tie.After-put-count3
+after-put-count3 c = c .before .before .before .before
+
+-- The sizes and the counts are 25 characters: there is room for the four behind them.
+counted-room : (c : tie.After-put-count3) → c .put-count3 .result + 4 ≤ length (c .put-count3 .last .1 .0)
+unfolding hex count
+counted-room c =
+    let at-put-count2 = after-put-count2 c in
+    let at-put-count = after-put-count at-put-count2 in
+    let at-put-bytes = after-put-bytes at-put-count in
+    let edged = written-more (at-put-bytes .put-bytes .ensures) (at-put-count .put-count .ensures) in
+    let counted = written-more (written-more edged (at-put-count2 .put-count2 .ensures)) (c .put-count3 .ensures) in
+    room-behind 25 4 counted refl (omega (arith, start at-put-bytes .pre))
+
+edge-count-requires : tie.Need-edge-count-requires
+edge-count-requires c κs = search needs
+
+fact-count-requires : tie.Need-fact-count-requires
+fact-count-requires c κs = search needs
+
+slice-aggregate-put-bytes : tie.Need-slice-aggregate-put-bytes
+slice-aggregate-put-bytes c = search needs
+
+put-bytes-requires : tie.Need-put-bytes-requires
+put-bytes-requires c κs = search needs
+
+put-count-requires : tie.Need-put-count-requires
+unfolding hex
+put-count-requires c κs =
+    let sized = c .before .before .before .put-bytes .ensures in
+    room-behind 10 5 sized refl (omega (arith, start (c .before .before .before) .pre))
+
+put-count-requires-2 : tie.Need-put-count-requires-2
+unfolding hex count
+put-count-requires-2 c κs =
+    let at-put-bytes = after-put-bytes (c .before .before .before) in
+    let sized = at-put-bytes .put-bytes .ensures in
+    let edged = written-more sized (c .before .before .before .put-count .ensures) in
+    room-behind 15 5 edged refl (omega (arith, start at-put-bytes .pre))
+
+put-count-requires-3 : tie.Need-put-count-requires-3
+unfolding hex count
+put-count-requires-3 c κs =
+    let at-put-count = after-put-count (c .before .before .before) in
+    let at-put-bytes = after-put-bytes at-put-count in
+    let sized = at-put-bytes .put-bytes .ensures in
+    let edged = written-more sized (at-put-count .put-count .ensures) in
+    let ruled = written-more edged (c .before .before .before .put-count2 .ensures) in
+    room-behind 20 5 ruled refl (omega (arith, start at-put-bytes .pre))
+
+slice-write-text : tie.Need-slice-write-text
+slice-write-text c = omega (arith, counted-room (c .before .before))
+
+add-digits : tie.Need-add-digits
+add-digits c = omega (arith, counted-room (c .before .before))
+
+slice-aggregate-put-line : tie.Need-slice-aggregate-put-line
+slice-aggregate-put-line c = search needs
+
+put-line-requires : tie.Need-put-line-requires
+put-line-requires c κs = simp length-set (omega (arith, counted-room (after-put-count3 c)))
+
+same-length : tie.Need-same-length
+same-length c =
+    let at-put-count3 = after-put-count3 (c .before .before .before) in
+    let at-put-count2 = after-put-count2 at-put-count3 in
+    let at-put-count = after-put-count at-put-count2 in
+    let sized = after-put-bytes at-put-count .put-bytes .ensures in
+    let edged = at-put-count .put-count .ensures in
+    let ruled = at-put-count2 .put-count2 .ensures in
+    let counted = at-put-count3 .put-count3 .ensures in
+    let whole = written-more (written-more (written-more sized edged) ruled) counted in
+    c .before .before .put-line .ensures .size ∙ length-set (at-put-count3 .put-count3 .last .1 .0) _ 32 ∙ whole .size
+
+returns : tie.Need-returns
+unfolding contentsOf
+returns c =
+    let at-put-count3 = after-put-count3 (c .before .before .before) in
+    let at-put-count2 = after-put-count2 at-put-count3 in
+    let at-put-count = after-put-count at-put-count2 in
+    let at-put-bytes = after-put-bytes at-put-count in
+    let at-start = start at-put-bytes in
+    let at-fact-count = after-fact-count at-put-bytes in
+    let sized = at-put-bytes .put-bytes .ensures in
+    let edged = at-put-count .put-count .ensures in
+    let ruled = at-put-count2 .put-count2 .ensures in
+    let counted = at-put-count3 .put-count3 .ensures in
+    book-written (contentsOf (at-start .args .b)) sized (at-fact-count .before .before .edge-count .ensures) edged ruled
+    (at-fact-count .fact-count .ensures) counted (omega (arith, counted-room at-put-count3))
+    (c .before .before .put-line .ensures)
+
+pub put-book-spec : {M : Type 1} → statement M
+put-book-spec =
+    tie.close
+    (tie.spec
+    edge-count-requires
+    fact-count-requires
+    slice-aggregate-put-bytes
+    put-bytes-requires
+    put-count-requires
+    put-count-requires-2
+    put-count-requires-3
+    slice-write-text
+    add-digits
+    slice-aggregate-put-line
+    put-line-requires
+    same-length
+    returns)
