@@ -1,10 +1,8 @@
 -- D1 to D12 hold, each as its row of the table claims: one computation over the whole table, and one law. Assumes nothing.
 use mathlib.Core.Path.{_≡_, refl}
-use mathlib.Core.Bool.{Bool, true}
-use mathlib.Core.List.{List, [], _∷_}
+use mathlib.Core.Bool.{true}
 use Rattle.lines.specs.Digits as digits
 use Rattle.frames.specs.Fits.{Each}
-use Rattle.inherit.proofs.InheritanceLaws.{and-both}
 use Rattle.cases.specs.Claims.{Meant}
 use Rattle.cases.specs.Table.{d1, d2, d3, d4, d5, d6, d7, d8, d9, d10-senior, d10-junior, d11, d12, table}
 use Rattle.sets.specs.Sets.{bit, member, put, within, subset, memberAt, putAt, numberAt}
@@ -24,13 +22,7 @@ use Rattle.replay.specs.Met.{wants, directCrews, metAtLeast, metExactly, met}
 use Rattle.replay.specs.Replay.{judge, replayIn}
 use Rattle.cases.specs.Text.{codes, written, five, fivesOf}
 use Rattle.cases.proofs.Search.{sameBytes, among, named, namedBelow, allNamed, candidates, join, stepped, spread, reached, stays, closed, unmet, shut}
-use Rattle.cases.proofs.Tests.{isReaches, showsIn, doneIn, passes, passesOn, test, sound}
-
--- What the test of each element tells, holds of each.
-each : {A : Type 0} {P : A → Type 0} (t : A → Bool) → ((x : A) → t x ≡ true → P x) → (xs : List A) → all t xs ≡ true → Each P xs
-unfolding all Each
-each t h [] e = tt
-each t h (x ∷ xs) e = let both = and-both (t x) (all t xs) e in (h x (both .0), each t h xs (both .1))
+use Rattle.cases.proofs.Tests.{isReaches, showsIn, doneIn, passes, passesOn, test, sound, each}
 
 -- Every row passes: computed.
 computed : all test table ≡ true

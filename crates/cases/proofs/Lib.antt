@@ -1,3 +1,5 @@
 pub mod Search
 pub mod Tests
 pub mod Cases
+pub mod RefusalTests
+pub mod Refusals

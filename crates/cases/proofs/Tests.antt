@@ -2,7 +2,7 @@
 -- not computed: it is a law of every accepted book. Assumes nothing.
 use mathlib.Core.Path.{_≡_, refl, ap, sym, _∙_}
 use mathlib.Core.Bool.{Bool, true, false, not, _&&_, true≢false}
-use mathlib.Core.List.{List}
+use mathlib.Core.List.{List, [], _∷_}
 use Prim.Native.Nat.{ℕ}
 use native.Mathlib.Omega.{arith}
 use lib.Dec.{eqb}
@@ -12,11 +12,12 @@ use Rattle.facts.proofs.FactLaws.{none-length}
 use Rattle.inherit.proofs.InheritanceLaws.{and-both}
 use Rattle.gate.specs.Gate.{isPerson}
 use Rattle.frames.specs.Book.{Contents, Answer, refused, accepted, bookOf}
-use Rattle.frames.specs.Fits.{Admitted}
+use Rattle.frames.specs.Fits.{Admitted, Each}
 use Rattle.frames.proofs.BookLaws.{book-accepted}
 use Rattle.requests.specs.Requests.{requestOf, wellFormed}
 use Rattle.requests.specs.Suitable.{suitable}
 use Rattle.requests.proofs.RequestLaws.{suitable-from, well-formed-fact}
+use Rattle.rules.specs.Search.{all}
 use Rattle.ledger.specs.declared.Outcome.the-variants.{Done}
 use Rattle.ledger.specs.Ledger.{reply, after, allowed, requestIn, requestReply}
 use Rattle.ledger.specs.Show.{valueSets, crewSet, showIn, showView}
@@ -82,10 +83,10 @@ module _ (chars : List ℕ) (b : Contents) (read : bookOf chars ≡ accepted b) 
   admitted : Admitted b
   admitted = book-accepted chars b read
 
-  opened-facts : Opened chars (b .facts)
+  pub opened-facts : Opened chars (b .facts)
   opened-facts = record { opens = open-starts chars noFacts b read none-length }
 
-  facts-suitable : suitable (b .sizes) (b .facts) ≡ true
+  pub facts-suitable : suitable (b .sizes) (b .facts) ≡ true
   facts-suitable = suitable-from (b .sizes) (b .facts) (admitted .facts-room) (admitted .facts-bytes) (admitted .facts-in)
 
   shows-viewed : (l : List ℕ) (values crews : ℕ) → suitable (b .sizes) l ≡ true → showsIn b l values crews ≡ true → Viewed chars l values crews
@@ -145,3 +146,9 @@ sound r e = by-answer (bookOf (written (r .book))) refl e
     by-answer : (t : Answer) → bookOf (written (r .book)) ≡ t → passesOn t (r .claim) ≡ true → Meant r
     by-answer (refused x) i f = absurd (true≢false (sym f))
     by-answer (accepted b) i f = accepted-means (written (r .book)) b i (r .claim) f
+
+-- What the test of each element tells, holds of each.
+pub each : {A : Type 0} {P : A → Type 0} (t : A → Bool) → ((x : A) → t x ≡ true → P x) → (xs : List A) → all t xs ≡ true → Each P xs
+unfolding all Each
+each t h [] e = tt
+each t h (x ∷ xs) e = let both = and-both (t x) (all t xs) e in (h x (both .0), each t h xs (both .1))

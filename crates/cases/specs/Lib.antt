@@ -1,3 +1,4 @@
 pub mod Text
 pub mod Claims
 pub mod Table
+pub mod Refusals

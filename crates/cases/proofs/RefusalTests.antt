@@ -1,0 +1,151 @@
+-- The test of a row of the table of refusals, which the prover computes, and the law that a row that passes is as it claims. Of the
+-- product the test computes the reading of the book, the numbers of refusals 1-9, and what makes 10 to 14 fall. Assumes nothing.
+use mathlib.Core.Path.{_≡_, refl, sym, subst, subst₂, _∙_}
+use mathlib.Core.Bool.{Bool, true, false, not, cond, _&&_, true≢false}
+use mathlib.Core.List.{List}
+use Prim.Native.Nat.{ℕ, _*_, _%_, _<_}
+use native.Mathlib.Omega.{arith}
+use lib.Dec.{eqb, ltb}
+use lib.ListN.{length}
+use borrow.Author.Tests.{eqb-true, eqb-false, ltb-true, ne-eqb, not-true}
+use Rattle.facts.specs.Facts.{ledgerSize}
+use Rattle.inherit.proofs.InheritanceLaws.{and-both}
+use Rattle.gate.specs.Gate.{isPerson}
+use Rattle.frames.specs.declared.Refusal.{Refusal}
+use Rattle.frames.specs.Book.{Contents, Answer, refused, accepted, bookOf, refusalNumber, refusalLine}
+use Rattle.requests.specs.Requests.{requestOf, wellFormed}
+use Rattle.requests.specs.Suitable.{suitable}
+use Rattle.requests.proofs.RequestLaws.{suitable-length}
+use Rattle.ledger.specs.Ledger.{allowed, openIn, openReply, requestIn, requestReply}
+use Rattle.ledger.specs.Show.{showIn, showView}
+use Rattle.replay.specs.Replay as replay
+use Rattle.replay.specs.Replay.{replayIn, replayed}
+use Rattle.planner.specs.Count.{factCount}
+use Rattle.planner.specs.Answer.{said, AnsweredFor}
+use Rattle.cases.specs.Text.{five}
+use Rattle.cases.specs.Refusals.{Trial, on-book, buffer-of, ledger-of, asked, shown-to, list-of, RefusalRow, Refuses, Turned}
+use Rattle.cases.specs.Refusals.{refusing, PlanRefuses, BookRefused, LedgerRefused, RequestRefused, ShowRefused}
+use Rattle.cases.proofs.Tests.{opened-facts, facts-suitable}
+
+-- ---------------------------------------------------------------- the test
+
+-- Refusal 12, else 13, of a request in the starting facts.
+unfoldable pub fallsOn : Contents → List ℕ → ℕ → Bool
+fallsOn b q n = cond (wellFormed (b .sizes) q) (not (allowed b (b .facts) (requestOf q)) && eqb n 13) (eqb n 12)
+
+-- Refusal n falls on the trial under an accepted book.
+unfoldable pub falls : Contents → ℕ → Trial → Bool
+falls b n on-book = false
+falls b n (buffer-of size) = ltb size (10 * factCount (b .sizes)) && eqb n 10
+falls b n (ledger-of size) = not (eqb size ledgerSize) && eqb n 11
+falls b n (asked q) = fallsOn b (five q) n
+falls b n (shown-to p) = not (isPerson (b .sizes) p) && eqb n 12
+falls b n (list-of size) = not (eqb (size % 5) 0) && eqb n 14
+
+unfoldable pub isTurned : Answer → ℕ → ℕ → Trial → Bool
+isTurned (refused r) n k on-book = eqb (refusalNumber r) n && eqb (refusalLine r) k
+isTurned (refused r) n k (buffer-of size) = false
+isTurned (refused r) n k (ledger-of size) = false
+isTurned (refused r) n k (asked q) = false
+isTurned (refused r) n k (shown-to p) = false
+isTurned (refused r) n k (list-of size) = false
+isTurned (accepted b) n k t = falls b n t && eqb k 0
+
+unfoldable pub turned : RefusalRow → Bool
+turned r = isTurned (bookOf (r .book)) (r .number) (r .line) (r .trial)
+
+-- ---------------------------------------------------------------- what it tells
+
+-- A refused book is refused by every operation.
+book-refused : (chars : List ℕ) (r : Refusal) → bookOf chars ≡ refused r → BookRefused chars (refusalNumber r) (refusalLine r)
+unfolding openReply requestReply showView replayed
+book-refused chars r read =
+    record {
+      opens = λ l. rw read refl;
+      requests = λ l q. rw read refl;
+      shows = λ l p. rw read refl;
+      replays = λ bytes. rw read refl;
+      plans = λ before answer out promise. subst (λ (a : Answer). AnsweredFor a before (said answer) out) read (promise .kept);
+    }
+
+module _ (chars : List ℕ) (b : Contents) (read : bookOf chars ≡ accepted b) where
+  buffer-refused : (size : ℕ) → size < 10 * factCount (b .sizes) → (before : List ℕ) → length before ≡ size → PlanRefuses chars 10 0 before
+  buffer-refused size short before is answer out promise =
+      subst (λ (a : Answer). AnsweredFor a before (said answer) out) read (promise .kept) .short (omega arith)
+
+  -- A ledger of another size does not suit.
+  unsuitable : (l : List ℕ) → (length l ≡ ledgerSize → ⊥) → suitable (b .sizes) l ≡ false
+  unsuitable l other = by-test (suitable (b .sizes) l) refl
+    where
+      by-test : (t : Bool) → suitable (b .sizes) l ≡ t → suitable (b .sizes) l ≡ false
+      by-test true i = absurd (other (suitable-length (b .sizes) l i))
+      by-test false i = i
+
+  ledger-refused : (size : ℕ) → (size ≡ ledgerSize → ⊥) → LedgerRefused chars size 11 0
+  unfolding openReply openIn requestReply requestIn showView showIn
+  ledger-refused size other =
+      record {
+        opens = λ l is. rw (read, ne-eqb (length l) ledgerSize (λ e. other (sym is ∙ e))) refl;
+        requests = λ l q is. rw (read, unsuitable l (λ e. other (sym is ∙ e))) refl;
+        shows = λ l p is. rw (read, unsuitable l (λ e. other (sym is ∙ e))) refl;
+      }
+
+  -- 12, or else 13, falls on a request in the starting facts.
+  request-refused : (q : List ℕ) (n : ℕ) → fallsOn b q n ≡ true → RequestRefused chars q n 0
+  unfolding fallsOn requestReply requestIn
+  request-refused q n e = record { ledger = b .facts; opened = opened-facts chars b read; refuses = by-form (wellFormed (b .sizes) q) refl e }
+    where
+      permits : Bool
+      permits = allowed b (b .facts) (requestOf q)
+
+      by-form : (t : Bool) → wellFormed (b .sizes) q ≡ t → cond t (not permits && eqb n 13) (eqb n 12) ≡ true
+          → requestReply chars (b .facts) q ≡ refusing n 0 (b .facts)
+      by-form true i f =
+          let both = and-both (not permits) (eqb n 13) f in
+          rw (read, facts-suitable chars b read, i, not-true permits (both .0), eqb-true n 13 (both .1)) refl
+      by-form false i f = rw (read, facts-suitable chars b read, i, eqb-true n 12 f) refl
+
+  show-refused : (p : ℕ) → isPerson (b .sizes) p ≡ false → ShowRefused chars (record { 0 = p }) 12 0
+  unfolding showView showIn
+  show-refused p none =
+      record { ledger = b .facts; opened = opened-facts chars b read; refuses = rw (read, facts-suitable chars b read, none) refl }
+
+  list-refused : (size : ℕ) → eqb (size % 5) 0 ≡ false → (bytes : List ℕ) → length bytes ≡ size → replayed chars bytes ≡ replay.refusal 14 0
+  unfolding replayed replayIn
+  list-refused size e bytes is = rw (read, is, e) refl
+
+  falls-refuses : (n : ℕ) (t : Trial) → falls b n t ≡ true → Refuses chars n 0 t
+  unfolding falls Refuses
+  falls-refuses n on-book e = absurd (true≢false (sym e))
+  falls-refuses n (buffer-of size) e =
+      let both = and-both (ltb size (10 * factCount (b .sizes))) (eqb n 10) e in
+      rw (eqb-true n 10 (both .1)) (buffer-refused size (ltb-true size (10 * factCount (b .sizes)) (both .0)))
+  falls-refuses n (ledger-of size) e =
+      let both = and-both (not (eqb size ledgerSize)) (eqb n 11) e in
+      rw (eqb-true n 11 (both .1)) (ledger-refused size (eqb-false size ledgerSize (not-true _ (both .0))))
+  falls-refuses n (asked q) e = request-refused (five q) n e
+  falls-refuses n (shown-to p) e =
+      let both = and-both (not (isPerson (b .sizes) p)) (eqb n 12) e in
+      rw (eqb-true n 12 (both .1)) (show-refused p (not-true _ (both .0)))
+  falls-refuses n (list-of size) e =
+      let both = and-both (not (eqb (size % 5) 0)) (eqb n 14) e in
+      rw (eqb-true n 14 (both .1)) (list-refused size (not-true _ (both .0)))
+
+-- A row that passes the test is as it claims.
+pub turned-back : (r : RefusalRow) → turned r ≡ true → Turned r
+unfolding turned isTurned Refuses
+turned-back r e = by-answer (bookOf (r .book)) refl (r .trial) e
+  where
+    by-answer : (a : Answer) → bookOf (r .book) ≡ a → (t : Trial) → isTurned a (r .number) (r .line) t ≡ true
+        → Refuses (r .book) (r .number) (r .line) t
+    by-answer (refused x) i on-book f =
+        let both = and-both (eqb (refusalNumber x) (r .number)) (eqb (refusalLine x) (r .line)) f in
+        subst₂ (BookRefused (r .book)) (eqb-true _ _ (both .0)) (eqb-true _ _ (both .1)) (book-refused (r .book) x i)
+    by-answer (refused x) i (buffer-of size) f = absurd (true≢false (sym f))
+    by-answer (refused x) i (ledger-of size) f = absurd (true≢false (sym f))
+    by-answer (refused x) i (asked q) f = absurd (true≢false (sym f))
+    by-answer (refused x) i (shown-to p) f = absurd (true≢false (sym f))
+    by-answer (refused x) i (list-of size) f = absurd (true≢false (sym f))
+    by-answer (accepted b) i t f =
+        let both = and-both (falls b (r .number) t) (eqb (r .line) 0) f in
+        rw (eqb-true (r .line) 0 (both .1)) (falls-refuses (r .book) b i (r .number) t (both .0))

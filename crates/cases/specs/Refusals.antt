@@ -1,0 +1,146 @@
+-- The table of refusals, with the paper's number, line and example of each. Paper 01, "Turned back at the gate". What a row means is
+-- said by the product's own definitions on the book's characters; no number is taken from them.
+use mathlib.Core.Path.{_≡_}
+use mathlib.Core.List.{List, [], _∷_, _++_}
+use Prim.Native.Nat.{ℕ}
+use Prim.Native.String.{String}
+use lib.ListN.{length, replicate}
+use Rattle.facts.specs.declared.Person.{Person}
+use Rattle.ledger.specs.Ledger.{Reply, refusal, openReply, requestReply}
+use Rattle.ledger.specs.Show.{hidden, showView}
+use Rattle.replay.specs.Replay as replay
+use Rattle.replay.specs.Replay.{replayed}
+use Rattle.planner.specs.declared.Planned.{Planned}
+use Rattle.planner.specs.Answer.{said, said8F, PlanPromise}
+use Rattle.cases.specs.Text.{written, five}
+use Rattle.cases.specs.Claims.{Opened}
+
+-- ---------------------------------------------------------------- what a row means
+
+-- How the example of a row is tried.
+pub data Trial : Type 0 where
+  -- 1-9: the book itself. Every operation refuses it.
+  on-book : Trial
+  -- 10: plan with a buffer of so many bytes.
+  buffer-of : ℕ → Trial
+  -- 11: open, request and show on a ledger of so many bytes.
+  ledger-of : ℕ → Trial
+  -- 12 and 13: this request on the ledger of starting facts.
+  asked : String → Trial
+  -- 12: show of this person on the ledger of starting facts.
+  shown-to : ℕ → Trial
+  -- 14: replay of a list of so many bytes.
+  list-of : ℕ → Trial
+
+-- A row: the refusal's number and line (0 for those without), the book's characters, and how they are tried.
+pub record RefusalRow : Type 0 where
+  pub number : ℕ
+  pub line : ℕ
+  pub book : List ℕ
+  pub trial : Trial
+
+abbrev pub row : ℕ → ℕ → List ℕ → Trial → RefusalRow
+row n k chars t = record { number = n; line = k; book = chars; trial = t }
+
+-- Refusal n with line k of an operation on a lent ledger: "every lent buffer keeps its bytes".
+abbrev pub refusing : ℕ → ℕ → List ℕ → Reply
+refusing n k l = record { answer = refusal n k; ledger = l }
+
+-- The same of plan and its buffer: what its promise says of every answer.
+abbrev pub PlanRefuses : List ℕ → ℕ → ℕ → List ℕ → Type 0
+PlanRefuses chars n k before = (answer : Planned) (out : List ℕ) → PlanPromise chars before answer out → (said answer ≡ said8F n k) × (out ≡ before)
+
+-- Every operation refuses the book, whatever else it is given.
+pub record BookRefused (chars : List ℕ) (n k : ℕ) : Type 0 where
+  pub opens : (l : List ℕ) → openReply chars l ≡ refusing n k l
+  pub requests : (l q : List ℕ) → requestReply chars l q ≡ refusing n k l
+  pub shows : (l : List ℕ) (p : Person) → showView chars l p ≡ hidden n k
+  pub replays : (bytes : List ℕ) → replayed chars bytes ≡ replay.refusal n k
+  pub plans : (before : List ℕ) → PlanRefuses chars n k before
+
+-- Open, request and show refuse every ledger of this size.
+pub record LedgerRefused (chars : List ℕ) (size n k : ℕ) : Type 0 where
+  pub opens : (l : List ℕ) → length l ≡ size → openReply chars l ≡ refusing n k l
+  pub requests : (l q : List ℕ) → length l ≡ size → requestReply chars l q ≡ refusing n k l
+  pub shows : (l : List ℕ) (p : Person) → length l ≡ size → showView chars l p ≡ hidden n k
+
+-- The request is refused on the ledger that open writes.
+pub record RequestRefused (chars q : List ℕ) (n k : ℕ) : Type 0 where
+  pub ledger : List ℕ
+  pub opened : Opened chars ledger
+  pub refuses : requestReply chars ledger q ≡ refusing n k ledger
+
+-- On that ledger the person is not shown.
+pub record ShowRefused (chars : List ℕ) (p : Person) (n k : ℕ) : Type 0 where
+  pub ledger : List ℕ
+  pub opened : Opened chars ledger
+  pub refuses : showView chars ledger p ≡ hidden n k
+
+-- Refusal n with line k falls on the book's characters as they are tried.
+unfoldable pub Refuses : List ℕ → ℕ → ℕ → Trial → Type 0
+Refuses chars n k on-book = BookRefused chars n k
+Refuses chars n k (buffer-of size) = (before : List ℕ) → length before ≡ size → PlanRefuses chars n k before
+Refuses chars n k (ledger-of size) = LedgerRefused chars size n k
+Refuses chars n k (asked q) = RequestRefused chars (five q) n k
+Refuses chars n k (shown-to p) = ShowRefused chars (record { 0 = p }) n k
+Refuses chars n k (list-of size) = (bytes : List ℕ) → length bytes ≡ size → replayed chars bytes ≡ replay.refusal n k
+
+-- What a row claims.
+abbrev pub Turned : RefusalRow → Type 0
+Turned r = Refuses (r .book) (r .number) (r .line) (r .trial)
+
+-- ---------------------------------------------------------------- the table
+
+-- A good first line: one person, one crew, one attribute, values 0 and 1.
+abbrev pub first : String
+first = "0101010102"
+
+-- A good last line: "q = 0, mode 01".
+abbrev pub last : String
+last = "050100FFFF00"
+
+-- A book that is good but for the line "below a good first line".
+abbrev pub below : String → List ℕ
+below x = written (first ∷ x ∷ last ∷ [])
+
+-- A rule: role 0 may add value 0 to a person.
+abbrev pub rule : String
+rule = "030100000000"
+
+abbrev pub good : List ℕ
+good = written (first ∷ rule ∷ last ∷ [])
+
+-- "Each returns its number, and 1-9 a line (1 for refusal 1: line 0)". Above each row its "when", then its example.
+unfoldable pub refusals : List RefusalRow
+refusals =
+    -- "over 65,536 characters": "65,537 of them"
+    row 1 0 (replicate 65537 48) on-book
+    -- "empty line, odd digits, another character, last line unended": `03 1`
+    ∷ row 2 2 (below "03 1") on-book
+    -- "first frame not 01, a later 01, kind not 01-05, a frame after 05, book ends without 05 (line after the last)": "empty book, line 1"
+    ∷ row 3 1 [] on-book
+    -- "any length but the one that the kind, with its n or q, gives": `0200`
+    ∷ row 4 2 (below "0200") on-book
+    -- "a field outside its range, n over 8, q over 8, a set bit outside the sizes": `0100010102`
+    ∷ row 5 1 (written ("0100010102" ∷ last ∷ [])) on-book
+    -- "j not smaller than s": `020000`, "G at least 1"
+    ∷ row 6 2 (below "020000") on-book
+    -- "term 03 or 04 in ops 01-04": `030100000001030000`, "G at least 1"
+    ∷ row 7 2 (below "030100000001030000") on-book
+    -- "the 513th rule": "513 rules"
+    ∷ row 8 514 (written (first ∷ replicate 513 rule ++ (last ∷ []))) on-book
+    -- "query attributes not rising": "attribute 00 twice"
+    ∷ row 9 2 (written (first ∷ "050100FFFF02000001000001" ∷ [])) on-book
+    -- "plan buffer under 10 × F": "39 bytes at F = 4"
+    ∷ row 10 0 (written ("0101000104" ∷ last ∷ [])) (buffer-of 39)
+    -- "ledger not 1,792 bytes or a bit outside the sizes": "1,791 bytes"
+    ∷ row 11 0 good (ledger-of 1791)
+    -- "request not five bytes or field out of range": "op `07`"
+    ∷ row 12 0 good (asked "0700000000")
+    -- "no such person to show": person 1
+    ∷ row 12 0 good (shown-to 1)
+    -- "not permitted": "a role without rules"
+    ∷ row 13 0 good (asked "0101000000")
+    -- "plan length no multiple of five": "7 bytes"
+    ∷ row 14 0 good (list-of 7)
+    ∷ []
