@@ -12,7 +12,7 @@ use Rattle.replay.specs.Replay as replay
 use Rattle.replay.specs.Replay.{replayed}
 use Rattle.planner.specs.declared.Planned.{Planned}
 use Rattle.planner.specs.Answer.{said, said8F, PlanPromise}
-use Rattle.cases.specs.Text.{written, five}
+use Rattle.cases.specs.Text.{codes, written, five}
 use Rattle.cases.specs.Claims.{Opened}
 
 -- ---------------------------------------------------------------- what a row means
@@ -110,23 +110,36 @@ rule = "030100000000"
 abbrev pub good : List ℕ
 good = written (first ∷ rule ∷ last ∷ [])
 
--- "Each returns its number, and 1-9 a line (1 for refusal 1: line 0)". Above each row its "when", then its example.
+-- "Each returns its number, and 1-9 a line (1 for refusal 1: line 0)". Above each row its "when", then its example; where the "when" has
+-- several cases, one more example for each.
 unfoldable pub refusals : List RefusalRow
 refusals =
     -- "over 65,536 characters": "65,537 of them"
     row 1 0 (replicate 65537 48) on-book
     -- "empty line, odd digits, another character, last line unended": `03 1`
     ∷ row 2 2 (below "03 1") on-book
+    ∷ row 2 2 (below "") on-book
+    ∷ row 2 2 (below "020") on-book
+    ∷ row 2 2 (written (first ∷ []) ++ codes last) on-book
     -- "first frame not 01, a later 01, kind not 01-05, a frame after 05, book ends without 05 (line after the last)": "empty book, line 1"
     ∷ row 3 1 [] on-book
+    ∷ row 3 1 (written (last ∷ [])) on-book
+    ∷ row 3 2 (below first) on-book
+    ∷ row 3 2 (below "06") on-book
+    ∷ row 3 3 (written (first ∷ last ∷ rule ∷ [])) on-book
+    ∷ row 3 2 (written (first ∷ [])) on-book
     -- "any length but the one that the kind, with its n or q, gives": `0200`
     ∷ row 4 2 (below "0200") on-book
     -- "a field outside its range, n over 8, q over 8, a set bit outside the sizes": `0100010102`
     ∷ row 5 1 (written ("0100010102" ∷ last ∷ [])) on-book
+    ∷ row 5 2 (below "030100000009010000010000010000010000010000010000010000010000010000") on-book
+    ∷ row 5 2 (written (first ∷ "050100FFFF09000001000001000001000001000001000001000001000001000001" ∷ [])) on-book
+    ∷ row 5 2 (written (first ∷ "050100FFFF01000004" ∷ [])) on-book
     -- "j not smaller than s": `020000`, "G at least 1"
     ∷ row 6 2 (below "020000") on-book
     -- "term 03 or 04 in ops 01-04": `030100000001030000`, "G at least 1"
     ∷ row 7 2 (below "030100000001030000") on-book
+    ∷ row 7 2 (below "030400000001040000") on-book
     -- "the 513th rule": "513 rules"
     ∷ row 8 514 (written (first ∷ replicate 513 rule ++ (last ∷ []))) on-book
     -- "query attributes not rising": "attribute 00 twice"
@@ -137,6 +150,7 @@ refusals =
     ∷ row 11 0 good (ledger-of 1791)
     -- "request not five bytes or field out of range": "op `07`"
     ∷ row 12 0 good (asked "0700000000")
+    ∷ row 12 0 good (asked "01000000")
     -- "no such person to show": person 1
     ∷ row 12 0 good (shown-to 1)
     -- "not permitted": "a role without rules"
