@@ -6,7 +6,10 @@ use std::fs;
 use std::path::PathBuf;
 
 use bixorgun::bytes::{self, Planned, Shown};
-use bixorgun::{Answer, Book, Judgement, Person, Refusal, LEDGER_SIZE, REQUEST_SIZE, VIEW_SIZE};
+use bixorgun::{Judgement, Person, Refusal, LEDGER_SIZE, REQUEST_SIZE, VIEW_SIZE};
+
+mod printed;
+use printed::printed;
 
 const VARIANTS: &str = "| Line | becomes | Answer | Says |";
 const REFUSALS: &str = "| No. | Line | becomes | Answer | What is wrong, and what to do |";
@@ -99,20 +102,6 @@ fn replacement(cell: &str) -> Vec<u8> {
 fn changed(book: &str, line: usize, by: &[u8]) -> Vec<u8> {
     let lines = book.split_inclusive('\n').enumerate();
     lines.flat_map(|(at, old)| if at + 1 == line { by.to_vec() } else { old.into() }).collect()
-}
-
-/// What the program prints for a book. A plan that is printed is seen to reach the query.
-fn printed(characters: &[u8]) -> String {
-    let book = Book::new(characters);
-    match book.plan() {
-        Ok(Answer::NoWay) => "80\n".to_owned(),
-        Ok(Answer::Plan(plan)) => {
-            assert_eq!(book.replay(&plan), Ok(Judgement::Reaches));
-            let requests: String = plan.iter().map(|request| format!("{request}\n")).collect();
-            format!("81{:04X}\n{requests}", plan.len())
-        }
-        Err(refusal) => format!("8F{:02X}{:04X}\n", refusal.number(), refusal.line().expect("plan's buffer is long")),
-    }
 }
 
 /// Sees that each row of a table of changed lines has its answer; the cells after `Line`, and the answer.

@@ -1,10 +1,11 @@
 //! The specification's example, D1 to D12, and the shapes of answers.
 
-use std::fmt::Write as _;
-
 use bixorgun::bytes::{self, Planned, Shown};
 use bixorgun::{Act, Answer, Attr, Book, Crew, Judgement, Ledger, Person, Plan, Refusal, Request, Role, Value};
 use bixorgun::{LEDGER_SIZE, PLAN_MAX, VIEW_SIZE};
+
+mod printed;
+use printed::printed;
 
 const D1: &str = "0101010102\n030100000100\n030501000001010001\n0402000000\n050100000301000001\n";
 const HOLDS_BOTH: &str = "0401000000\n0401000001\n";
@@ -23,18 +24,6 @@ fn two_crews(frames: &str) -> String {
 /// "exactly": mode 02, all roles, the one attribute, no crews.
 fn exactly(set: u16) -> String {
     format!("050200FFFF0100{set:04X}00000000")
-}
-
-/// What the product's program prints for a book.
-fn printed(book: &str) -> String {
-    match Book::new(book).plan() {
-        Ok(Answer::NoWay) => "80\n".to_owned(),
-        Ok(Answer::Plan(plan)) => plan.iter().fold(format!("81{:04X}\n", plan.len()), |mut text, request| {
-            writeln!(text, "{request}").expect("a string takes all");
-            text
-        }),
-        Err(refusal) => format!("8F{:02X}{:04X}\n", refusal.number(), refusal.line().unwrap_or(0)),
-    }
 }
 
 /// Plans a book, and sees that the plan works when it is carried out; its requests.
@@ -57,10 +46,10 @@ fn judged(book: &str, list: &[[u8; 5]]) -> Judgement {
 
 #[test]
 fn the_example_is_printed() {
-    assert_eq!(printed(D1), "810002\n0100000001\n0501000000\n");
-    assert_eq!(printed(""), "8F030001\n");
-    assert_eq!(printed(&bare("", "050100FFFF01000001")), "80\n");
-    assert_eq!(printed(&bare("", "050100FFFF00")), "810000\n");
+    assert_eq!(printed(D1.as_bytes()), "810002\n0100000001\n0501000000\n");
+    assert_eq!(printed(b""), "8F030001\n");
+    assert_eq!(printed(bare("", "050100FFFF01000001").as_bytes()), "80\n");
+    assert_eq!(printed(bare("", "050100FFFF00").as_bytes()), "810000\n");
 }
 
 #[test]
