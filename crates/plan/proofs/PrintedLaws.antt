@@ -18,8 +18,7 @@ use Rattle.planner.specs.Answer.{Said, said80, said81, said8F, said, front, Dec
 use Rattle.planner.proofs.AnswerLaws.{facts-few}
 use Rattle.planner.proofs.PromiseLaws.{never-both}
 use Rattle.answers.specs.Answers.{hex, hexLine, noWayBytes, countBytes, refusedBytes, requestLines}
-use Rattle.answers.specs.Written.{answerText}
-use Rattle.answers.specs.Written.{Written}
+use Rattle.answers.specs.Written.{answerText, Written}
 use Rattle.answers.proofs.AnswerLaws.{line-long}
 use Rattle.answers.proofs.WrittenLaws.{end-within}
 use Rattle.plan.specs.Printed.{PlanPrinted, PrintedFor, Printed}
@@ -56,9 +55,11 @@ module _ {book before out : List ℕ} (answer : Planned) (promise : PlanPromise 
   pub long-enough : isShort (said answer) ≡ false → (b : Contents) → bookOf book ≡ accepted b → 10 * factCount (b .sizes) ≤ length before
   long-enough not-short b read =
       dite (decLt (length before) (10 * factCount (b .sizes)))
-      (λ (h : length before < 10 * factCount (b .sizes)).
-      absurd (true≢false (sym (ap isShort (subst (λ (a : Answer). AnsweredFor a before (said answer) out) read (promise .kept) .short h .0)) ∙ not-short)))
+      (λ (h : length before < 10 * factCount (b .sizes)). absurd (true≢false (sym (ap isShort (kept .short h .0)) ∙ not-short)))
       (λ (h : length before < 10 * factCount (b .sizes) → ⊥). omega arith)
+    where
+      kept : AnsweredFor (accepted b) before (said answer) out
+      kept = subst (λ (a : Answer). AnsweredFor a before (said answer) out) read (promise .kept)
 
 -- 42,560 bytes are 10 × F for the largest sizes: no book finds them too short.
 pub printed-any : {book text before out : List ℕ} (answer : Planned) → length before ≡ 42560 → PlanPromise book before answer out

@@ -5,10 +5,10 @@
 ghost use Prim.Native.Nat.{_+_, _*_, _≤_, _<_};
 ghost use mathlib.Core.Path.{_≡_};
 ghost use lib.ListN.{length, take};
-ghost use Rattle.io.specs.Counts.{Counts};
 ghost use Rattle.planner.specs.Answer.{said};
 ghost use Rattle.answers.specs.Written.{Written};
 ghost use Rattle.plan.specs.Printed.{Printed};
+ghost use Rattle.plan.specs.Inner.Front.{Begins};
 ghost use Rattle.plan.specs.Inner.Tried.{isShort, Tried};
 use libc::STDIN_FILENO;
 use libc::STDOUT_FILENO;
@@ -116,7 +116,7 @@ fn put_front(front: &[u8], text: &mut [u8])
 // its buffer, of 64 characters or 292 times as many, unless the input has ended.
 fn read_on(front: &[u8], text: &mut [u8]) -> usize
     requires { ⌜ length (now front) ≤ length (now text) ⌝ }
-    ensures { λ n. ⌜ Counts n (now (text .exit)) × ((length (now (front .entry)) ≤ n) × (take (length (now (front .entry))) (now (text .exit)) ≡ now (front .entry))) ⌝ }
+    ensures { λ n. ⌜ Begins (now (front .entry)) n (now (text .exit)) ⌝ }
 {
     put_front(front, text);
     let k = front.len();

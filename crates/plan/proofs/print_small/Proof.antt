@@ -26,7 +26,7 @@ slice-aggregate-print-large : tie.Need-slice-aggregate-print-large
 slice-aggregate-print-large c =
     let answered = c .before .before .before in
     let read = answered .before .before .before .read-on in
-    sym (length-take-le (read .result) (answered .answer-small .last .0) (omega (arith, read .ensures .0 .0)))
+    sym (length-take-le (read .result) (answered .answer-small .last .0) (omega (arith, read .ensures .counted .0)))
 
 print-large-requires : tie.Need-print-large-requires
 print-large-requires c κs =

@@ -34,7 +34,8 @@ loop-again : tie.Need-loop-again Inv-loop μ-loop
 loop-again c =
     let turn = c .before .before in
     let more = c .before .loop-test .taken in
-    (omega (arith, more), front-more (turn .before .args .front .now) (turn .loop .inv .1) more (omega (arith, more, turn .loop .inv .1 .size, turn .before .pre)))
+    let so-far = turn .loop .inv .1 in
+    (omega (arith, more), front-more (turn .before .args .front .now) so-far more (omega (arith, more, so-far .size, turn .before .pre)))
 
 same-length : tie.Need-same-length Inv-loop μ-loop
 same-length c = c .before .loop .inv .1 .size

@@ -20,7 +20,7 @@ same-length c = search needs
 returns : tie.Need-returns
 returns c =
     let put = c .before .before .before .put-front .ensures in
-    (counts _ _ (omega (arith, end-within put)), (omega arith, put .upto))
+    record { counted = counts _ _ (omega (arith, end-within put)); long = omega arith; same = put .upto }
 
 sub-read-full : tie.Need-sub-read-full
 sub-read-full c = search needs
@@ -43,7 +43,7 @@ same-length-2 c = search needs
 returns-2 : tie.Need-returns-2
 returns-2 c =
     let put = after-put-front (c .before) .put-front .ensures in
-    (counts _ _ (search needs), (omega arith, front-stays _ put))
+    record { counted = counts _ _ (search needs); long = omega arith; same = front-stays _ put }
 
 pub read-on-spec : {M : Type 1} → statement M
 read-on-spec =
