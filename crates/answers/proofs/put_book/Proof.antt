@@ -12,11 +12,11 @@ use Rattle.answers.proofs.put_book.Statement.{statement}
 use Rattle.answers.proofs.put_book.Tie as tie
 
 -- The places that the answers name, each seen from a later one.
-abbrev start : tie.After-put-bytes → tie.Start
-start c = c .before .before .before .before .before .before .before .before .before
-
 abbrev after-fact-count : tie.After-put-bytes → tie.After-fact-count
 after-fact-count c = c .before .before .before .before
+
+abbrev start : tie.After-put-bytes → tie.Start
+start c = after-fact-count c .before .before .before .before .before
 
 abbrev after-put-bytes : tie.After-put-count → tie.After-put-bytes
 after-put-bytes c = c .before .before .before .before

@@ -39,7 +39,15 @@ same-length-3 c = search needs
 
 returns-3 : tie.Need-returns-3
 unfolding requestIn contentsOf after
-returns-3 c = rw (sym (c .before .before .before .before .before .before .before .is-suitable .ensures) ∙ not-false _ (c .before .before .before .before .before .before .if1 .left), sym (c .before .before .before .before .before .is-request .ensures) ∙ not-false _ (c .before .before .before .before .if2 .left), ← c .before .before .before .request-of .ensures, sym (c .before .is-allowed .ensures) ∙ not-true _ (c .if3 .taken))
+returns-3 c =
+    let formed = c .before .before .before .before in
+    let suited = formed .before .before in
+    rw (
+      sym (suited .before .is-suitable .ensures) ∙ not-false _ (suited .if1 .left),
+      sym (formed .before .is-request .ensures) ∙ not-false _ (formed .if2 .left),
+      ← c .before .before .before .request-of .ensures,
+      sym (c .before .is-allowed .ensures) ∙ not-true _ (c .if3 .taken),
+    )
 
 carry-out-requires : tie.Need-carry-out-requires
 carry-out-requires c κs = search needs
