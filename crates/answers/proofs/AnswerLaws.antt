@@ -13,7 +13,8 @@ use lib.Seq.{drop-cons}
 use borrow.Author.Tests.{eqb-true}
 use Rattle.sets.specs.Sets.{member}
 use Rattle.lines.specs.Digits.{digit, character, frameOf}
-use Rattle.gate.specs.Gate.{allBelow}
+use Rattle.quantifiers.specs.Quantifiers.{allBelow}
+use Rattle.quantifiers.proofs.BoolLaws.{and-both}
 use Rattle.answers.specs.Answers.{hex, hexLine, size, total}
 
 -- ---------------------------------------------------------------- the digits of bytes
@@ -47,15 +48,11 @@ five-bytes (op ∷ role ∷ s ∷ a ∷ v ∷ x ∷ rest) h = absurd (omega arit
 
 -- ---------------------------------------------------------------- digits read back
 
-both-true : (a b : Bool) → (a && b) ≡ true → (a ≡ true) × (b ≡ true)
-both-true true b e = (refl, e)
-both-true false b e = absurd (true≢false (sym e))
-
 back-below : (n : ℕ) → allBelow (λ (d : ℕ). eqb (digit (character d)) d) n ≡ true → (d : ℕ) → d < n → digit (character d) ≡ d
 unfolding allBelow
 back-below zero t d h = omega arith
 back-below (suc n) t d h =
-    let both = both-true _ _ t in
+    let both = and-both _ _ t in
     dite (decLt d n) (λ (m : d < n). back-below n (both .0) d m)
     (λ (m : d < n → ⊥). let e : d ≡ n = omega arith in rw e (eqb-true _ n (both .1)))
 

@@ -1,19 +1,20 @@
 -- D1 to D12 hold, each as its row of the table claims: one computation over the whole table, and one law. Assumes nothing.
 use mathlib.Core.Path.{_≡_, refl}
 use mathlib.Core.Bool.{true}
-use Rattle.lines.specs.Digits as digits
-use Rattle.frames.specs.Fits.{Each}
+use Rattle.quantifiers.specs.Inner.Lists.{Each}
 use Rattle.cases.specs.Claims.{Meant}
 use Rattle.cases.specs.Table.{d1, d2, d3, d4, d5, d6, d7, d8, d9, d10-senior, d10-junior, d11, d12, table}
 use Rattle.sets.specs.Sets.{bit, member, put, within, subset, memberAt, putAt, numberAt}
 use Rattle.facts.specs.Facts.{fits, setAt, setWidth, memberOf, holds, putFact, noFacts}
 use Rattle.lines.specs.Digits.{digit, isDigit, malformed, frameOf, byteAt}
 use Rattle.lines.specs.Lines.{extend, lines}
-use Rattle.gate.specs.Gate.{allBelow, valuesOf, pairAt, quadAt, misplaced, lengthOf, mislengthed, sizesVerdict, edgeVerdict, ruleGood, foreign, ruleVerdict, factVerdict, queryGood, queryVerdict, fieldsVerdict, verdict, lineVerdict}
-use Rattle.frames.specs.Book.{termAt, termsOf, ruleOf, juniorsAfter, factOf, factsAfter, rulesAfter, wantAt, wantsOf, queryOf, queryAfter, knownAfter, nothing, enter, walk, bookOf}
-use Rattle.inherit.specs.Inheritance.{isJunior, anyBelow, downWithin, downward, crewHolds, personIn, personHolds}
+use Rattle.gate.specs.Gate.{valuesOf, pairAt, quadAt, misplaced, lengthOf, mislengthed, sizesVerdict, edgeVerdict, ruleGood, foreign, ruleVerdict, factVerdict, queryGood}
+use Rattle.gate.specs.Gate.{queryVerdict, fieldsVerdict, verdict, lineVerdict}
+use Rattle.quantifiers.specs.Quantifiers.{allBelow, anyBelow, all, any}
+use Rattle.frames.specs.Book.{termAt, termsOf, ruleOf, juniorsAfter, factOf, factsAfter, rulesAfter, wantAt, wantsOf, queryOf, queryAfter, knownAfter, nothing, enter}
+use Rattle.frames.specs.Book.{walk, bookOf}
+use Rattle.inherit.specs.Inheritance.{isJunior, downWithin, downward, crewHolds, personIn, personHolds}
 use Rattle.requests.specs.Requests.{aimed, requestOf, fieldsGood, wellFormed}
-use Rattle.rules.specs.Search.{all, any}
 use Rattle.rules.specs.Rules.{subjectOf, aOf, vOf, directly, effectively, inDirectly, inEffectively, termHolds, names, permits, permitted}
 use Rattle.ledger.specs.Ledger.{after, allowed}
 use Rattle.ledger.specs.Show.{setBelow, valueSet, valueSets, crewSet}
@@ -29,7 +30,7 @@ computed : all test table ≡ true
 unfolding table d1 d2 d3 d4 d5 d6 d7 d8 d9 d10-senior d10-junior d11 d12 codes written five fivesOf
     test passesOn passes isReaches showsIn doneIn sameBytes among named namedBelow allNamed candidates join stepped spread reached stays closed unmet shut
     bit member put within subset memberAt putAt numberAt fits setAt setWidth memberOf holds putFact noFacts
-    digits.all digit isDigit malformed frameOf byteAt extend lines
+    digit isDigit malformed frameOf byteAt extend lines
     allBelow valuesOf pairAt quadAt misplaced lengthOf mislengthed sizesVerdict edgeVerdict ruleGood foreign ruleVerdict factVerdict queryGood queryVerdict fieldsVerdict verdict lineVerdict
     termAt termsOf ruleOf juniorsAfter factOf factsAfter rulesAfter wantAt wantsOf queryOf queryAfter knownAfter nothing enter walk bookOf
     isJunior anyBelow downWithin downward crewHolds personIn personHolds aimed requestOf fieldsGood wellFormed

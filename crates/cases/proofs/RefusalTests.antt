@@ -9,7 +9,7 @@ use lib.Dec.{eqb, ltb}
 use lib.ListN.{length}
 use borrow.Author.Tests.{eqb-true, eqb-false, ltb-true, ne-eqb, not-true}
 use Rattle.facts.specs.Facts.{ledgerSize}
-use Rattle.inherit.proofs.InheritanceLaws.{and-both}
+use Rattle.quantifiers.proofs.BoolLaws.{and-both}
 use Rattle.gate.specs.Gate.{isPerson}
 use Rattle.frames.specs.declared.Refusal.{Refusal}
 use Rattle.frames.specs.Book.{Contents, Answer, refused, accepted, bookOf, refusalNumber, refusalLine}
@@ -23,8 +23,8 @@ use Rattle.replay.specs.Replay.{replayIn, replayed}
 use Rattle.planner.specs.Count.{factCount}
 use Rattle.planner.specs.Answer.{said, AnsweredFor}
 use Rattle.cases.specs.Text.{five}
-use Rattle.cases.specs.Refusals.{Trial, on-book, buffer-of, ledger-of, asked, shown-to, list-of, RefusalRow, Refuses, Turned}
-use Rattle.cases.specs.Refusals.{refusing, PlanRefuses, BookRefused, LedgerRefused, RequestRefused, ShowRefused}
+use Rattle.cases.specs.Refusals.{Trial, on-book, buffer-of, ledger-of, asked, shown-to, list-of, RefusalRow, Refuses, Turned, refusing, PlanRefuses, BookRefused}
+use Rattle.cases.specs.Refusals.{LedgerRefused, RequestRefused, ShowRefused}
 use Rattle.cases.proofs.Tests.{opened-facts, facts-suitable}
 
 -- ---------------------------------------------------------------- the test

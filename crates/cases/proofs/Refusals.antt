@@ -1,17 +1,16 @@
 -- The table of refusals holds, each row as it claims: one computation over the whole table, and one law. Assumes nothing.
 use mathlib.Core.Path.{_≡_, refl}
 use mathlib.Core.Bool.{true}
-use Rattle.lines.specs.Digits as digits
-use Rattle.frames.specs.Fits.{Each}
+use Rattle.quantifiers.specs.Inner.Lists.{Each}
 use Rattle.cases.specs.Refusals.{Turned, refusals}
 use Rattle.sets.specs.Sets.{within, numberAt}
 use Rattle.lines.specs.Digits.{digit, isDigit, malformed, frameOf, byteAt}
 use Rattle.lines.specs.Lines.{extend, lines}
-use Rattle.gate.specs.Gate.{allBelow, valuesOf, pairAt, misplaced, lengthOf, mislengthed}
-use Rattle.gate.specs.Gate.{sizesVerdict, edgeVerdict, ruleGood, foreign, ruleVerdict, queryGood, queryVerdict, fieldsVerdict, verdict, lineVerdict}
+use Rattle.gate.specs.Gate.{valuesOf, pairAt, misplaced, lengthOf, mislengthed, sizesVerdict, edgeVerdict, ruleGood, foreign, ruleVerdict, queryGood, queryVerdict}
+use Rattle.gate.specs.Gate.{fieldsVerdict, verdict, lineVerdict}
+use Rattle.quantifiers.specs.Quantifiers.{allBelow, all, any}
 use Rattle.frames.specs.Book.{ruleOf, rulesAfter, knownAfter, nothing, enter, walk, bookOf}
 use Rattle.requests.specs.Requests.{requestOf, fieldsGood, wellFormed}
-use Rattle.rules.specs.Search.{all, any}
 use Rattle.rules.specs.Rules.{names, permits, permitted}
 use Rattle.ledger.specs.Ledger.{allowed}
 use Rattle.planner.specs.Count.{factCount}
@@ -22,7 +21,7 @@ use Rattle.cases.proofs.RefusalTests.{fallsOn, falls, isTurned, turned,
 -- Every row passes: computed.
 computed : all turned refusals ≡ true
 unfolding refusals codes written five turned isTurned falls fallsOn
-    within numberAt digits.all digit isDigit malformed frameOf byteAt extend lines
+    within numberAt digit isDigit malformed frameOf byteAt extend lines
     allBelow valuesOf pairAt misplaced lengthOf mislengthed
     sizesVerdict edgeVerdict ruleGood foreign ruleVerdict queryGood queryVerdict fieldsVerdict verdict lineVerdict
     ruleOf rulesAfter knownAfter nothing enter walk bookOf

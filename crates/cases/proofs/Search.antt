@@ -14,16 +14,16 @@ use borrow.Author.Tests.{eqb-true, ltb-true, not-true}
 use Rattle.sets.specs.Sets.{member}
 use Rattle.facts.specs.Facts.{holds}
 use Rattle.facts.specs.declared.Fact.the-variants.{Holds, CrewHolds, Member}
-use Rattle.inherit.proofs.InheritanceLaws.{and-both}
+use Rattle.quantifiers.proofs.BoolLaws.{and-both}
 use Rattle.gate.specs.declared.Sizes.{Sizes}
 use Rattle.gate.specs.Gate.{between, isPerson, isCrew, isValue, isCrewField}
 use Rattle.frames.specs.declared.Rule.{Rule}
 use Rattle.frames.specs.Book.{Contents}
-use Rattle.frames.specs.Fits.{inSizes}
+use Rattle.frames.specs.Inner.Fits.{inSizes}
 use Rattle.requests.specs.Requests.{aimed, requestOf, fieldsGood, wellFormed}
 use Rattle.requests.proofs.RequestLaws.{well-formed-length, well-formed-fact}
 use Rattle.answers.proofs.AnswerLaws.{five-bytes}
-use Rattle.rules.specs.Search.{all, any}
+use Rattle.quantifiers.specs.Quantifiers.{all, any}
 use Rattle.rules.specs.Rules.{aOf, vOf, names, permits, permitted}
 use Rattle.ledger.specs.Ledger.{after, allowed}
 use Rattle.replay.specs.Chains.{goes}

@@ -9,15 +9,16 @@ use lib.Dec.{eqb}
 use borrow.Author.Tests.{eqb-true, lt-ltb, not-true}
 use Rattle.facts.specs.Facts.{holds, noFacts}
 use Rattle.facts.proofs.FactLaws.{none-length}
-use Rattle.inherit.proofs.InheritanceLaws.{and-both}
+use Rattle.quantifiers.proofs.BoolLaws.{and-both}
 use Rattle.gate.specs.Gate.{isPerson}
 use Rattle.frames.specs.Book.{Contents, Answer, refused, accepted, bookOf}
-use Rattle.frames.specs.Fits.{Admitted, Each}
+use Rattle.frames.specs.Inner.Fits.{Admitted}
+use Rattle.quantifiers.specs.Inner.Lists.{Each}
 use Rattle.frames.proofs.BookLaws.{book-accepted}
 use Rattle.requests.specs.Requests.{requestOf, wellFormed}
 use Rattle.requests.specs.Suitable.{suitable}
 use Rattle.requests.proofs.RequestLaws.{suitable-from, well-formed-fact}
-use Rattle.rules.specs.Search.{all}
+use Rattle.quantifiers.specs.Quantifiers.{all}
 use Rattle.ledger.specs.declared.Outcome.the-variants.{Done}
 use Rattle.ledger.specs.Ledger.{reply, after, allowed, requestIn, requestReply}
 use Rattle.ledger.specs.Show.{valueSets, crewSet, showIn, showView}

@@ -39,8 +39,8 @@ pub record RefusalRow : Type 0 where
   pub book : List ℕ
   pub trial : Trial
 
-abbrev pub row : ℕ → ℕ → List ℕ → Trial → RefusalRow
-row n k chars t = record { number = n; line = k; book = chars; trial = t }
+abbrev pub refusalRow : ℕ → ℕ → List ℕ → Trial → RefusalRow
+refusalRow n k chars t = record { number = n; line = k; book = chars; trial = t }
 
 -- Refusal n with line k of an operation on a lent ledger: "every lent buffer keeps its bytes".
 abbrev pub refusing : ℕ → ℕ → List ℕ → Reply
@@ -92,69 +92,69 @@ Turned r = Refuses (r .book) (r .number) (r .line) (r .trial)
 -- ---------------------------------------------------------------- the table
 
 -- A good first line: one person, one crew, one attribute, values 0 and 1.
-abbrev pub first : String
-first = "0101010102"
+abbrev pub goodFirst : String
+goodFirst = "0101010102"
 
 -- A good last line: "q = 0, mode 01".
-abbrev pub last : String
-last = "050100FFFF00"
+abbrev pub goodLast : String
+goodLast = "050100FFFF00"
 
 -- A book that is good but for the line "below a good first line".
-abbrev pub below : String → List ℕ
-below x = written (first ∷ x ∷ last ∷ [])
+abbrev pub belowFirst : String → List ℕ
+belowFirst x = written (goodFirst ∷ x ∷ goodLast ∷ [])
 
 -- A rule: role 0 may add value 0 to a person.
-abbrev pub rule : String
-rule = "030100000000"
+abbrev pub goodRule : String
+goodRule = "030100000000"
 
-abbrev pub good : List ℕ
-good = written (first ∷ rule ∷ last ∷ [])
+abbrev pub goodBook : List ℕ
+goodBook = written (goodFirst ∷ goodRule ∷ goodLast ∷ [])
 
 -- "Each returns its number, and 1-9 a line (1 for refusal 1: line 0)". Above each row its "when", then its example; where the "when" has
 -- several cases, one more example for each.
 unfoldable pub refusals : List RefusalRow
 refusals =
     -- "over 65,536 characters": "65,537 of them"
-    row 1 0 (replicate 65537 48) on-book
+    refusalRow 1 0 (replicate 65537 48) on-book
     -- "empty line, odd digits, another character, last line unended": `03 1`
-    ∷ row 2 2 (below "03 1") on-book
-    ∷ row 2 2 (below "") on-book
-    ∷ row 2 2 (below "020") on-book
-    ∷ row 2 2 (written (first ∷ []) ++ codes last) on-book
+    ∷ refusalRow 2 2 (belowFirst "03 1") on-book
+    ∷ refusalRow 2 2 (belowFirst "") on-book
+    ∷ refusalRow 2 2 (belowFirst "020") on-book
+    ∷ refusalRow 2 2 (written (goodFirst ∷ []) ++ codes goodLast) on-book
     -- "first frame not 01, a later 01, kind not 01-05, a frame after 05, book ends without 05 (line after the last)": "empty book, line 1"
-    ∷ row 3 1 [] on-book
-    ∷ row 3 1 (written (last ∷ [])) on-book
-    ∷ row 3 2 (below first) on-book
-    ∷ row 3 2 (below "06") on-book
-    ∷ row 3 3 (written (first ∷ last ∷ rule ∷ [])) on-book
-    ∷ row 3 2 (written (first ∷ [])) on-book
+    ∷ refusalRow 3 1 [] on-book
+    ∷ refusalRow 3 1 (written (goodLast ∷ [])) on-book
+    ∷ refusalRow 3 2 (belowFirst goodFirst) on-book
+    ∷ refusalRow 3 2 (belowFirst "06") on-book
+    ∷ refusalRow 3 3 (written (goodFirst ∷ goodLast ∷ goodRule ∷ [])) on-book
+    ∷ refusalRow 3 2 (written (goodFirst ∷ [])) on-book
     -- "any length but the one that the kind, with its n or q, gives": `0200`
-    ∷ row 4 2 (below "0200") on-book
+    ∷ refusalRow 4 2 (belowFirst "0200") on-book
     -- "a field outside its range, n over 8, q over 8, a set bit outside the sizes": `0100010102`
-    ∷ row 5 1 (written ("0100010102" ∷ last ∷ [])) on-book
-    ∷ row 5 2 (below "030100000009010000010000010000010000010000010000010000010000010000") on-book
-    ∷ row 5 2 (written (first ∷ "050100FFFF09000001000001000001000001000001000001000001000001000001" ∷ [])) on-book
-    ∷ row 5 2 (written (first ∷ "050100FFFF01000004" ∷ [])) on-book
+    ∷ refusalRow 5 1 (written ("0100010102" ∷ goodLast ∷ [])) on-book
+    ∷ refusalRow 5 2 (belowFirst "030100000009010000010000010000010000010000010000010000010000010000") on-book
+    ∷ refusalRow 5 2 (written (goodFirst ∷ "050100FFFF09000001000001000001000001000001000001000001000001000001" ∷ [])) on-book
+    ∷ refusalRow 5 2 (written (goodFirst ∷ "050100FFFF01000004" ∷ [])) on-book
     -- "j not smaller than s": `020000`, "G at least 1"
-    ∷ row 6 2 (below "020000") on-book
+    ∷ refusalRow 6 2 (belowFirst "020000") on-book
     -- "term 03 or 04 in ops 01-04": `030100000001030000`, "G at least 1"
-    ∷ row 7 2 (below "030100000001030000") on-book
-    ∷ row 7 2 (below "030400000001040000") on-book
+    ∷ refusalRow 7 2 (belowFirst "030100000001030000") on-book
+    ∷ refusalRow 7 2 (belowFirst "030400000001040000") on-book
     -- "the 513th rule": "513 rules"
-    ∷ row 8 514 (written (first ∷ replicate 513 rule ++ (last ∷ []))) on-book
+    ∷ refusalRow 8 514 (written (goodFirst ∷ replicate 513 goodRule ++ (goodLast ∷ []))) on-book
     -- "query attributes not rising": "attribute 00 twice"
-    ∷ row 9 2 (written (first ∷ "050100FFFF02000001000001" ∷ [])) on-book
+    ∷ refusalRow 9 2 (written (goodFirst ∷ "050100FFFF02000001000001" ∷ [])) on-book
     -- "plan buffer under 10 × F": "39 bytes at F = 4"
-    ∷ row 10 0 (written ("0101000104" ∷ last ∷ [])) (buffer-of 39)
+    ∷ refusalRow 10 0 (written ("0101000104" ∷ goodLast ∷ [])) (buffer-of 39)
     -- "ledger not 1,792 bytes or a bit outside the sizes": "1,791 bytes"
-    ∷ row 11 0 good (ledger-of 1791)
+    ∷ refusalRow 11 0 goodBook (ledger-of 1791)
     -- "request not five bytes or field out of range": "op `07`"
-    ∷ row 12 0 good (asked "0700000000")
-    ∷ row 12 0 good (asked "01000000")
+    ∷ refusalRow 12 0 goodBook (asked "0700000000")
+    ∷ refusalRow 12 0 goodBook (asked "01000000")
     -- "no such person to show": person 1
-    ∷ row 12 0 good (shown-to 1)
+    ∷ refusalRow 12 0 goodBook (shown-to 1)
     -- "not permitted": "a role without rules"
-    ∷ row 13 0 good (asked "0101000000")
+    ∷ refusalRow 13 0 goodBook (asked "0101000000")
     -- "plan length no multiple of five": "7 bytes"
-    ∷ row 14 0 good (list-of 7)
+    ∷ refusalRow 14 0 goodBook (list-of 7)
     ∷ []

@@ -12,13 +12,14 @@ use Rattle.requests.specs.declared.Request.{Request}
 use Rattle.requests.specs.Requests.{adds, requestOf}
 use Rattle.ledger.specs.Ledger.{after}
 use Rattle.ledger.proofs.LedgerLaws.{after-put, after-length}
-use Rattle.theory.specs.Plan.{Ask}
-use Rattle.level.specs.Notes.{askAt, asks}
+use Rattle.quantifiers.proofs.ListLaws.{map-append}
+use Rattle.theory.specs.Inner.Plan.{Ask}
+use Rattle.level.specs.Inner.Notes.{askAt, asks}
 use Rattle.level.proofs.NoteLaws.{asks-last}
-use Rattle.reach.specs.Tracked.{bytesOf}
+use Rattle.reach.specs.Inner.Tracked.{bytesOf}
 use Rattle.replay.specs.Chains.{run, ends, fives}
 use Rattle.replay.proofs.ReplayLaws.{one-end, run-none, run-parts, fives-none, fives-append}
-use Rattle.drafts.specs.Drafts.{carried, flat}
+use Rattle.drafts.specs.Inner.Drafts.{carried, flat}
 
 -- ---------------------------------------------------------------- requests carried out
 
@@ -66,10 +67,6 @@ length-flat [] = refl
 length-flat (u ∷ us) = omega (arith, length-flat us)
 
 -- ---------------------------------------------------------------- requests in a buffer
-
-map-append : {A B : Type 0} (f : A → B) (xs ys : List A) → map f (xs ++ ys) ≡ map f xs ++ map f ys
-map-append f [] ys = refl
-map-append {A} {B} f (x ∷ xs) ys = ap (λ (r : List B). f x ∷ r) (map-append f xs ys)
 
 first-five : (l : List ℕ) → 5 ≤ length l → take 5 l ≡ getD l 0 0 ∷ getD l 1 0 ∷ getD l 2 0 ∷ getD l 3 0 ∷ getD l 4 0 ∷ []
 first-five [] h = absurd (omega arith)

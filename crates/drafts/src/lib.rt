@@ -3,9 +3,9 @@ ghost use mathlib.Core.Path.{_≡_};
 ghost use mathlib.Core.List.{_++_, map};
 ghost use Prim.Native.Nat.{_+_, _*_, _≤_};
 ghost use lib.ListN.{length, take, drop};
-ghost use Rattle.reach.specs.Tracked.{bytesOf};
-ghost use Rattle.level.specs.Notes.{asks};
-ghost use Rattle.drafts.specs.Drafts.{carried, flat};
+ghost use Rattle.reach.specs.Inner.Tracked.{bytesOf};
+ghost use Rattle.level.specs.Inner.Notes.{asks};
+ghost use Rattle.drafts.specs.Inner.Drafts.{carried, flat};
 
 // Carries out the n requests of a draft from request `from` on, without asking whether they are permitted.
 pub fn carry_out(ledger: &mut [u8], draft: &[u8], from: usize, n: usize)

@@ -14,15 +14,16 @@ use Rattle.sets.specs.Sets.{member}
 use Rattle.frames.specs.declared.Want.{Want}
 use Rattle.frames.specs.declared.Query.{Query}
 use Rattle.frames.specs.Book.{Contents, noWant}
-use Rattle.frames.specs.Fits.{wantOf}
-use Rattle.inherit.specs.Inheritance.{anyBelow, downward}
-use Rattle.inherit.proofs.InheritanceLaws.{any-zero, any-step, any-same}
-use Rattle.rules.proofs.SearchLaws.{any-front}
+use Rattle.frames.specs.Inner.Fits.{wantOf}
+use Rattle.inherit.specs.Inheritance.{downward}
+use Rattle.quantifiers.specs.Quantifiers.{anyBelow}
+use Rattle.quantifiers.proofs.BelowLaws.{any-zero, any-step, any-same}
+use Rattle.quantifiers.proofs.ListLaws.{any-front}
 use Rattle.replay.proofs.MetLaws.{wants-front}
-use Rattle.reach.specs.Tracked.{track}
-use Rattle.reach.specs.Goal.{banned, belowListed, forbids, forbidden, bad}
-use Rattle.flags.specs.Flags.{Written, hasFact, factIn, SmallWants, lacksValue, bannedValue, forbidFlag, badFlag, BadFlags, listedReaches, listedReach, Reaching}
-use Rattle.flags.specs.Inner.{lackingFlag, wantFlag, bannedFlag}
+use Rattle.reach.specs.Inner.Tracked.{track}
+use Rattle.reach.specs.Inner.Goal.{banned, belowListed, forbids, forbidden, bad}
+use Rattle.flags.specs.Inner.Flags.{FlagsWritten, hasFact, factIn, SmallWants, lacksValue, bannedValue, forbidFlag, badFlag, BadFlags, listedReaches, listedReach}
+use Rattle.flags.specs.Inner.Flags.{Reaching, lackingFlag, wantFlag, bannedFlag}
 use Rattle.flags.proofs.FlagLaws.{written-self, written-at, written-same, written-over, written-part, written-join, track-level}
 
 -- ---------------------------------------------------------------- forbidden facts
@@ -34,8 +35,8 @@ banned-same b w a v =
     rw (wants-front b) (sym (any-front (λ x. eqb (x .attr .0) a && not (member (x .set) v)) noWant (b .query .wants) (b .query .q) (omega (arith, w .few, w .room))))
 
 -- What the set of an attribute lacks is added at its values.
-pub want-added : {before x : List Bool} (w : Want) → w .attr .0 < 8 → Written before (16 * w .attr .0) (lackingFlag before (16 * w .attr .0) (w .set)) 16 x
-    → Written before 0 (wantFlag before w) 128 x
+pub want-added : {before x : List Bool} (w : Want) → w .attr .0 < 8 → FlagsWritten before (16 * w .attr .0) (lackingFlag before (16 * w .attr .0) (w .set)) 16 x
+    → FlagsWritten before 0 (wantFlag before w) 128 x
 want-added {before} w h v =
     written-part (16 * w .attr .0) (wantFlag before w) (written-self before 128) v (omega arith) (omega arith)
     (λ f l. other f (λ (e : w .attr .0 ≡ f / 16). omega arith))
@@ -49,18 +50,18 @@ want-added {before} w h v =
     other f ne = sym (rw (ne-eqb (w .attr .0) (f / 16) ne) (or-false (getD before f false)))
 
 -- A level has eight attributes.
-pub want-past : (before : List Bool) (w : Want) → 8 ≤ w .attr .0 → Written before 0 (wantFlag before w) 128 before
+pub want-past : (before : List Bool) (w : Want) → 8 ≤ w .attr .0 → FlagsWritten before 0 (wantFlag before w) 128 before
 want-past before w h =
     written-same (written-self before 128)
     (λ f l. sym (rw (ne-eqb (w .attr .0) (f / 16) (λ (e : w .attr .0 ≡ f / 16). omega arith)) (or-false (getD before f false))))
 
 -- At first no set is looked at.
-pub banned-none : (before : List Bool) (q : Query) → Written before 0 (bannedFlag before q 0) 128 before
+pub banned-none : (before : List Bool) (q : Query) → FlagsWritten before 0 (bannedFlag before q 0) 128 before
 banned-none before q = written-same (written-self before 128) (λ f l. sym (rw (any-zero (lacksValue q (f / 16) (f % 16))) (or-false (getD before f false))))
 
 -- One set more.
-pub banned-more : {before x y : List Bool} (q : Query) (j : ℕ) → Written before 0 (bannedFlag before q j) 128 x → Written x 0 (wantFlag x (wantOf q j)) 128 y
-    → Written before 0 (bannedFlag before q (j + 1)) 128 y
+pub banned-more : {before x y : List Bool} (q : Query) (j : ℕ) → FlagsWritten before 0 (bannedFlag before q j) 128 x → FlagsWritten x 0 (wantFlag x (wantOf q j)) 128 y
+    → FlagsWritten before 0 (bannedFlag before q (j + 1)) 128 y
 banned-more {before} {x} q j w v =
     written-over w
     (written-same v
@@ -69,14 +70,14 @@ banned-more {before} {x} q j w v =
     ∙ or-assoc (getD before f false) (anyBelow (lacksValue q (f / 16) (f % 16)) j) (lacksValue q (f / 16) (f % 16) j)
     ∙ rw (add-one, any-step (lacksValue q (f / 16) (f % 16)) j)))
 
-module _ (q : Query) (crews k : ℕ) (below : Bool) {before x : List Bool} (clear : Written before 0 (λ _. false) 160 x) where
+module _ (q : Query) (crews k : ℕ) (below : Bool) {before x : List Bool} (clear : FlagsWritten before 0 (λ _. false) 160 x) where
   -- Mode 01 forbids nothing.
-  pub bad-none : q .mode ≡ 1 → Written before 0 (badFlag q crews k below) 160 x
+  pub bad-none : q .mode ≡ 1 → FlagsWritten before 0 (badFlag q crews k below) 160 x
   unfolding badFlag
   bad-none e = written-same clear (λ f l. sym (rw (eq-eqb (q .mode) 1 e) (and-false (hasFact crews k f))))
 
   -- Of a crew that is not below a listed one nothing is forbidden.
-  pub bad-apart : k < crews → below ≡ false → Written before 0 (badFlag q crews k below) 160 x
+  pub bad-apart : k < crews → below ≡ false → FlagsWritten before 0 (badFlag q crews k below) 160 x
   unfolding badFlag forbidFlag
   bad-apart low off =
       written-same clear
@@ -84,8 +85,8 @@ module _ (q : Query) (crews k : ℕ) (below : Bool) {before x : List Bool} (clea
       (rw (lt-ltb k crews low, off, and-false (bannedValue q (f / 16) (f % 16)), and-false (not (eqb (q .mode) 1))) (and-false (hasFact crews k f))))
 
   -- A crew below a listed one: the banned values.
-  pub bad-crew : {y : List Bool} → (q .mode ≡ 1 → ⊥) → k < crews → below ≡ true → Written x 0 (bannedFlag x q (q .q)) 128 y
-      → Written before 0 (badFlag q crews k below) 160 y
+  pub bad-crew : {y : List Bool} → (q .mode ≡ 1 → ⊥) → k < crews → below ≡ true → FlagsWritten x 0 (bannedFlag x q (q .q)) 128 y
+      → FlagsWritten before 0 (badFlag q crews k below) 160 y
   unfolding badFlag forbidFlag hasFact
   bad-crew two low on values =
       written-part 0 (badFlag q crews k below) clear values refl (omega arith) (λ f l. absurd (omega arith))
@@ -95,8 +96,8 @@ module _ (q : Query) (crews k : ℕ) (below : Bool) {before x : List Bool} (clea
       (λ f m l. rw (lt-ltb k crews low, le-ltb f 128 m))
 
   -- The person: the banned values, and the crews that are not listed.
-  pub bad-person : {y z : List Bool} → (q .mode ≡ 1 → ⊥) → crews ≤ k → Written x 0 (bannedFlag x q (q .q)) 128 y
-      → Written y 128 (lackingFlag y 128 (q .crews)) 32 z → Written before 0 (badFlag q crews k below) 160 z
+  pub bad-person : {y z : List Bool} → (q .mode ≡ 1 → ⊥) → crews ≤ k → FlagsWritten x 0 (bannedFlag x q (q .q)) 128 y
+      → FlagsWritten y 128 (lackingFlag y 128 (q .crews)) 32 z → FlagsWritten before 0 (badFlag q crews k below) 160 z
   unfolding badFlag forbidFlag hasFact
   bad-person two high values listed =
       written-over clear
@@ -133,7 +134,7 @@ module _ (b : Contents) (w : SmallWants (b .query)) (k : ℕ) (below : Bool) (h 
       ∙ sym (track-level b (forbidden b) k f h l)
 
   -- All 160 flags written are the forbidden facts.
-  pub bad-all : {before x : List Bool} → length before ≡ 160 → Written before 0 (badFlag (b .query) (b .sizes .crews) k below) 160 x → BadFlags b k x
+  pub bad-all : {before x : List Bool} → length before ≡ 160 → FlagsWritten before 0 (badFlag (b .query) (b .sizes .crews) k below) 160 x → BadFlags b k x
   bad-all {before} {x} size v = record {
     size = v .size ∙ size;
     at = λ f l. written-at v f l ∙ bad-same f l;

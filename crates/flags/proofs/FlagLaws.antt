@@ -19,22 +19,23 @@ use Rattle.facts.specs.declared.Fact.the-variants.{Holds, Member}
 use Rattle.frames.specs.declared.Book.{Book}
 use Rattle.frames.specs.Book.{Contents, contentsOf}
 use Rattle.lines.specs.Digits.{byteAt}
-use Rattle.frames.specs.Fits.{Admitted}
-use Rattle.inherit.specs.Inheritance.{isJunior, anyBelow}
-use Rattle.inherit.proofs.InheritanceLaws.{any-zero, any-step}
-use Rattle.reach.specs.Tracked.{personLevel, factAt, isNumber, track}
-use Rattle.flags.specs.Flags.{Written, hasFact, factIn, startFlag, StartFlags, juniorHas, addedFlag, CrewTable, PersonTable, rowFlag, FilledRow, FirstRows, SmallWants}
-use Rattle.flags.specs.Inner.{valueAt}
+use Rattle.frames.specs.Inner.Fits.{Admitted}
+use Rattle.inherit.specs.Inheritance.{isJunior}
+use Rattle.quantifiers.specs.Quantifiers.{anyBelow}
+use Rattle.quantifiers.proofs.BelowLaws.{any-zero, any-step}
+use Rattle.reach.specs.Inner.Tracked.{personLevel, factAt, isNumber, track}
+use Rattle.flags.specs.Inner.Flags.{FlagsWritten, hasFact, factIn, startFlag, StartFlags, juniorHas, addedFlag, CrewTable, PersonTable, rowFlag, FilledRow}
+use Rattle.flags.specs.Inner.Flags.{FirstRows, SmallWants, valueAt}
 
 -- ---------------------------------------------------------------- flags written one by one
 
 -- Nothing is written yet.
-pub written-none : (x : List Bool) (base : ℕ) (p : ℕ → Bool) → Written x base p 0 x
+pub written-none : (x : List Bool) (base : ℕ) (p : ℕ → Bool) → FlagsWritten x base p 0 x
 written-none x base p = record { size = refl; at = λ f l. absurd (omega arith); below = λ j l. refl; above = λ j l. refl }
 
 -- One more is written, at the next place n.
-pub written-more : {before x : List Bool} {base i : ℕ} {p : ℕ → Bool} (v : Bool) (n : ℕ) → Written before base p i x → n ≡ base + i → n < length before → v ≡ p i
-    → Written before base p (i + 1) (set x n v)
+pub written-more : {before x : List Bool} {base i : ℕ} {p : ℕ → Bool} (v : Bool) (n : ℕ) → FlagsWritten before base p i x → n ≡ base + i → n < length before → v ≡ p i
+    → FlagsWritten before base p (i + 1) (set x n v)
 written-more {before} {x} {base} {i} {p} v n w z h e = record {
   size = simp length-set (w .size);
   at = λ f l. dite (ℕ-discrete f i)
@@ -45,32 +46,32 @@ written-more {before} {x} {base} {i} {p} v n w z h e = record {
 }
 
 -- The count may be named otherwise.
-pub written-end : {before x : List Bool} {base i n : ℕ} {p : ℕ → Bool} → Written before base p i x → i ≡ n → Written before base p n x
+pub written-end : {before x : List Bool} {base i n : ℕ} {p : ℕ → Bool} → FlagsWritten before base p i x → i ≡ n → FlagsWritten before base p n x
 written-end w e = rw e at w
 
 -- The flags may be named otherwise.
-pub written-same : {before x : List Bool} {base i : ℕ} {p q : ℕ → Bool} → Written before base p i x → ((f : ℕ) → f < i → p f ≡ q f) → Written before base q i x
+pub written-same : {before x : List Bool} {base i : ℕ} {p q : ℕ → Bool} → FlagsWritten before base p i x → ((f : ℕ) → f < i → p f ≡ q f) → FlagsWritten before base q i x
 written-same w h = record { size = w .size; at = λ f l. w .at f l ∙ h f l; below = w .below; above = w .above }
 
 -- Flags written over others.
-pub written-over : {before x y : List Bool} {base i : ℕ} {p q : ℕ → Bool} → Written before base p i x → Written x base q i y → Written before base q i y
+pub written-over : {before x y : List Bool} {base i : ℕ} {p q : ℕ → Bool} → FlagsWritten before base p i x → FlagsWritten x base q i y → FlagsWritten before base q i y
 written-over w v = record { size = v .size ∙ w .size; at = v .at; below = λ j l. v .below j l ∙ w .below j l; above = λ j l. v .above j l ∙ w .above j l }
 
 -- What was written stands.
-pub written-now : {before x : List Bool} {base i : ℕ} {p : ℕ → Bool} → Written before base p i x → Written x base p i x
+pub written-now : {before x : List Bool} {base i : ℕ} {p : ℕ → Bool} → FlagsWritten before base p i x → FlagsWritten x base p i x
 written-now w = record { size = refl; at = w .at; below = λ j l. refl; above = λ j l. refl }
 
 -- What nothing is written over stays.
-pub written-self : (x : List Bool) (n : ℕ) → Written x 0 (λ f. getD x f false) n x
+pub written-self : (x : List Bool) (n : ℕ) → FlagsWritten x 0 (λ f. getD x f false) n x
 written-self x n = record { size = refl; at = λ f l. let z : 0 + f ≡ f = omega arith in ap (λ j. getD x j false) z; below = λ j l. refl; above = λ j l. refl }
 
 -- A flag of those written from place 0 on.
-pub written-at : {before x : List Bool} {n : ℕ} {p : ℕ → Bool} → Written before 0 p n x → (f : ℕ) → f < n → getD x f false ≡ p f
+pub written-at : {before x : List Bool} {n : ℕ} {p : ℕ → Bool} → FlagsWritten before 0 p n x → (f : ℕ) → f < n → getD x f false ≡ p f
 written-at {before} {x} w f l = let z : 0 + f ≡ f = omega arith in ap (λ j. getD x j false) (sym z) ∙ w .at f l
 
 -- Flags written behind others.
-pub written-join : {before x y : List Bool} {base i m n : ℕ} {p q : ℕ → Bool} (r : ℕ → Bool) → Written before base p i x → Written x m q n y → m ≡ base + i
-    → ((f : ℕ) → f < i → p f ≡ r f) → ((f : ℕ) → f < n → q f ≡ r (i + f)) → Written before base r (i + n) y
+pub written-join : {before x y : List Bool} {base i m n : ℕ} {p q : ℕ → Bool} (r : ℕ → Bool) → FlagsWritten before base p i x → FlagsWritten x m q n y → m ≡ base + i
+    → ((f : ℕ) → f < i → p f ≡ r f) → ((f : ℕ) → f < n → q f ≡ r (i + f)) → FlagsWritten before base r (i + n) y
 written-join {before} {x} {y} {base} {i} {m} {n} {p} {q} r w v e front back = record {
   size = v .size ∙ w .size;
   at = λ f l. dite (decLt f i)
@@ -85,8 +86,8 @@ written-join {before} {x} {y} {base} {i} {m} {n} {p} {q} r w v e front back = re
 
 -- Flags written over a part of others, from flag j of them on.
 pub written-part : {before x y : List Bool} {base n m i : ℕ} {p q : ℕ → Bool} (j : ℕ) (r : ℕ → Bool)
-    → Written before base p n x → Written x m q i y → m ≡ base + j → j + i ≤ n
-    → ((f : ℕ) → f < j → p f ≡ r f) → ((f : ℕ) → f < i → q f ≡ r (j + f)) → ((f : ℕ) → j + i ≤ f → f < n → p f ≡ r f) → Written before base r n y
+    → FlagsWritten before base p n x → FlagsWritten x m q i y → m ≡ base + j → j + i ≤ n
+    → ((f : ℕ) → f < j → p f ≡ r f) → ((f : ℕ) → f < i → q f ≡ r (j + f)) → ((f : ℕ) → j + i ≤ f → f < n → p f ≡ r f) → FlagsWritten before base r n y
 written-part {before} {x} {y} {base} {n} {m} {i} {p} {q} j r w v e room front part back = record {
   size = v .size ∙ w .size;
   at = λ f l. dite (decLt f j)
@@ -103,8 +104,8 @@ written-part {before} {x} {y} {base} {n} {m} {i} {p} {q} j r w v e room front pa
 
 -- One flag, flag j, set over others.
 pub written-set : {before x : List Bool} {base n : ℕ} {p : ℕ → Bool} (j m : ℕ) (v : Bool) (r : ℕ → Bool)
-    → Written before base p n x → m ≡ base + j → j < n → m < length before
-    → v ≡ r j → ((f : ℕ) → f < n → (f ≡ j → ⊥) → p f ≡ r f) → Written before base r n (set x m v)
+    → FlagsWritten before base p n x → m ≡ base + j → j < n → m < length before
+    → v ≡ r j → ((f : ℕ) → f < n → (f ≡ j → ⊥) → p f ≡ r f) → FlagsWritten before base r n (set x m v)
 written-set {before} {x} {base} {n} {p} j m v r w e h inside own others = record {
   size = simp length-set (w .size);
   at = λ f l. dite (ℕ-discrete f j)
@@ -130,15 +131,15 @@ track-level b F k f h l =
 
 -- All 160 flags written are the level's starting facts.
 pub start-flags : (b : Book) {k : ℕ} {facts : List ℕ} {before s : List Bool} → facts ≡ b .facts → k ≤ b .sizes .crews → length before ≡ 160
-    → Written before 0 (startFlag facts (b .sizes .crews) (b .query .person) k) 160 s → StartFlags (contentsOf b) k s
+    → FlagsWritten before 0 (startFlag facts (b .sizes .crews) (b .query .person) k) 160 s → StartFlags (contentsOf b) k s
 unfolding startFlag contentsOf
 start-flags b {k} {facts} {before} {s} same h e w =
-    let own = subst (λ (x : List ℕ). Written before 0 (startFlag x (b .sizes .crews) (b .query .person) k) 160 s) same w in
+    let own = subst (λ (x : List ℕ). FlagsWritten before 0 (startFlag x (b .sizes .crews) (b .query .person) k) 160 s) same w in
     record { size = own .size ∙ e; at = λ f l. written-at own f l ∙ sym (track-level (contentsOf b) (holds (b .facts)) k f h l) }
 
 -- Eight numbers more of a set in bytes: those of byte m from its end.
-pub set-more : {before x y : List Bool} (facts : List ℕ) (place at m w : ℕ) → m < w → Written before at (memberAt facts place w) (8 * m) x
-    → Written x (at + 8 * m) (member (byteAt facts (place + (w - 1 - m)))) 8 y → Written before at (memberAt facts place w) (8 * (m + 1)) y
+pub set-more : {before x y : List Bool} (facts : List ℕ) (place at m w : ℕ) → m < w → FlagsWritten before at (memberAt facts place w) (8 * m) x
+    → FlagsWritten x (at + 8 * m) (member (byteAt facts (place + (w - 1 - m)))) 8 y → FlagsWritten before at (memberAt facts place w) (8 * (m + 1)) y
 unfolding memberAt byteAt
 set-more facts place at m w h front byte =
     written-end
@@ -150,8 +151,8 @@ set-more facts place at m w h front byte =
     (omega arith)
 
 -- One attribute more.
-pub values-more : {before x y : List Bool} (facts : List ℕ) (place a : ℕ) → Written before 0 (valueAt facts place) (16 * a) x
-    → Written x (16 * a) (memberAt facts (place + 2 * a) 2) (8 * 2) y → Written before 0 (valueAt facts place) (16 * (a + 1)) y
+pub values-more : {before x y : List Bool} (facts : List ℕ) (place a : ℕ) → FlagsWritten before 0 (valueAt facts place) (16 * a) x
+    → FlagsWritten x (16 * a) (memberAt facts (place + 2 * a) 2) (8 * 2) y → FlagsWritten before 0 (valueAt facts place) (16 * (a + 1)) y
 unfolding valueAt
 values-more facts place a front more =
     written-end
@@ -162,15 +163,15 @@ values-more facts place a front more =
     rw (d, r)))
     (omega arith)
 
-module _ (facts : List ℕ) (crews : ℕ) (person : Person) (k : ℕ) {before s : List Bool} (clear : Written before 0 (λ _. false) 160 s) where
+module _ (facts : List ℕ) (crews : ℕ) (person : Person) (k : ℕ) {before s : List Bool} (clear : FlagsWritten before 0 (λ _. false) 160 s) where
   -- A crew without a place in the ledger has no values.
-  pub start-no-crew : k < crews → 32 ≤ k → Written before 0 (startFlag facts crews person k) 160 s
+  pub start-no-crew : k < crews → 32 ≤ k → FlagsWritten before 0 (startFlag facts crews person k) 160 s
   unfolding startFlag hasFact factIn holds fits
   start-no-crew low out = written-same clear (λ f l. sym (rw (lt-ltb k crews low, le-ltb k 32 out) (and-false (ltb f 128))))
 
   -- A crew has its values, and no memberships.
-  pub start-crew : {x : List Bool} → k < crews → k < 32 → Written s 0 (valueAt facts (1024 + 16 * k)) 128 x
-      → Written before 0 (startFlag facts crews person k) 160 x
+  pub start-crew : {x : List Bool} → k < crews → k < 32 → FlagsWritten s 0 (valueAt facts (1024 + 16 * k)) 128 x
+      → FlagsWritten before 0 (startFlag facts crews person k) 160 x
   unfolding startFlag hasFact factIn valueAt holds fits setAt setWidth memberOf
   start-crew low h values =
       written-part 0 (startFlag facts crews person k) clear values refl (omega arith) (λ f l. absurd (omega arith))
@@ -179,7 +180,7 @@ module _ (facts : List ℕ) (crews : ℕ) (person : Person) (k : ℕ) {before s 
       (λ f m l. rw (lt-ltb k crews low, le-ltb f 128 m))
 
   -- A person without a place in the ledger has nothing.
-  pub start-no-person : crews ≤ k → 64 ≤ person .0 → Written before 0 (startFlag facts crews person k) 160 s
+  pub start-no-person : crews ≤ k → 64 ≤ person .0 → FlagsWritten before 0 (startFlag facts crews person k) 160 s
   unfolding startFlag hasFact factIn holds fits
   start-no-person high out = written-same clear (λ f l. rw (le-ltb k crews high) (sym (nothing f)))
     where
@@ -190,8 +191,8 @@ module _ (facts : List ℕ) (crews : ℕ) (person : Person) (k : ℕ) {before s 
           (λ (l : f < 128 → ⊥). rw (le-ltb f 128 (omega arith), le-ltb (person .0) 64 out))
 
   -- A person has values and memberships.
-  pub start-person : {x y : List Bool} → crews ≤ k → person .0 < 64 → Written s 0 (valueAt facts (16 * person .0)) 128 x
-      → Written x 128 (memberAt facts (1536 + 4 * person .0) 4) (8 * 4) y → Written before 0 (startFlag facts crews person k) 160 y
+  pub start-person : {x y : List Bool} → crews ≤ k → person .0 < 64 → FlagsWritten s 0 (valueAt facts (16 * person .0)) 128 x
+      → FlagsWritten x 128 (memberAt facts (1536 + 4 * person .0) 4) (8 * 4) y → FlagsWritten before 0 (startFlag facts crews person k) 160 y
   unfolding startFlag hasFact factIn valueAt holds fits setAt setWidth memberOf
   start-person high h values crewSet =
       written-over clear
@@ -208,25 +209,25 @@ juniorsBelow js k rows j f = anyBelow (juniorHas js k rows f) j
 
 module _ (js : List ℕ) (k : ℕ) (rows : List Bool) {before : List Bool} where
   -- At first nothing, from no junior.
-  pub juniors-none : {x : List Bool} → Written before 5120 (λ _. false) 160 x → Written x 5120 (juniorsBelow js k rows 0) 160 x
+  pub juniors-none : {x : List Bool} → FlagsWritten before 5120 (λ _. false) 160 x → FlagsWritten x 5120 (juniorsBelow js k rows 0) 160 x
   juniors-none w = written-now (written-same w (λ f l. sym (any-zero (juniorHas js k rows f))))
 
   -- A direct junior's row is added.
-  pub juniors-add : {x y : List Bool} (j : ℕ) → isJunior js k j ≡ true → Written before 5120 (juniorsBelow js k rows j) 160 x → Written x 5120 (addedFlag rows j x) 160 y
-      → Written before 5120 (juniorsBelow js k rows (j + 1)) 160 y
+  pub juniors-add : {x y : List Bool} (j : ℕ) → isJunior js k j ≡ true → FlagsWritten before 5120 (juniorsBelow js k rows j) 160 x → FlagsWritten x 5120 (addedFlag rows j x) 160 y
+      → FlagsWritten before 5120 (juniorsBelow js k rows (j + 1)) 160 y
   juniors-add j e w v = written-over w (written-same v (λ f l. rw (w .at f l, add-one, any-step (juniorHas js k rows f) j, e) refl))
 
   -- Any other crew's is not.
-  pub juniors-skip : {x : List Bool} (j : ℕ) → isJunior js k j ≡ false → Written before 5120 (juniorsBelow js k rows j) 160 x → Written before 5120 (juniorsBelow js k rows (j + 1)) 160 x
+  pub juniors-skip : {x : List Bool} (j : ℕ) → isJunior js k j ≡ false → FlagsWritten before 5120 (juniorsBelow js k rows j) 160 x → FlagsWritten before 5120 (juniorsBelow js k rows (j + 1)) 160 x
   juniors-skip j e w = written-same w (λ f l. sym (rw (add-one, any-step (juniorHas js k rows f) j, e) (or-false (anyBelow (juniorHas js k rows f) j))))
 
   -- What the last row says when all juniors are looked at.
-  pub crew-table-all : {table : List Bool} → length before ≡ 5280 → Written before 5120 (juniorsBelow js k rows k) 160 table → CrewTable js k rows before table
+  pub crew-table-all : {table : List Bool} → length before ≡ 5280 → FlagsWritten before 5120 (juniorsBelow js k rows k) 160 table → CrewTable js k rows before table
   crew-table-all e w = record { size = w .size ∙ e; kept = w .below; last = w .at }
 
 -- The rows are copied, and nothing is in the row behind them.
 pub person-table-all : {rows before x table : List Bool} → length before ≡ 5280
-    → Written before 0 (λ i. getD rows (0 + i) false) 5120 x → Written x 5120 (λ _. false) 160 table → PersonTable rows table
+    → FlagsWritten before 0 (λ i. getD rows (0 + i) false) 5120 x → FlagsWritten x 5120 (λ _. false) 160 table → PersonTable rows table
 person-table-all {rows} {before} {x} {table} e w v = record {
   size = v .size ∙ w .size ∙ e;
   same = λ j l. let z : 0 + j ≡ j = omega arith in v .below j l ∙ written-at w j l ∙ ap (λ i. getD rows i false) z;
@@ -237,8 +238,8 @@ person-table-all {rows} {before} {x} {table} e w v = record {
 
 -- The values and the crews are copied to row k, and its own crew is set.
 pub row-all : (x table : List Bool) {before y z : List Bool} (k : ℕ) → k < 32 → length before ≡ 5120
-    → Written before (160 * k) (λ f. getD x (160 + f) false) 128 y
-    → Written y (160 * k + 128) (λ f. getD table (5248 + f) false) 32 z → Written before (160 * k) (rowFlag table k x) 160 (set z (160 * k + (128 + k)) true)
+    → FlagsWritten before (160 * k) (λ f. getD x (160 + f) false) 128 y
+    → FlagsWritten y (160 * k + 128) (λ f. getD table (5248 + f) false) 32 z → FlagsWritten before (160 * k) (rowFlag table k x) 160 (set z (160 * k + (128 + k)) true)
 unfolding rowFlag
 row-all x table k h e values crews =
     written-set (128 + k) (160 * k + (128 + k)) true (rowFlag table k x)
@@ -257,7 +258,7 @@ row-all x table k h e values crews =
 
 -- What row k says where all of it is written.
 pub filled-row : {js : List ℕ} {k : ℕ} {x before old table rows : List Bool} → length before ≡ 5120 → CrewTable js k before old table
-    → Written before (160 * k) (rowFlag table k x) 160 rows → FilledRow js k x before rows
+    → FlagsWritten before (160 * k) (rowFlag table k x) 160 rows → FilledRow js k x before rows
 unfolding rowFlag
 filled-row {js} {k} {x} {before} {old} {table} {rows} e t w = record {
   size = w .size ∙ e;
@@ -276,12 +277,12 @@ abbrev pub isOwnBelow : ℕ → ℕ → Bool
 isOwnBelow c i = ltb (i / 160) c && isOwn i
 
 -- At first in none.
-pub own-none : {before x : List Bool} → Written before 0 (λ _. false) 5120 x → Written x 0 (isOwnBelow 0) 5120 x
+pub own-none : {before x : List Bool} → FlagsWritten before 0 (λ _. false) 5120 x → FlagsWritten x 0 (isOwnBelow 0) 5120 x
 own-none w = written-now (written-same w (λ i l. rw (le-ltb (i / 160) 0 (omega arith))))
 
 -- One row more.
-pub own-more : {before x : List Bool} (c : ℕ) → c < 32 → length before ≡ 5120 → Written before 0 (isOwnBelow c) 5120 x
-    → Written before 0 (isOwnBelow (c + 1)) 5120 (set x (161 * c + 128) true)
+pub own-more : {before x : List Bool} (c : ℕ) → c < 32 → length before ≡ 5120 → FlagsWritten before 0 (isOwnBelow c) 5120 x
+    → FlagsWritten before 0 (isOwnBelow (c + 1)) 5120 (set x (161 * c + 128) true)
 own-more c h e w =
     written-set (161 * c + 128) (161 * c + 128) true (isOwnBelow (c + 1)) w (omega arith) (omega arith) (omega arith)
     (let d : (161 * c + 128) / 160 ≡ c = omega arith in
@@ -299,7 +300,7 @@ own-more c h e w =
     ))))
 
 -- What the rows say where all 32 have their own crew.
-pub first-rows-all : {before rows : List Bool} → length before ≡ 5120 → Written before 0 (isOwnBelow 32) 5120 rows → FirstRows rows
+pub first-rows-all : {before rows : List Bool} → length before ≡ 5120 → FlagsWritten before 0 (isOwnBelow 32) 5120 rows → FirstRows rows
 first-rows-all {before} {rows} e w = record {
   size = w .size ∙ e;
   at = λ c h f l.

@@ -7,10 +7,10 @@ ghost use Prim.Native.Nat.{_+_, _*_, _≤_, _<_};
 ghost use lib.ListN.{length, getD};
 ghost use Rattle.sets.specs.Sets.{member, memberAt};
 ghost use Rattle.frames.specs.Book.{contentsOf};
-ghost use Rattle.flags.specs.Flags.{Written, startFlag, addedFlag, CrewTable, PersonTable, rowFlag, FirstRows};
-ghost use Rattle.flags.specs.Flags.{SmallWants, badFlag, listedReach, Reaching};
-ghost use Rattle.flags.specs.Inner.{valueAt, lackingFlag, wantFlag, bannedFlag};
-ghost use Rattle.reach.specs.Goal.{belowListed};
+ghost use Rattle.flags.specs.Inner.Flags.{FlagsWritten, startFlag, addedFlag, CrewTable, PersonTable, rowFlag, FirstRows};
+ghost use Rattle.flags.specs.Inner.Flags.{SmallWants, badFlag, listedReach, Reaching};
+ghost use Rattle.flags.specs.Inner.Flags.{valueAt, lackingFlag, wantFlag, bannedFlag};
+ghost use Rattle.reach.specs.Inner.Goal.{belowListed};
 use facts::Person;
 use frames::Book;
 use frames::Query;
@@ -19,7 +19,7 @@ use frames::Want;
 // Clears n flags from a place on.
 fn clear_flags(s: &mut [bool], at: usize, n: usize)
     requires { ⌜ at + n ≤ length (now s) ⌝ }
-    ensures { λ _. ⌜ Written (now (s .entry)) at (λ _. false) n (now (s .exit)) ⌝ }
+    ensures { λ _. ⌜ FlagsWritten (now (s .entry)) at (λ _. false) n (now (s .exit)) ⌝ }
 {
     let mut f: usize = 0;
     while f < n {
@@ -31,7 +31,7 @@ fn clear_flags(s: &mut [bool], at: usize, n: usize)
 // Copies n flags from a place of one list to a place of another.
 fn copy_flags(src: &[bool], from: usize, n: usize, dst: &mut [bool], to: usize)
     requires { ⌜ (from + n ≤ length (now src)) × (to + n ≤ length (now dst)) ⌝ }
-    ensures { λ _. ⌜ Written (now (dst .entry)) to (λ f. getD (now (src .entry)) (from + f) false) n (now (dst .exit)) ⌝ }
+    ensures { λ _. ⌜ FlagsWritten (now (dst .entry)) to (λ f. getD (now (src .entry)) (from + f) false) n (now (dst .exit)) ⌝ }
 {
     let mut f: usize = 0;
     while f < n {
@@ -43,7 +43,7 @@ fn copy_flags(src: &[bool], from: usize, n: usize, dst: &mut [bool], to: usize)
 // Writes n flags from a place on: whether each number below n is a member of the set.
 fn write_bits(x: u32, n: usize, s: &mut [bool], at: usize)
     requires { ⌜ (n ≤ 32) × (at + n ≤ length (now s)) ⌝ }
-    ensures { λ _. ⌜ Written (now (s .entry)) at (member x) n (now (s .exit)) ⌝ }
+    ensures { λ _. ⌜ FlagsWritten (now (s .entry)) at (member x) n (now (s .exit)) ⌝ }
 {
     let mut v: usize = 0;
     while v < n {
@@ -55,7 +55,7 @@ fn write_bits(x: u32, n: usize, s: &mut [bool], at: usize)
 // Writes a flag for each number of the set of w bytes at a place of the ledger.
 fn write_set(facts: &[u8], place: usize, w: usize, s: &mut [bool], at: usize)
     requires { ⌜ (place < 65536) × ((w ≤ 4) × (at + 8 * w ≤ length (now s))) ⌝ }
-    ensures { λ _. ⌜ Written (now (s .entry)) at (memberAt (now (facts .entry)) place w) (8 * w) (now (s .exit)) ⌝ }
+    ensures { λ _. ⌜ FlagsWritten (now (s .entry)) at (memberAt (now (facts .entry)) place w) (8 * w) (now (s .exit)) ⌝ }
 {
     let mut m: usize = 0;
     while m < w {
@@ -68,7 +68,7 @@ fn write_set(facts: &[u8], place: usize, w: usize, s: &mut [bool], at: usize)
 // Writes the values of the eight attributes at a place of the ledger.
 fn write_values(facts: &[u8], place: usize, s: &mut [bool])
     requires { ⌜ (place < 32768) × (length (now s) ≡ 160) ⌝ }
-    ensures { λ _. ⌜ Written (now (s .entry)) 0 (valueAt (now (facts .entry)) place) 128 (now (s .exit)) ⌝ }
+    ensures { λ _. ⌜ FlagsWritten (now (s .entry)) 0 (valueAt (now (facts .entry)) place) 128 (now (s .exit)) ⌝ }
 {
     let mut a: usize = 0;
     while a < 8 {
@@ -80,7 +80,7 @@ fn write_values(facts: &[u8], place: usize, s: &mut [bool])
 // The starting facts of level k.
 pub fn start_flags(facts: &[u8], crews: u8, person: Person, k: u8, s: &mut [bool])
     requires { ⌜ length (now s) ≡ 160 ⌝ }
-    ensures { λ _. ⌜ Written (now (s .entry)) 0 (startFlag (now (facts .entry)) crews person k) 160 (now (s .exit)) ⌝ }
+    ensures { λ _. ⌜ FlagsWritten (now (s .entry)) 0 (startFlag (now (facts .entry)) crews person k) 160 (now (s .exit)) ⌝ }
 {
     clear_flags(s, 0, 160);
     if k < crews {
@@ -101,7 +101,7 @@ pub fn start_flags(facts: &[u8], crews: u8, person: Person, k: u8, s: &mut [bool
 // Adds row j of the crews to row 32 of the table.
 fn add_last(rows: &[bool], j: u8, table: &mut [bool])
     requires { ⌜ (j < 32) × ((length (now rows) ≡ 5120) × (length (now table) ≡ 5280)) ⌝ }
-    ensures { λ _. ⌜ Written (now (table .entry)) 5120 (addedFlag (now (rows .entry)) j (now (table .entry))) 160 (now (table .exit)) ⌝ }
+    ensures { λ _. ⌜ FlagsWritten (now (table .entry)) 5120 (addedFlag (now (rows .entry)) j (now (table .entry))) 160 (now (table .exit)) ⌝ }
 {
     let row = 160 * (j as usize);
     let mut f: usize = 0;
@@ -143,7 +143,7 @@ pub fn person_table(rows: &[bool], table: &mut [bool])
 // Fills crew k's row from the flags of its level and from the last row of its table.
 pub fn fill_row(table: &[bool], k: u8, x: &[bool], rows: &mut [bool])
     requires { ⌜ (k < 32) × ((length (now x) ≡ 320) × ((length (now table) ≡ 5280) × (length (now rows) ≡ 5120))) ⌝ }
-    ensures { λ _. ⌜ Written (now (rows .entry)) (160 * k) (rowFlag (now (table .entry)) k (now (x .entry))) 160 (now (rows .exit)) ⌝ }
+    ensures { λ _. ⌜ FlagsWritten (now (rows .entry)) (160 * k) (rowFlag (now (table .entry)) k (now (x .entry))) 160 (now (rows .exit)) ⌝ }
 {
     let own = k as usize;
     let row = 160 * own;
@@ -168,7 +168,7 @@ pub fn first_rows(rows: &mut [bool])
 // Adds to the n flags from a place on each number below n that the set lacks.
 fn add_lacking(x: u32, n: usize, s: &mut [bool], at: usize)
     requires { ⌜ (n ≤ 32) × (at + n ≤ length (now s)) ⌝ }
-    ensures { λ _. ⌜ Written (now (s .entry)) at (lackingFlag (now (s .entry)) at x) n (now (s .exit)) ⌝ }
+    ensures { λ _. ⌜ FlagsWritten (now (s .entry)) at (lackingFlag (now (s .entry)) at x) n (now (s .exit)) ⌝ }
 {
     let mut v: usize = 0;
     while v < n {
@@ -181,7 +181,7 @@ fn add_lacking(x: u32, n: usize, s: &mut [bool], at: usize)
 // Adds the values that a named set lacks.
 fn add_want(w: Want, bad: &mut [bool])
     requires { ⌜ length (now bad) ≡ 160 ⌝ }
-    ensures { λ _. ⌜ Written (now (bad .entry)) 0 (wantFlag (now (bad .entry)) w) 128 (now (bad .exit)) ⌝ }
+    ensures { λ _. ⌜ FlagsWritten (now (bad .entry)) 0 (wantFlag (now (bad .entry)) w) 128 (now (bad .exit)) ⌝ }
 {
     let a = w.attr.0 as usize;
     if a >= 8 {
@@ -193,7 +193,7 @@ fn add_want(w: Want, bad: &mut [bool])
 // Adds the values that some named set lacks.
 fn add_banned(q: Query, bad: &mut [bool])
     requires { ⌜ SmallWants q × (length (now bad) ≡ 160) ⌝ }
-    ensures { λ _. ⌜ Written (now (bad .entry)) 0 (bannedFlag (now (bad .entry)) q (q .q)) 128 (now (bad .exit)) ⌝ }
+    ensures { λ _. ⌜ FlagsWritten (now (bad .entry)) 0 (bannedFlag (now (bad .entry)) q (q .q)) 128 (now (bad .exit)) ⌝ }
 {
     let n = q.q;
     let mut j: u8 = 0;
@@ -207,7 +207,7 @@ fn add_banned(q: Query, bad: &mut [bool])
 // The facts of level k that the query forbids. At a crew's level `below` says whether the crew is listed or lies below a listed one.
 pub fn bad_flags(q: Query, crews: u8, k: u8, below: bool, bad: &mut [bool])
     requires { ⌜ SmallWants q × (length (now bad) ≡ 160) ⌝ }
-    ensures { λ _. ⌜ Written (now (bad .entry)) 0 (badFlag q crews k below) 160 (now (bad .exit)) ⌝ }
+    ensures { λ _. ⌜ FlagsWritten (now (bad .entry)) 0 (badFlag q crews k below) 160 (now (bad .exit)) ⌝ }
 {
     clear_flags(bad, 0, 160);
     if q.mode == 1 {

@@ -17,7 +17,7 @@ use Rattle.lines.proofs.DigitLaws.{well-long}
 use Rattle.lines.proofs.LineLaws.{line-ended, line-unended}
 use Rattle.lines.specs.declared.Frame.the-variants.{Malformed as NoFrame, Bytes, Long}
 use Rattle.reader.specs.declared.Read.{Read}
-use Rattle.reader.specs.Reading.{lineEnd, lineOf, FrameRead}
+use Rattle.reader.specs.Inner.Reading.{lineEnd, lineOf, FrameRead}
 use Rattle.reader.proofs.ReadLaws.{read-bytes, read-long, read-malformed}
 use Rattle.gate.specs.Gate.{verdict, lineVerdict}
 use Rattle.gate.specs.declared.Known.{Known}
@@ -30,11 +30,11 @@ use Rattle.gate.proofs.PassedLaws.{sizes-passed, edge-passed, rule-passed}
 use Rattle.frames.specs.declared.Rule.{Rule}
 use Rattle.frames.specs.declared.Query.{Query}
 use Rattle.frames.specs.declared.Refusal.the-variants.{BadLine}
-use Rattle.frames.specs.Book.{State, refused, accepted, contents, nothing, walk, enter}
+use Rattle.frames.specs.Book.{Entered, refused, accepted, contents, nothing, walk, enter}
 use Rattle.frames.specs.Book.{knownAfter, juniorsAfter, rulesAfter, factsAfter, queryAfter, ruleOf}
 
 -- The state that the reader's locals stand for.
-unfoldable pub held : Known → Query → List ℕ → List ℕ → List Rule → State
+unfoldable pub held : Known → Query → List ℕ → List ℕ → List Rule → Entered
 held k q m fs rs = record { known = k; juniors = m; rules = take (k .count) rs; facts = fs; query = q }
 
 -- The reader's invariant at place i, line l.
@@ -106,7 +106,7 @@ module _ (k : Known) (rs : List Rule) (x : List ℕ) (rs′ : List Rule) (room :
   unfolding knownAfter rulesAfter
   rules-other h other e = (rw (ne-eqb _ _ other, e) refl, (rw (ne-eqb _ _ other) h, ap length e ∙ room))
 
-module _ (s : State) (l : ℕ) (x : List ℕ) (ls : List Line) where
+module _ (s : Entered) (l : ℕ) (x : List ℕ) (ls : List Line) where
   walk-on : malformed x ≡ false → verdict (s .known) (frameOf x) ≡ Good → walk s l (ended x ∷ ls) ≡ walk (enter s (frameOf x)) (l + 1) ls
   unfolding walk lineVerdict
   walk-on m e = rw (m, e) refl

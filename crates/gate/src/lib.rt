@@ -5,7 +5,10 @@ ghost use lib.Dec.{ltb, eqb, leb};
 ghost use Prim.Native.Nat.{_+_, _-_, _*_, _<_, _≤_};
 ghost use lib.ListN.{length};
 ghost use Rattle.lines.specs.Digits.{byteAt};
-ghost use Rattle.gate.specs.Gate.{faultNumber, between, allBelow, valuesOf, isPerson, isCrew, isAttr, isValue, isCrewField, pairAt, quadAt, misplaced, lengthOf, mislengthed, sizesGood, sizesVerdict, edgeVerdict, headGood, termGood, termGoodAt, ruleGood, valueTermAt, foreign, ruleVerdict, factGood, factVerdict, wantGoodAt, crewsGood, queryGood, risesAt, queryVerdict, fieldsVerdict, verdict};
+ghost use Rattle.gate.specs.Gate.{faultNumber, between, valuesOf, isPerson, isCrew, isAttr, isValue, isCrewField, pairAt, quadAt, misplaced, lengthOf, mislengthed};
+ghost use Rattle.gate.specs.Gate.{sizesGood, sizesVerdict, edgeVerdict, headGood, termGood, termGoodAt, ruleGood, valueTermAt, foreign, ruleVerdict, factGood};
+ghost use Rattle.gate.specs.Gate.{factVerdict, wantGoodAt, crewsGood, queryGood, risesAt, queryVerdict, fieldsVerdict, verdict};
+ghost use Rattle.quantifiers.specs.Quantifiers.{allBelow};
 ghost use Rattle.gate.specs.Inner.Long.{dueLength, longFault};
 
 // How many persons, crews, attributes, and values of each attribute.

@@ -6,7 +6,7 @@ ghost use Rattle.facts.specs.Facts.{holds, putFact};
 ghost use Rattle.requests.specs.Requests.{adds};
 ghost use Rattle.gate.specs.Gate.{InRange};
 ghost use Rattle.frames.specs.Book.{contentsOf};
-ghost use Rattle.frames.specs.Fits.{Admitted};
+ghost use Rattle.frames.specs.Inner.Fits.{Admitted};
 ghost use Rattle.ledger.specs.Ledger.{refusalNumber, refusalLine, reply, openIn, openReply, allowed, requestIn, requestReply};
 ghost use Rattle.ledger.specs.Show.{setBelow, valueSet, valueSets, crewSet, hidden, showIn, showView, viewOf};
 ghost use Rattle.inherit.specs.Inheritance.{personHolds, personIn};

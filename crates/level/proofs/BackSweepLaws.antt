@@ -5,23 +5,25 @@ use mathlib.Core.List.{List}
 use Prim.Native.Nat.{ℕ, _+_, _-_, _≤_, _<_}
 use native.Mathlib.Omega.{arith}
 use lib.ListN.{length, getD}
-use Rattle.theory.specs.Facts.{put}
-use Rattle.theory.proofs.FactLaws.{count-le}
-use Rattle.theory.specs.Plan.{Ask}
+use Rattle.theory.specs.Inner.Facts.{update}
+use Rattle.quantifiers.proofs.BelowLaws.{count-le}
+use Rattle.theory.specs.Inner.Plan.{Ask}
 use Rattle.theory.proofs.PlanLaws.{deletions-count}
-use Rattle.theory.specs.Sweep.{PutBack}
+use Rattle.theory.specs.Inner.Sweep.{PutBack}
 use Rattle.theory.proofs.SweepLaws.{back-none, back-more, back-room}
-use Rattle.level.specs.Shown.{direct, Whole, Put, touches}
-use Rattle.level.proofs.ShownLaws.{shown-put, direct-low, put-direct, put-whole}
-use Rattle.level.specs.Moves.{Moves, all, placesOf, met, flagsWith, Fine, Sound, moveFrom, moveAt, askOf}
-use Rattle.level.specs.World.{world}
-use Rattle.level.proofs.MoveLaws.{met-flags, fact-stands}
-use Rattle.level.specs.Notes.{askAt, asks, Noted}
+use Rattle.level.specs.Inner.Shown.{direct, Whole, Put, touches}
+use Rattle.level.proofs.ShownLaws.{visible-put, direct-low, put-direct, put-whole}
+use Rattle.level.specs.Inner.Moves.{Moves, placesOf, moveShown, flagsWith, Fine, Sound, moveFrom, moveAt, askOf}
+use Rattle.quantifiers.specs.Quantifiers.{all}
+use Rattle.level.specs.Inner.World.{world}
+use Rattle.level.proofs.WorldLaws.{world-lawful}
+use Rattle.level.proofs.MoveLaws.{move-shown-flags, fact-stands}
+use Rattle.level.specs.Inner.Notes.{askAt, asks, Noted}
 use Rattle.level.proofs.NoteLaws.{asks-length, asks-front}
 use Rattle.level.proofs.TurnLaws.{Sweeping}
 use Rattle.level.proofs.SweepLaws.{listed-fine, all-three, first-of-three}
 use Rattle.level.specs.declared.Move.{Move}
-use Rattle.level.specs.BackSweep.{ClosedBack, ReadyBack, backsIn}
+use Rattle.level.specs.Inner.BackSweep.{ClosedBack, ReadyBack, backsIn}
 
 -- What the sweep keeps: the requests noted lead from `y` down to what of `x` is not forbidden, and those behind them stand.
 pub record KeptBack (ms : Moves) (p : ℕ) (T bad x y : List Bool) (end : ℕ) (out₀ out : List ℕ) (at : ℕ) : Type 0 where
@@ -36,10 +38,10 @@ abbrev pub Backing : (ms : Moves) (T x y : List Bool) (size tried i quiet : ℕ)
 Backing ms T x y = Sweeping (ms .count) (λ j. backsIn (moveAt ms j) T x y)
 
 -- Flags with a fact put in meet a move where the direct facts with that fact do.
-pub flags-with : {T x : List Bool} {m : Move} → Whole T x → Fine m → flagsWith m T x ≡ met T (put (direct x) (m .fact) true) m
+pub flags-with : {T x : List Bool} {m : Move} → Whole T x → Fine m → flagsWith m T x ≡ moveShown T (update (direct x) (m .fact) true) m
 unfolding flagsWith
-flags-with {T} {x} {m} w f = met-flags T (put (direct x) (m .fact) true) (λ k. getD x k false || touches T (m .fact) k) f
-    (λ k l. ap (λ b. b || touches T (m .fact) k) (w .shows k l) ∙ sym (shown-put T (direct x) (m .fact) k (f .fact)))
+flags-with {T} {x} {m} w f = move-shown-flags T (update (direct x) (m .fact) true) (λ k. getD x k false || touches T (m .fact) k) f
+    (λ k l. ap (λ b. b || touches T (m .fact) k) (w .shows k l) ∙ sym (visible-put T (direct x) (m .fact) k (f .fact)))
 
 -- Whether its terms hold, by the fact as it was read where the move stands.
 pub with-read : (xs : List ℕ) (at : ℕ) {f : ℕ} (T x : List Bool) → f ≡ getD xs at 0
@@ -58,12 +60,12 @@ unfolding backsIn
 backs-in m T x y f e = direct-low x (m .fact) (f .fact) ∙ all-three (getD y (m .fact) false) (getD x (m .fact) false) (flagsWith m T y) e .1
 
 -- What is put back may be deleted again.
-pub backs-met : (m : Move) (x : List Bool) {T y : List Bool} → Whole T y → Fine m → backsIn m T x y ≡ true → met T (put (direct y) (m .fact) true) m ≡ true
+pub backs-met : (m : Move) (x : List Bool) {T y : List Bool} → Whole T y → Fine m → backsIn m T x y ≡ true → moveShown T (update (direct y) (m .fact) true) m ≡ true
 unfolding backsIn
 backs-met m x {T} {y} w f e = sym (flags-with w f) ∙ all-three (getD y (m .fact) false) (getD x (m .fact) false) (flagsWith m T y) e .2
 
 -- A move that does not fire puts nothing back.
-pub backs-none : (m : Move) (x : List Bool) {T y : List Bool} → Whole T y → Fine m → backsIn m T x y ≡ false → direct x (m .fact) ≡ true → met T (put (direct y) (m .fact) true) m ≡ true → direct y (m .fact) ≡ true
+pub backs-none : (m : Move) (x : List Bool) {T y : List Bool} → Whole T y → Fine m → backsIn m T x y ≡ false → direct x (m .fact) ≡ true → moveShown T (update (direct y) (m .fact) true) m ≡ true → direct y (m .fact) ≡ true
 unfolding backsIn
 backs-none m x {T} {y} w f e u h =
     direct-low y (m .fact) (f .fact)
@@ -89,7 +91,7 @@ module _ {ms : Moves} {p : ℕ} {T bad x y : List Bool} {end : ℕ} {out₀ out 
   pub back-left : {i : ℕ} {r : Bool} → i < ms .count → r ≡ backsIn (moveAt ms i) T x y → r ≡ true → end < at + 160
   back-left {i} l t h =
       let f = sound .fine i l in
-      omega (arith, back-room (world T ms ms p) (k .back) (f .fact) (backs-new (moveAt ms i) T x y f (sym t ∙ h)), asks-length out at (end - at), k .down)
+      omega (arith, back-room (world-lawful T ms ms p) (k .back) (f .fact) (backs-new (moveAt ms i) T x y f (sym t ∙ h)), asks-length out at (end - at), k .down)
 
   -- A move that fires keeps the invariant.
   pub back-add : {m : Move} {i : ℕ} {r : Bool} {z : List Bool} {out′ : List ℕ} → 160 ≤ end → i < ms .count → r ≡ backsIn (moveAt ms i) T x y → r ≡ true
@@ -98,7 +100,7 @@ module _ {ms : Moves} {p : ℕ} {T bad x y : List Bool} {end : ℕ} {out₀ out 
       let e : backsIn m T x y ≡ true = rw same (sym t ∙ h) in
       let f = listed-fine sound l same in
       let left = back-left l t h in
-      let holds = subst (λ (o : Move). met T (put (direct y) (m .fact) true) o ≡ true) same (backs-met m x (k .whole) f e) in
+      let holds = subst (λ (o : Move). moveShown T (update (direct y) (m .fact) true) o ≡ true) same (backs-met m x (k .whole) f e) in
       let n₁ : end - (at - 1) ≡ (end - at) + 1 = omega (arith, k .down) in
       let n₂ : (at - 1) + 1 ≡ at = omega arith in
       record {
@@ -118,13 +120,13 @@ module _ {ms : Moves} {p : ℕ} {T bad x y : List Bool} {end : ℕ} {out₀ out 
     size = k .size;
     down = k .down;
     stands = k .stands;
-    few = omega (arith, deletions-count (world T ms ms p) (direct y) (asks out at (end - at)) (k .back .leads .runs), asks-length out at (end - at), count-le (direct y) 160);
+    few = omega (arith, deletions-count (world-lawful T ms ms p) (direct y) (asks out at (end - at)) (k .back .brings .runs), asks-length out at (end - at), count-le (direct y) 160);
     back = k .back;
     closed = record {
       good = λ f u e. k .back .from f (rw (u, e));
       back = λ q u m. subst (λ (a : Ask). direct y (a .fact) ≡ true) (sym (m .same))
           (backs-none (moveAt ms (m .index)) x (k .whole) (sound .fine (m .index) (m .listed)) (still (m .index) (m .listed))
           (subst (λ (a : Ask). direct x (a .fact) ≡ true) (m .same) u)
-          (subst (λ (a : Ask). met T (put (direct y) (a .fact) true) (moveAt ms (m .index)) ≡ true) (m .same) (m .holds)));
+          (subst (λ (a : Ask). moveShown T (update (direct y) (a .fact) true) (moveAt ms (m .index)) ≡ true) (m .same) (m .holds)));
     };
   }

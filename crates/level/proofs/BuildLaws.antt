@@ -10,11 +10,12 @@ use lib.Dec.{ltb}
 use lib.ListN.{length, getD, set, length-set}
 use lib.Seq.{getD-set-same, getD-set-other}
 use borrow.Author.Tests.{lt-ltb, le-ltb}
-use Rattle.theory.specs.Facts.{State, put, minus}
-use Rattle.theory.proofs.FactLaws.{put-same, put-other, at}
-use Rattle.level.specs.Shown.{anyBelow, row, inherited, shown, direct, Whole, Put}
+use Rattle.quantifiers.proofs.BelowLaws.{any-false}
+use Rattle.theory.specs.Inner.Facts.{State, update, minus}
+use Rattle.theory.proofs.FactLaws.{update-same, update-other, at}
+use Rattle.level.specs.Inner.Shown.{row, inherited, visible, direct, Whole, Put}
 use Rattle.level.proofs.ShownLaws.{direct-low, direct-high, put-direct, put-whole}
-use Rattle.level.specs.Build.{Blank, Built, Copied, Lacks, Stripped}
+use Rattle.level.specs.Inner.Build.{Blank, Built, Copied, Lacks, Stripped}
 
 -- The first `i` places are blank.
 pub record BlankSoFar (T x : List Bool) (i : ℕ) : Type 0 where
@@ -39,14 +40,9 @@ blank-more {T} {x} {i} b r h e = record {
       (λ n l′. getD-set-other (set x i false) (160 + i) (160 + k) b false (omega arith) ∙ getD-set-other x i (160 + k) false false (omega arith) ∙ r .high k (omega arith)) l;
 }
 
-any-false : (p : ℕ → Bool) → ((k : ℕ) → p k ≡ false) → (n : ℕ) → anyBelow p n ≡ false
-unfolding anyBelow
-any-false p h zero = refl
-any-false p h (suc n) = rw (any-false p h n, h n)
-
-shown-none : (T : List Bool) (S : State) (k : ℕ) → ((f : ℕ) → S f ≡ false) → shown T S k ≡ cond (ltb k 160) false (row T 32 (k - 160))
-unfolding shown inherited
-shown-none T S k h = rw (h k, h (k - 160), any-false (λ c. S (128 + c) && row T c (k - 160)) (λ c. rw (h (128 + c))) 32) (go (ltb k 160) (row T 32 (k - 160)))
+visible-none : (T : List Bool) (S : State) (k : ℕ) → ((f : ℕ) → S f ≡ false) → visible T S k ≡ cond (ltb k 160) false (row T 32 (k - 160))
+unfolding visible inherited
+visible-none T S k h = rw (h k, h (k - 160), any-false (λ c. S (128 + c) && row T c (k - 160)) 32 (λ c l. rw (h (128 + c)))) (go (ltb k 160) (row T 32 (k - 160)))
   where
     go : (b r : Bool) → cond b false (r || false) ≡ cond b false r
     go true r = refl
@@ -64,8 +60,8 @@ blank-all {T} {x} {i} r h e = record { whole = record { size = r .size; rows = e
     none : (f : ℕ) → direct x f ≡ false
     none f = dite (decLt f 160) (λ (l : f < 160). direct-low x f l ∙ r .low f (omega arith)) (λ (l : f < 160 → ⊥). direct-high x f (omega arith))
 
-    shows : (k : ℕ) → k < 320 → getD x k false ≡ shown T (direct x) k
-    shows k l = sym (shown-none T (direct x) k none ∙ dite (decLt k 160) (λ (m : k < 160). rw (lt-ltb k 160 m) (sym (r .low k (omega arith))))
+    shows : (k : ℕ) → k < 320 → getD x k false ≡ visible T (direct x) k
+    shows k l = sym (visible-none T (direct x) k none ∙ dite (decLt k 160) (λ (m : k < 160). rw (lt-ltb k 160 m) (sym (r .low k (omega arith))))
         (λ (m : k < 160 → ⊥). let q : 160 + (k - 160) ≡ k = omega arith in rw (le-ltb k 160 (omega arith)) (row-at T (k - 160) ∙ sym (r .high (k - 160) (omega arith)) ∙ ap (λ j. getD x j false) q)))
 
 -- The direct facts below `f` are put in.
@@ -84,9 +80,9 @@ module _ {T d x : List Bool} {f : ℕ} (r : BuiltSoFar T d x f) (h : f < 160) wh
   build-put {z} e p = record {
     whole = put-whole (r .whole) p h;
     fits = omega arith;
-    so-far = λ g. ap (λ S. S g) (put-direct p h) ∙ at (λ g. put (direct x) f true g ≡ ltb g (f + 1) && direct d g) f g
-        (put-same (direct x) f true ∙ sym (rw (lt-ltb f (f + 1) (omega arith)) (direct-low d f h ∙ e)))
-        (λ n. put-other (direct x) f true n ∙ r .so-far g ∙ ap (λ b. b && direct d g) (wider g n));
+    so-far = λ g. ap (λ S. S g) (put-direct p h) ∙ at (λ g. update (direct x) f true g ≡ ltb g (f + 1) && direct d g) f g
+        (update-same (direct x) f true ∙ sym (rw (lt-ltb f (f + 1) (omega arith)) (direct-low d f h ∙ e)))
+        (λ n. update-other (direct x) f true n ∙ r .so-far g ∙ ap (λ b. b && direct d g) (wider g n));
   }
     where
       wider : (g : ℕ) → g ≢ f → ltb g f ≡ ltb g (f + 1)

@@ -8,14 +8,14 @@ use native.Mathlib.Omega.{arith}
 use borrow.Author.Tests.{eq-eqb, ne-eqb, eqb-true}
 use lib.Dec.{eqb}
 use mathlib.Core.List.{List}
-use Rattle.level.specs.Moves.{Moves, Sound, movesIn, moveAt}
-use Rattle.level.specs.Terms.{MoveOf}
+use Rattle.level.specs.Inner.Moves.{Moves, Sound, movesIn, moveAt}
+use Rattle.level.specs.Inner.Terms.{MoveOf}
 use Rattle.level.specs.declared.Move.{Move}
 use Rattle.frames.specs.declared.Rule.{Rule}
 use Rattle.frames.specs.declared.Rules.{Rules}
-use Rattle.gate.proofs.PassedLaws.{and-both}
+use Rattle.quantifiers.proofs.BoolLaws.{and-both}
 use Rattle.sets.specs.Sets.{member}
-use Rattle.level.specs.Chosen.{GoodRules, MovesOf, MovePut, chosenIn, ruleAt}
+use Rattle.level.specs.Inner.Chosen.{GoodRules, MovesOf, MovePut, chosenIn, ruleAt}
 
 -- The first k moves of a buffer.
 abbrev pub firstMoves : ℕ → List ℕ → Moves

@@ -7,11 +7,11 @@ use Prim.Native.Nat.{ℕ, _+_, _*_, _/_, _%_, _<_}
 use native.Mathlib.Decide.{ℕ-discrete}
 use native.Mathlib.Omega.{arith}
 use borrow.Author.Tests.{eq-eqb, ne-eqb}
-use Rattle.theory.specs.Facts.{State, _⊆_, put, Clear}
-use Rattle.theory.proofs.FactLaws.{put-same, put-other, at}
-use Rattle.theory.specs.Plan.{Ask, Req, req, Runs, end, World, Leads, AddClosed, BackClosed, Bounds}
-use Rattle.theory.proofs.PlanLaws.{leads-none, step-first, bounds-round, start-outside}
-use Rattle.level.specs.Settle.{Rounds}
+use Rattle.theory.specs.Inner.Facts.{State, _⊆_, update, Clear}
+use Rattle.theory.proofs.FactLaws.{update-same, update-other, at}
+use Rattle.theory.specs.Inner.Plan.{Ask, Req, req, Runs, end, World, Lawful, Brings, AddClosed, BackClosed, Bounds}
+use Rattle.theory.proofs.PlanLaws.{brings-none, step-first, bounds-round, start-outside}
+use Rattle.level.specs.Inner.Settle.{Rounds}
 use Rattle.level.proofs.SettleLaws.{rounds-keep}
 use Rattle.level.proofs.Levels.{Within, onLevel, toWhole, toLevel}
 
@@ -34,20 +34,20 @@ module _ (k : ℕ) (R : State) where
       rest f h = omega arith
 
   -- To set a fact of the level.
-  pub on-level-put : (S : State) (f : ℕ) (b : Bool) → f < 160 → put (onLevel k R S) (160 * k + f) b ≡ onLevel k R (put S f b)
-  on-level-put S f b h = fun-ext λ g. at (λ g. put (onLevel k R S) (160 * k + f) b g ≡ onLevel k R (put S f b) g) (160 * k + f) g
-      (put-same (onLevel k R S) (160 * k + f) b ∙ sym (on-level-at (put S f b) f h ∙ put-same S f b))
-      (λ n. put-other (onLevel k R S) (160 * k + f) b n ∙ by-cases (ℕ-discrete (g / 160) k)
-      (λ e. on-level-in S g e ∙ sym (on-level-in (put S f b) g e ∙ put-other S f b (apart g n e)))
-      (λ e. on-level-out S g e ∙ sym (on-level-out (put S f b) g e)))
+  pub on-level-put : (S : State) (f : ℕ) (b : Bool) → f < 160 → update (onLevel k R S) (160 * k + f) b ≡ onLevel k R (update S f b)
+  on-level-put S f b h = fun-ext λ g. at (λ g. update (onLevel k R S) (160 * k + f) b g ≡ onLevel k R (update S f b) g) (160 * k + f) g
+      (update-same (onLevel k R S) (160 * k + f) b ∙ sym (on-level-at (update S f b) f h ∙ update-same S f b))
+      (λ n. update-other (onLevel k R S) (160 * k + f) b n ∙ by-cases (ℕ-discrete (g / 160) k)
+      (λ e. on-level-in S g e ∙ sym (on-level-in (update S f b) g e ∙ update-other S f b (apart g n e)))
+      (λ e. on-level-out S g e ∙ sym (on-level-out (update S f b) g e)))
     where
       apart : (g : ℕ) → g ≢ 160 * k + f → g / 160 ≡ k → g % 160 ≢ f
       apart g n e q = n (omega arith)
 
 module _ {W Z : World} {k : ℕ} {R : State} (w : Within W Z k R) where
-  -- What leads at the level leads in the whole.
-  pub embed : {b : Bool} (xs : List Ask) {S T : State} → Leads Z b S xs T → Leads W b (onLevel k R S) (map (toWhole k) xs) (onLevel k R T)
-  embed [] l = rw (l .ends) (leads-none W)
+  -- What brings a state to another at the level does so in the whole.
+  pub embed : {b : Bool} (xs : List Ask) {S T : State} → Brings Z b S xs T → Brings W b (onLevel k R S) (map (toWhole k) xs) (onLevel k R T)
+  embed [] l = rw (l .ends) (brings-none W)
   embed {b} (q ∷ qs) {S} l =
       let h : q .fact < 160 = w .known S b q (l .runs .0 .may) in
       step-first W (on-level-at k R S (q .fact) h ∙ l .runs .0 .new) (w .into S b q (l .runs .0 .may))
@@ -61,7 +61,7 @@ module _ {W Z : World} {k : ℕ} {R : State} (w : Within W Z k R) where
         (λ e. on-level-out k R x (q .fact) e ∙ sym (on-level-out k R u (q .fact) e) ∙ h);
   }
 
-  module _ (bad bad-here : State) (same-bad : (f : ℕ) → f < 160 → bad-here f ≡ bad (160 * k + f)) where
+  module _ (lawful : Lawful W) (bad bad-here : State) (same-bad : (f : ℕ) → f < 160 → bad-here f ≡ bad (160 * k + f)) where
     -- Deletions closed backwards at the level are so in the whole.
     pub back-whole : {x y : State} → BackClosed Z bad-here x y → BackClosed W bad (onLevel k R x) (onLevel k R y)
     back-whole {x} {y} c = record {
@@ -70,15 +70,15 @@ module _ {W Z : World} {k : ℕ} {R : State} (w : Within W Z k R) where
           (λ e. on-level-out k R y g e ∙ sym (on-level-out k R x g e) ∙ h);
       back = λ q h m. by-cases (ℕ-discrete (q .fact / 160) k)
           (λ e. on-level-in k R y (q .fact) e ∙ c .back (toLevel q) (sym (on-level-in k R x (q .fact) e) ∙ h)
-          (w .out (put y (q .fact % 160) true) false q e (subst (λ (S : State). W .May S (req false q)) (whole q e) m)))
+          (w .out (update y (q .fact % 160) true) false q e (subst (λ (S : State). W .May S (req false q)) (whole q e) m)))
           (λ e. on-level-out k R y (q .fact) e ∙ sym (on-level-out k R x (q .fact) e) ∙ h);
     }
       where
         place : (g : ℕ) → g / 160 ≡ k → 160 * k + g % 160 ≡ g
         place g e = omega arith
 
-        whole : (q : Ask) → q .fact / 160 ≡ k → put (onLevel k R y) (q .fact) true ≡ onLevel k R (put y (q .fact % 160) true)
-        whole q e = ap (λ g. put (onLevel k R y) g true) (sym (place (q .fact) e)) ∙ on-level-put k R y (q .fact % 160) true (omega arith)
+        whole : (q : Ask) → q .fact / 160 ≡ k → update (onLevel k R y) (q .fact) true ≡ onLevel k R (update y (q .fact % 160) true)
+        whole q e = ap (λ g. update (onLevel k R y) g true) (sym (place (q .fact) e)) ∙ on-level-put k R y (q .fact % 160) true (omega arith)
 
     module _ (S₀ s : State) (here : (f : ℕ) → S₀ (160 * k + f % 160) ≡ true → s (f % 160) ≡ true) (there : (g : ℕ) → g / 160 ≢ k → S₀ g ≡ true → R g ≡ true) where
       starts : (x : State) → s ⊆ x → S₀ ⊆ onLevel k R x
@@ -92,7 +92,7 @@ module _ {W Z : World} {k : ℕ} {R : State} (w : Within W Z k R) where
       -- The rounds of a level keep the whole's bound.
       pub rounds-bound : {u₀ u : State} → Rounds Z bad-here s u₀ u → Bounds W bad S₀ (onLevel k R u₀) → Bounds W bad S₀ (onLevel k R u)
       rounds-bound r h = rounds-keep (λ u. Bounds W bad S₀ (onLevel k R u))
-          (λ u x y j le a b. bounds-round W bad S₀ (starts x le) (add-whole a) (back-whole b) j) r h
+          (λ u x y j le a b. bounds-round lawful bad S₀ (starts x le) (add-whole a) (back-whole b) j) r h
 
       -- Where a bound of the level lacks a starting fact, no chain ends clear.
       pub stuck-none : {u₀ u : State} (f : ℕ) → f < 160 → S₀ (160 * k + f) ≡ true → u f ≡ false → Rounds Z bad-here s u₀ u → Bounds W bad S₀ (onLevel k R u₀)

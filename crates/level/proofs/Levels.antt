@@ -3,8 +3,8 @@ use mathlib.Core.Path.{_≡_}
 use mathlib.Core.Bool.{Bool, cond}
 use Prim.Native.Nat.{ℕ, _+_, _*_, _/_, _%_, _<_}
 use lib.Dec.{eqb}
-use Rattle.theory.specs.Facts.{State}
-use Rattle.theory.specs.Plan.{Ask, req, World}
+use Rattle.theory.specs.Inner.Facts.{State}
+use Rattle.theory.specs.Inner.Plan.{Ask, req, World}
 
 -- `S` at the level `k`, and `R` at the others.
 unfoldable pub onLevel : ℕ → State → State → State

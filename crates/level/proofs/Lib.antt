@@ -1,5 +1,6 @@
 pub mod ShownLaws
 pub mod MoveLaws
+pub mod WorldLaws
 pub mod TermLaws
 pub mod RuleLaws
 pub mod ChosenLaws

@@ -10,11 +10,13 @@ use native.Mathlib.Numerals.{add-one}
 use native.Mathlib.Omega.{arith}
 use lib.ListN.{length, getD, drop, set, length-set, drop-of-length-le}
 use lib.Seq.{drop-cons, getD-take, length-take-le, getD-set-same, getD-set-other}
-use Rattle.theory.specs.Facts.{State}
-use Rattle.level.specs.Shown.{shown}
+use Rattle.quantifiers.proofs.ListLaws.{all-same-at}
+use Rattle.theory.specs.Inner.Facts.{State}
+use Rattle.level.specs.Inner.Shown.{visible}
 use Rattle.level.specs.declared.Move.{Move}
-use Rattle.level.specs.Moves.{Fine, Sound, all, met, placesOf, movesIn, moveFrom, moveAt}
-use Rattle.level.specs.Chosen.{Numbers, MovePut}
+use Rattle.level.specs.Inner.Moves.{Fine, Sound, moveShown, placesOf, movesIn, moveFrom, moveAt}
+use Rattle.quantifiers.specs.Quantifiers.{all}
+use Rattle.level.specs.Inner.Chosen.{Numbers, MovePut}
 
 -- The places of a move's terms.
 module _ {m : Move} (fine : Fine m) where
@@ -29,15 +31,10 @@ module _ {m : Move} (fine : Fine m) where
   place-drop : (j : ℕ) → j < m .n → drop j (placesOf m) ≡ getD (m .terms) j 0 ∷ drop (j + 1) (placesOf m)
   place-drop j h = drop-cons (placesOf m) j 0 (omega (arith, places-length)) ∙ rw (place-at j h, add-one)
 
-all-same : (p q : ℕ → Bool) (l : List ℕ) → ((j : ℕ) → j < length l → p (getD l j 0) ≡ q (getD l j 0)) → all p l ≡ all q l
-unfolding all
-all-same p q [] h = refl
-all-same p q (k ∷ l) h = rw (h 0 (omega arith), all-same p q l (λ j i. h (suc j) (omega arith)))
-
 -- A test of flags is one of the direct facts.
-pub met-flags : (T : List Bool) (S : State) {m : Move} (p : ℕ → Bool) → Fine m → ((k : ℕ) → k < 320 → p k ≡ shown T S k) → all p (placesOf m) ≡ met T S m
-unfolding met
-met-flags T S {m} p fine h = all-same p (shown T S) (placesOf m)
+pub move-shown-flags : (T : List Bool) (S : State) {m : Move} (p : ℕ → Bool) → Fine m → ((k : ℕ) → k < 320 → p k ≡ visible T S k) → all p (placesOf m) ≡ moveShown T S m
+unfolding moveShown
+move-shown-flags T S {m} p fine h = all-same-at p (visible T S) 0 (placesOf m)
     (λ j l. h (getD (placesOf m) j 0) (rw (place-at fine j (omega (arith, places-length fine))) (fine .places j)))
 
 -- ---------------------------------------------------------------- moves as numbers
@@ -121,20 +118,20 @@ module _ {xs : List ℕ} {at n : ℕ} (r : Reading xs at n) where
       ∙ ap (λ i. i ∷ drop (j + 1) (placesOf (moveFrom xs at))) (term-stands xs at j (omega (arith, few-terms)) ∙ sym s)
 
   -- A term that holds leaves the rest to decide.
-  pub met-pass : (p : ℕ → Bool) (j : ℕ) {k : ℕ} → j < n → k ≡ getD xs (at + 6 + j) 0 → p k ≡ true
+  pub places-pass : (p : ℕ → Bool) (j : ℕ) {k : ℕ} → j < n → k ≡ getD xs (at + 6 + j) 0 → p k ≡ true
       → all p (drop j (placesOf (moveFrom xs at))) ≡ all p (drop (j + 1) (placesOf (moveFrom xs at)))
   unfolding all
-  met-pass p j h s t = ap (all p) (place-read j h s) ∙ rw t
+  places-pass p j h s t = ap (all p) (place-read j h s) ∙ rw t
 
   -- A term that does not hold decides.
-  pub met-fail : (p : ℕ → Bool) (j : ℕ) {k : ℕ} → j < n → k ≡ getD xs (at + 6 + j) 0 → p k ≡ false → all p (drop j (placesOf (moveFrom xs at))) ≡ false
+  pub places-fail : (p : ℕ → Bool) (j : ℕ) {k : ℕ} → j < n → k ≡ getD xs (at + 6 + j) 0 → p k ≡ false → all p (drop j (placesOf (moveFrom xs at))) ≡ false
   unfolding all
-  met-fail p j h s t = ap (all p) (place-read j h s) ∙ rw t
+  places-fail p j h s t = ap (all p) (place-read j h s) ∙ rw t
 
   -- Past the last term there is nothing to decide.
-  pub met-out : (p : ℕ → Bool) (j : ℕ) → n ≤ j → all p (drop j (placesOf (moveFrom xs at))) ≡ true
+  pub places-out : (p : ℕ → Bool) (j : ℕ) → n ≤ j → all p (drop j (placesOf (moveFrom xs at))) ≡ true
   unfolding all
-  met-out p j h = rw (drop-of-length-le (placesOf (moveFrom xs at)) {i = j} (omega (arith, r .count, count-stands xs at, places-length (r .fine))))
+  places-out p j h = rw (drop-of-length-le (placesOf (moveFrom xs at)) {i = j} (omega (arith, r .count, count-stands xs at, places-length (r .fine))))
 
 -- A list of eight is its eight elements.
 pub eight : (xs : List ℕ) → length xs ≡ 8

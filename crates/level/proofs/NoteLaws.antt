@@ -7,10 +7,10 @@ use Prim.Native.Nat.{ℕ, zero, suc, _+_, _*_, _≤_, _<_}
 use native.Mathlib.Omega.{arith}
 use lib.ListN.{length, getD, set, length-set}
 use lib.Seq.{getD-set-same, getD-set-other}
-use Rattle.theory.specs.Plan.{Ask}
-use Rattle.level.specs.Moves.{Fine, askOf}
+use Rattle.theory.specs.Inner.Plan.{Ask}
+use Rattle.level.specs.Inner.Moves.{Fine, askOf}
 use Rattle.level.specs.declared.Move.{Move}
-use Rattle.level.specs.Notes.{Noted, askAt, asks}
+use Rattle.level.specs.Inner.Notes.{Noted, askAt, asks}
 
 -- There are `n` requests.
 pub asks-length : (out : List ℕ) (k n : ℕ) → length (asks out k n) ≡ n

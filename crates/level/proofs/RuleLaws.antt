@@ -9,37 +9,22 @@ use native.Mathlib.Omega.{arith}
 use lib.Dec.{eqb, ltb, leb}
 use lib.ListN.{length, getD, take}
 use borrow.Author.Tests.{ltb-true, lt-ltb, le-ltb}
-use Rattle.gate.specs.Gate.{InRange, allBelow, between, valuesOf, isCrew, isAttr, isValue, isCrewField, headGood, termGood}
+use Rattle.gate.specs.Gate.{InRange, between, valuesOf, isCrew, isAttr, isValue, isCrewField, headGood, termGood}
+use Rattle.quantifiers.specs.Quantifiers.{allBelow}
 use Rattle.gate.specs.declared.Sizes.{Sizes}
-use Rattle.gate.proofs.PassedLaws.{and-both, between-true}
-use Rattle.frames.specs.Book.{noTerm, listed}
-use Rattle.frames.specs.Fits.{termOf, termFits, ruleFits, Short, Each}
+use Rattle.gate.proofs.PassedLaws.{between-true}
+use Rattle.quantifiers.proofs.BoolLaws.{and-both, or-either}
+use Rattle.quantifiers.proofs.BelowLaws.{all-at}
+use Rattle.quantifiers.proofs.ListLaws.{each-at}
+use Rattle.frames.specs.Book.{noTerm, noRule, listed}
+use Rattle.frames.specs.Inner.Fits.{termOf, termFits, ruleFits, Short}
+use Rattle.quantifiers.specs.Inner.Lists.{Each}
 use Rattle.frames.specs.declared.Term.{Term}
 use Rattle.frames.specs.declared.Rule.{Rule}
 use Rattle.frames.specs.declared.Rules.{Rules}
-use Rattle.level.specs.Moves.{placeOf}
-use Rattle.level.specs.Terms.{TermInRange, GoodRule}
-use Rattle.level.specs.Chosen.{noRule, ruleAt, GoodRules}
-
-or-either : {A : Type 0} (a b : Bool) → (a || b) ≡ true → (a ≡ true → A) → (b ≡ true → A) → A
-or-either true b e f g = f refl
-or-either false b e f g = g e
-
-all-at : (p : ℕ → Bool) (n i : ℕ) → allBelow p n ≡ true → i < n → p i ≡ true
-unfolding allBelow
-all-at p zero i e h = absurd (omega arith)
-all-at p (suc n) i e h =
-    let both = and-both (allBelow p n) (p n) e in
-    dite (decLt i n)
-    (λ (l : i < n). all-at p n i (both .0) l)
-    (λ (l : i < n → ⊥). let q : i ≡ n = omega arith in rw q (both .1))
-
-each-at : (P : Rule → Type 0) (rs : List Rule) (n i : ℕ) → i < n → n ≤ length rs → Each P (take n rs) → P (getD rs i noRule)
-unfolding Each
-each-at P [] n i h f e = absurd (omega arith)
-each-at P (r ∷ rs) zero i h f e = absurd (omega arith)
-each-at P (r ∷ rs) (suc n) zero h f e = e .0
-each-at P (r ∷ rs) (suc n) (suc i) h f e = each-at P rs n i (omega arith) (omega arith) (e .1)
+use Rattle.level.specs.Inner.Moves.{placeOf}
+use Rattle.level.specs.Inner.Terms.{TermInRange, GoodRule}
+use Rattle.level.specs.Inner.Chosen.{ruleAt, GoodRules}
 
 module _ (z : Sizes) (sized : InRange z) where
   -- A value of an accepted book is one of 16 of one of 8 attributes.
@@ -110,6 +95,6 @@ module _ (z : Sizes) (sized : InRange z) where
       record {
         few = few;
         good = λ i l. rule-good (getD (rs .rules) i noRule)
-            (each-at (λ r. ruleFits z r ≡ true) (rs .rules) (rs .count) i l (omega arith) fit)
-            (each-at Short (rs .rules) (rs .count) i l (omega arith) short);
+            (each-at (λ r. ruleFits z r ≡ true) (rs .rules) (rs .count) i noRule l (omega arith) fit)
+            (each-at Short (rs .rules) (rs .count) i noRule l (omega arith) short);
       }

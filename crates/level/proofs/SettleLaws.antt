@@ -6,33 +6,35 @@ use mathlib.Core.List.{List}
 use Prim.Native.Nat.{ℕ, _-_, _≤_, _<_}
 use native.Mathlib.Omega.{arith}
 use lib.ListN.{length}
-use Rattle.theory.specs.Facts.{State, _⊆_, count}
-use Rattle.theory.proofs.FactLaws.{minus-in, minus-clear, antisym, count-less, count-mono}
-use Rattle.theory.specs.Plan.{World, AddClosed, BackClosed}
-use Rattle.theory.specs.Sweep.{Added}
-use Rattle.theory.proofs.TierLaws.{leads-map}
-use Rattle.level.specs.Moves.{Moves}
-use Rattle.level.specs.Shown.{direct, Whole}
+use Rattle.theory.specs.Inner.Facts.{State, _⊆_}
+use Rattle.quantifiers.specs.Inner.Lists.{countBelow}
+use Rattle.theory.proofs.FactLaws.{minus-in, minus-clear, antisym, count-less}
+use Rattle.quantifiers.proofs.BelowLaws.{count-mono}
+use Rattle.theory.specs.Inner.Plan.{World, AddClosed, BackClosed}
+use Rattle.theory.specs.Inner.Sweep.{Added}
+use Rattle.theory.proofs.TierLaws.{brings-map}
+use Rattle.level.specs.Inner.Moves.{Moves}
+use Rattle.level.specs.Inner.Shown.{direct, Whole}
 use Rattle.level.proofs.ShownLaws.{direct-in}
-use Rattle.level.specs.World.{world}
-use Rattle.level.specs.Notes.{askAt, asks}
-use Rattle.level.specs.Sweep.{Ready, Closed}
-use Rattle.level.specs.BackSweep.{ReadyBack, ClosedBack}
-use Rattle.level.specs.Build.{Built, Stripped, Copied, Lacks}
+use Rattle.level.specs.Inner.World.{world}
+use Rattle.level.specs.Inner.Notes.{askAt, asks}
+use Rattle.level.specs.Inner.Sweep.{Ready, Closed}
+use Rattle.level.specs.Inner.BackSweep.{ReadyBack, ClosedBack}
+use Rattle.level.specs.Inner.Build.{Built, Stripped, Copied, Lacks}
 use Rattle.level.proofs.BuildLaws.{not-lacking}
-use Rattle.level.specs.Settle.{Result, Rounded, Rounds, Settled, Sizes, Stuck, again, none-yet}
+use Rattle.level.specs.Inner.Settle.{Result, Rounded, Rounds, Settled, Lengths, Stuck, again, none-yet}
 
 -- Flags built from the start are ready for the additions.
-pub ready : {T bad s u x₀ x y d : List Bool} {start : ℕ} {up : List ℕ} {end : ℕ} {down : List ℕ} → Sizes T bad s u x₀ y d start up end down → Built T s x → direct s ⊆ direct u → Ready T u x (length up) start
+pub ready : {T bad s u x₀ x y d : List Bool} {start : ℕ} {up : List ℕ} {end : ℕ} {down : List ℕ} → Lengths T bad s u x₀ y d start up end down → Built T s x → direct s ⊆ direct u → Ready T u x (length up) start
 ready {s = s} {u = u} z b le = record { whole = b .whole; length-allowed = z .size-u; within = rw (b .same) le; room = z .room-up }
 
 -- Flags without the forbidden facts are ready for the deletions.
-pub ready-back : {T bad s u x₀ y₀ d₀ x y d : List Bool} {start : ℕ} {up : List ℕ} {end : ℕ} {down : List ℕ} → Sizes T bad s u x₀ y₀ d₀ start up end down → Whole T x → Stripped x bad d → Built T d y → ReadyBack T bad x y (length down) end
+pub ready-back : {T bad s u x₀ y₀ d₀ x y d : List Bool} {start : ℕ} {up : List ℕ} {end : ℕ} {down : List ℕ} → Lengths T bad s u x₀ y₀ d₀ start up end down → Whole T x → Stripped x bad d → Built T d y → ReadyBack T bad x y (length down) end
 ready-back z w st b = record { whole = b .whole; length-x = w .size; starts = b .same ∙ st .same; below = z .below; room = z .room-down }
 
 -- What the two sweeps leave is a round.
 pub rounded : {adds dels : Moves} {p : ℕ} {T bad s u x₀ y₀ d₀ x₁ x d y : List Bool} {start : ℕ} {up₀ up : List ℕ} {n end : ℕ} {down₀ down : List ℕ} {at : ℕ}
-    → Sizes T bad s u x₀ y₀ d₀ start up₀ end down₀ → Built T s x₁ → Closed adds p T u x₁ x start up₀ up n → Stripped x bad d → ClosedBack dels p T bad x y end down₀ down at
+    → Lengths T bad s u x₀ y₀ d₀ start up₀ end down₀ → Built T s x₁ → Closed adds p T u x₁ x start up₀ up n → Stripped x bad d → ClosedBack dels p T bad x y end down₀ down at
     → Rounded adds dels p T bad s u x y d start up₀ up n end down₀ down at
 rounded {adds} {dels} {p} {T} {bad} {s} {u} {x = x} {start = start} {up = up} {n = n} z b c st k = record {
   sizes = record { rows = z .rows; size-bad = z .size-bad; size-s = z .size-s; size-u = z .size-u; size-x = c .whole .size; size-y = k .whole .size; size-d = st .size; room-up = rw (c .size) (z .room-up); below = z .below; room-down = rw (k .size) (z .room-down) };
@@ -52,7 +54,7 @@ rounded {adds} {dels} {p} {T} {bad} {s} {u} {x = x} {start = start} {up = up} {n
 
 -- What the loop over the rounds keeps.
 pub record Going (adds dels : Moves) (p : ℕ) (T bad s u₀ u x y d : List Bool) (start : ℕ) (up₀ up : List ℕ) (end : ℕ) (down₀ down : List ℕ) : Type 0 where
-  pub sizes : Sizes T bad s u x y d start up end down
+  pub sizes : Lengths T bad s u x y d start up end down
   pub length-up : length up ≡ length up₀
   pub length-down : length down ≡ length down₀
   pub within : direct s ⊆ direct u
@@ -61,7 +63,7 @@ pub record Going (adds dels : Moves) (p : ℕ) (T bad s u₀ u x y d : List Bool
   pub stands-down : (k : ℕ) → end ≤ k → askAt down k ≡ askAt down₀ k
 
 -- Before the first round.
-pub going-first : (adds dels : Moves) (p : ℕ) {T bad s u x y d : List Bool} {start : ℕ} {up : List ℕ} {end : ℕ} {down : List ℕ} → Sizes T bad s u x y d start up end down → direct s ⊆ direct u → Going adds dels p T bad s u u x y d start up up end down down
+pub going-first : (adds dels : Moves) (p : ℕ) {T bad s u x y d : List Bool} {start : ℕ} {up : List ℕ} {end : ℕ} {down : List ℕ} → Lengths T bad s u x y d start up end down → direct s ⊆ direct u → Going adds dels p T bad s u u x y d start up up end down down
 going-first adds dels p z le = record { sizes = z; length-up = refl; length-down = refl; within = le; rounds = none-yet; stands-up = λ k l. refl; stands-down = λ k l. refl }
 
 module _ {adds dels : Moves} {p : ℕ} {T bad s u₀ u x₀ y₀ d₀ x y d : List Bool} {start : ℕ} {up₀ up₁ up : List ℕ} {n end : ℕ} {down₀ down₁ down : List ℕ} {at : ℕ}
@@ -85,8 +87,8 @@ module _ {adds dels : Moves} {p : ℕ} {T bad s u₀ u x₀ y₀ d₀ x y d : Li
         stands-down = λ k l. r .stands-down k l ∙ g .stands-down k l;
         grown = r .added .from;
         rounds = rw q at next;
-        additions = leads-map (world T adds adds p) (world T adds dels p) (λ S a m. m) (asks up start n) (r .added .leads);
-        deletions = leads-map (world T dels dels p) (world T adds dels p) (λ S a m. m) (asks down at (end - at)) (rw q at (r .back .leads));
+        additions = brings-map (world T adds adds p) (world T adds dels p) (λ S a m. m) (asks up start n) (r .added .brings);
+        deletions = brings-map (world T dels dels p) (world T adds dels p) (λ S a m. m) (asks down at (end - at)) (rw q at (r .back .brings));
       }
 
   -- A round after which a starting fact is lacking.
@@ -106,7 +108,7 @@ module _ {adds dels : Moves} {p : ℕ} {T bad s u₀ u x₀ y₀ d₀ x y d : Li
   }
 
   -- The set allowed is smaller after a round.
-  pub smaller : {i : ℕ} {v : List Bool} → Lacks x y i → i ≢ 160 → Copied y v → count (direct v) 160 < count (direct u) 160
+  pub smaller : {i : ℕ} {v : List Bool} → Lacks x y i → i ≢ 160 → Copied y v → countBelow (direct v) 160 < countBelow (direct u) 160
   smaller {i} w h k =
       let l : i < 160 = omega (arith, w .fits) in
       rw (k .same) (omega (arith, count-less (r .back .within) l (minus-in (direct x) (direct y) i (w .here l)) (minus-clear (direct x) (direct y) i (w .here l)), count-mono (r .added .within) 160))

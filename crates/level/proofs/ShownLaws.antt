@@ -10,10 +10,11 @@ use lib.Dec.{eqb, ltb}
 use lib.ListN.{length, getD, set, length-set}
 use lib.Seq.{getD-set-same, getD-set-other}
 use borrow.Author.Tests.{ltb-true, lt-ltb, le-ltb, eq-eqb, ne-eqb}
-use Rattle.gate.proofs.PassedLaws.{and-both}
-use Rattle.theory.specs.Facts.{State, put}
-use Rattle.theory.proofs.FactLaws.{put-same, put-other, at}
-use Rattle.level.specs.Shown.{More, Put, Whole, anyBelow, direct, inherited, row, rowFlags, shown, touches}
+use Rattle.quantifiers.proofs.BoolLaws.{and-both}
+use Rattle.theory.specs.Inner.Facts.{State, update}
+use Rattle.theory.proofs.FactLaws.{update-same, update-other, at}
+use Rattle.level.specs.Inner.Shown.{More, Put, Whole, direct, inherited, row, rowFlags, visible, touches}
+use Rattle.quantifiers.specs.Quantifiers.{anyBelow}
 
 -- Below 160 the direct facts are the flags.
 pub direct-low : (x : List Bool) (f : ℕ) → f < 160 → direct x f ≡ getD x f false
@@ -40,8 +41,8 @@ or-swap false true true d = refl
 or-swap false true false d = refl
 or-swap false false c d = refl
 
-put-or : (S : State) (f g : ℕ) → put S f true g ≡ S g || eqb g f
-put-or S f g = at (λ g. put S f true g ≡ S g || eqb g f) f g (put-same S f true ∙ sym (rw (eq-eqb f f refl) (or-true (S f)))) (λ n. put-other S f true n ∙ sym (rw (ne-eqb g f n) (or-false (S g))))
+put-or : (S : State) (f g : ℕ) → update S f true g ≡ S g || eqb g f
+put-or S f g = at (λ g. update S f true g ≡ S g || eqb g f) f g (update-same S f true ∙ sym (rw (eq-eqb f f refl) (or-true (S f)))) (λ n. update-other S f true n ∙ sym (rw (ne-eqb g f n) (or-false (S g))))
   where
     or-true : (b : Bool) → b || true ≡ true
     or-true true = refl
@@ -52,7 +53,7 @@ put-or S f g = at (λ g. put S f true g ≡ S g || eqb g f) f g (put-same S f tr
     or-false false = refl
 
 -- Putting a membership in adds that crew's row.
-any-put : (S : State) (f : ℕ) (r : ℕ → Bool) (n : ℕ) → anyBelow (λ c. put S f true (128 + c) && r c) n ≡ anyBelow (λ c. S (128 + c) && r c) n || (not (ltb f 128) && (ltb (f - 128) n && r (f - 128)))
+any-put : (S : State) (f : ℕ) (r : ℕ → Bool) (n : ℕ) → anyBelow (λ c. update S f true (128 + c) && r c) n ≡ anyBelow (λ c. S (128 + c) && r c) n || (not (ltb f 128) && (ltb (f - 128) n && r (f - 128)))
 unfolding anyBelow
 any-put S f r zero = let z : ltb (f - 128) 0 ≡ false = le-ltb (f - 128) 0 (omega arith) in rw z (go (ltb f 128))
   where
@@ -66,10 +67,10 @@ any-put S f r (suc n) =
     let b : ltb (f - 128) n ≡ false = le-ltb (f - 128) n (omega arith) in
     let d : ltb (f - 128) (suc n) ≡ true = lt-ltb (f - 128) (suc n) (omega arith) in
     let g : n ≡ f - 128 = omega arith in
-    let h : put S f true (128 + n) ≡ true = ap (put S f true) e ∙ put-same S f true in
+    let h : update S f true (128 + n) ≡ true = ap (update S f true) e ∙ update-same S f true in
     rw (any-put S f r n, a, b, d, h, g) (here (anyBelow (λ c. S (128 + c) && r c) (f - 128)) (S (128 + (f - 128))) (r (f - 128))))
     (λ (e : 128 + n ≡ f → ⊥).
-    let h : put S f true (128 + n) ≡ S (128 + n) = put-other S f true e in
+    let h : update S f true (128 + n) ≡ S (128 + n) = update-other S f true e in
     rw (any-put S f r n, h)
     (by-cases (decLt f 128) (λ l. rw (lt-ltb f 128 l) (there (anyBelow (λ c. S (128 + c) && r c) n) (S (128 + n) && r n) false))
     (λ l. rw (same f n (omega arith)) (there (anyBelow (λ c. S (128 + c) && r c) n) (S (128 + n) && r n) (not (ltb f 128) && (ltb (f - 128) n && r (f - 128)))))))
@@ -91,9 +92,9 @@ any-put S f r (suc n) =
     same f n e = by-cases (decLt (f - 128) n) (λ l. lt-ltb (f - 128) (suc n) (omega arith) ∙ sym (lt-ltb (f - 128) n l)) (λ l. le-ltb (f - 128) (suc n) (omega arith) ∙ sym (le-ltb (f - 128) n (omega arith)))
 
 -- What is shown once `f` is put in: what was shown, and what `f` adds.
-pub shown-put : (T : List Bool) (S : State) (f k : ℕ) → f < 160 → shown T (put S f true) k ≡ shown T S k || touches T f k
-unfolding shown touches inherited
-shown-put T S f k h = go (ltb k 160)
+pub visible-put : (T : List Bool) (S : State) (f k : ℕ) → f < 160 → visible T (update S f true) k ≡ visible T S k || touches T f k
+unfolding visible touches inherited
+visible-put T S f k h = go (ltb k 160)
   where
     few : (not (ltb f 128) && (ltb (f - 128) 32 && row T (f - 128) (k - 160))) ≡ (not (ltb f 128) && row T (f - 128) (k - 160))
     few = let l : f - 128 < 32 = omega arith in rw (lt-ltb (f - 128) 32 l)
@@ -112,24 +113,24 @@ shown-put T S f k h = go (ltb k 160)
         or-true2 false = refl
     mix false false false p q = refl
 
-    go : (b : Bool) → cond b (put S f true k) (put S f true (k - 160) || (row T 32 (k - 160) || anyBelow (λ c. put S f true (128 + c) && row T c (k - 160)) 32))
+    go : (b : Bool) → cond b (update S f true k) (update S f true (k - 160) || (row T 32 (k - 160) || anyBelow (λ c. update S f true (128 + c) && row T c (k - 160)) 32))
         ≡ cond b (S k) (S (k - 160) || (row T 32 (k - 160) || anyBelow (λ c. S (128 + c) && row T c (k - 160)) 32)) || cond b (eqb k f) (eqb (k - 160) f || (not (ltb f 128) && row T (f - 128) (k - 160)))
     go true = put-or S f k
     go false = rw (put-or S f (k - 160), any-put S f (λ c. row T c (k - 160)) 32, few) (mix (S (k - 160)) (eqb (k - 160) f) (row T 32 (k - 160)) (anyBelow (λ c. S (128 + c) && row T c (k - 160)) 32) (not (ltb f 128) && row T (f - 128) (k - 160)))
 
 -- With `f` put in, `f` is a direct fact more.
-pub put-direct : {T x z : List Bool} {f : ℕ} → Put T x f z → f < 160 → direct z ≡ put (direct x) f true
+pub put-direct : {T x z : List Bool} {f : ℕ} → Put T x f z → f < 160 → direct z ≡ update (direct x) f true
 unfolding touches
 put-direct {T} {x} {z} {f} p h = fun-ext λ g. dite (decLt g 160)
     (λ (l : g < 160). direct-low z g l ∙ p .flags g (omega arith) ∙ rw (lt-ltb g 160 l) (ap (λ b. b || eqb g f) (sym (direct-low x g l)) ∙ sym (put-or (direct x) f g)))
-    (λ (l : g < 160 → ⊥). direct-high z g (omega arith) ∙ sym (put-other (direct x) f true (λ e. l (omega arith)) ∙ direct-high x g (omega arith)))
+    (λ (l : g < 160 → ⊥). direct-high z g (omega arith) ∙ sym (update-other (direct x) f true (λ e. l (omega arith)) ∙ direct-high x g (omega arith)))
 
 -- Flags with a fact put in are whole again.
 pub put-whole : {T x z : List Bool} {f : ℕ} → Whole T x → Put T x f z → f < 160 → Whole T z
 put-whole {T} {x} {z} {f} w p h = record {
   size = p .size ∙ w .size;
   rows = w .rows;
-  shows = λ k l. p .flags k l ∙ ap (λ b. b || touches T f k) (w .shows k l) ∙ sym (shown-put T (direct x) f k h) ∙ ap (λ S. shown T S k) (sym (put-direct p h));
+  shows = λ k l. p .flags k l ∙ ap (λ b. b || touches T f k) (w .shows k l) ∙ sym (visible-put T (direct x) f k h) ∙ ap (λ S. visible T S k) (sym (put-direct p h));
 }
 
 -- The four cases of `touches`.

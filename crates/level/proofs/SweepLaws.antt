@@ -5,19 +5,20 @@ use mathlib.Core.List.{List}
 use Prim.Native.Nat.{ℕ, _+_, _<_}
 use native.Mathlib.Omega.{arith}
 use lib.ListN.{length, getD}
-use Rattle.theory.proofs.FactLaws.{count-le}
-use Rattle.theory.specs.Plan.{Ask}
-use Rattle.theory.specs.Sweep.{Added}
+use Rattle.quantifiers.proofs.BelowLaws.{count-le}
+use Rattle.theory.specs.Inner.Plan.{Ask}
+use Rattle.theory.specs.Inner.Sweep.{Added}
 use Rattle.theory.proofs.SweepLaws.{add-none, add-more, added-room, added-count}
-use Rattle.level.specs.Shown.{direct, Whole, Put}
+use Rattle.level.specs.Inner.Shown.{direct, Whole, Put}
 use Rattle.level.proofs.ShownLaws.{direct-low, put-direct, put-whole}
-use Rattle.level.specs.Moves.{Moves, met, flagsMet, Fine, Sound, moveAt, askOf}
-use Rattle.level.specs.World.{world}
-use Rattle.level.proofs.MoveLaws.{met-flags}
-use Rattle.level.specs.Notes.{askAt, asks, Noted}
+use Rattle.level.specs.Inner.Moves.{Moves, moveShown, flagsMet, Fine, Sound, moveAt, askOf}
+use Rattle.level.specs.Inner.World.{world}
+use Rattle.level.proofs.WorldLaws.{world-lawful}
+use Rattle.level.proofs.MoveLaws.{move-shown-flags}
+use Rattle.level.specs.Inner.Notes.{askAt, asks, Noted}
 use Rattle.level.proofs.NoteLaws.{asks-length, asks-more}
 use Rattle.level.specs.declared.Move.{Move}
-use Rattle.level.specs.Sweep.{Closed, Ready, firesIn}
+use Rattle.level.specs.Inner.Sweep.{Closed, Ready, firesIn}
 use Rattle.level.proofs.TurnLaws.{Sweeping}
 
 -- What the sweep of the additions keeps: the requests noted lead from `x₀` to `x` within `allowed`, and those before them stand.
@@ -43,9 +44,9 @@ first-of-three true b c e p q = refl
 first-of-three false b c e p q = sym (rw (p, q) at e)
 
 -- Flags that are met are facts that meet.
-pub flags-met : {T x : List Bool} {m : Move} → Whole T x → Fine m → flagsMet m x ≡ met T (direct x) m
+pub flags-met : {T x : List Bool} {m : Move} → Whole T x → Fine m → flagsMet m x ≡ moveShown T (direct x) m
 unfolding flagsMet
-flags-met {T} {x} {m} w f = met-flags T (direct x) (λ k. getD x k false) f (w .shows)
+flags-met {T} {x} {m} w f = move-shown-flags T (direct x) (λ k. getD x k false) f (w .shows)
 
 -- A move that fires adds a fact that is lacking.
 pub fires-new : (m : Move) (allowed x : List Bool) → Fine m → firesIn m allowed x ≡ true → direct x (m .fact) ≡ false
@@ -58,12 +59,12 @@ unfolding firesIn
 fires-allowed m allowed x f e = direct-low allowed (m .fact) (f .fact) ∙ all-three (getD x (m .fact) false) (getD allowed (m .fact) false) (flagsMet m x) e .1
 
 -- A move that fires is permitted.
-pub fires-met : (m : Move) (allowed : List Bool) {T x : List Bool} → Whole T x → Fine m → firesIn m allowed x ≡ true → met T (direct x) m ≡ true
+pub fires-met : (m : Move) (allowed : List Bool) {T x : List Bool} → Whole T x → Fine m → firesIn m allowed x ≡ true → moveShown T (direct x) m ≡ true
 unfolding firesIn
 fires-met m allowed {T} {x} w f e = sym (flags-met w f) ∙ all-three (getD x (m .fact) false) (getD allowed (m .fact) false) (flagsMet m x) e .2
 
 -- A move that does not fire adds nothing that is allowed and lacking.
-pub fires-none : (m : Move) (allowed : List Bool) {T x : List Bool} → Whole T x → Fine m → firesIn m allowed x ≡ false → direct allowed (m .fact) ≡ true → met T (direct x) m ≡ true → direct x (m .fact) ≡ true
+pub fires-none : (m : Move) (allowed : List Bool) {T x : List Bool} → Whole T x → Fine m → firesIn m allowed x ≡ false → direct allowed (m .fact) ≡ true → moveShown T (direct x) m ≡ true → direct x (m .fact) ≡ true
 unfolding firesIn
 fires-none m allowed {T} {x} w f e u h =
     direct-low x (m .fact) (f .fact)
@@ -90,7 +91,7 @@ module _ {ms : Moves} {p : ℕ} {T allowed x₀ x : List Bool} {start : ℕ} {ou
   pub room-left : {i : ℕ} {r : Bool} → i < ms .count → r ≡ firesIn (moveAt ms i) allowed x → r ≡ true → n < 160
   room-left {i} l t y =
       let f = sound .fine i l in
-      omega (arith, added-room (world T ms ms p) (k .added) (f .fact) (fires-new (moveAt ms i) allowed x f (sym t ∙ y)), asks-length out start n)
+      omega (arith, added-room (world-lawful T ms ms p) (k .added) (f .fact) (fires-new (moveAt ms i) allowed x f (sym t ∙ y)), asks-length out start n)
 
   -- A move that fires keeps the invariant.
   pub kept-add : {m : Move} {i : ℕ} {r : Bool} {z : List Bool} {out′ : List ℕ} → i < ms .count → r ≡ firesIn (moveAt ms i) allowed x → r ≡ true
@@ -114,7 +115,7 @@ module _ {ms : Moves} {p : ℕ} {T allowed x₀ x : List Bool} {start : ℕ} {ou
     whole = k .whole;
     size = k .size;
     stands = k .stands;
-    few = omega (arith, added-count (world T ms ms p) (k .added), asks-length out start n, count-le (direct x) 160);
+    few = omega (arith, added-count (world-lawful T ms ms p) (k .added), asks-length out start n, count-le (direct x) 160);
     added = k .added;
     closed = record {
       add = λ q u m. subst (λ (a : Ask). direct x (a .fact) ≡ true) (sym (m .same))

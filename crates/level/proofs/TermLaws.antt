@@ -9,24 +9,25 @@ use native.Mathlib.Omega.{arith}
 use lib.ListN.{length, getD, take, set, length-set}
 use lib.Seq.{getD-set-same, getD-set-other}
 use borrow.Author.Tests.{lt-ltb, le-ltb, eq-eqb, ne-eqb}
-use Rattle.theory.specs.Facts.{State, _⊆_}
+use Rattle.theory.specs.Inner.Facts.{State, _⊆_}
 use Rattle.theory.proofs.FactLaws.{at}
-use Rattle.level.specs.Shown.{shown}
-use Rattle.level.specs.Monotone.{shown-mono}
-use Rattle.level.specs.Moves.{all, placesOf, met, placeOf}
+use Rattle.level.specs.Inner.Shown.{visible}
+use Rattle.level.proofs.WorldLaws.{visible-mono}
+use Rattle.level.specs.Inner.Moves.{placesOf, moveShown, placeOf}
+use Rattle.quantifiers.specs.Quantifiers.{all}
 use Rattle.level.specs.declared.Move.{Move}
 use Rattle.frames.specs.declared.Term.{Term}
 use Rattle.frames.specs.declared.Rule.{Rule}
 use Rattle.frames.specs.Book.{noTerm}
-use Rattle.level.specs.Terms.{GoodRule, MoveOf, TermInRange, codeOf, effective, ruleShown, termShown}
+use Rattle.level.specs.Inner.Terms.{GoodRule, MoveOf, TermInRange, codeOf, effective, ruleShown, termShown}
 
-shown-direct : (T : List Bool) (S : State) (k : ℕ) → k < 160 → shown T S k ≡ S k
-unfolding shown
-shown-direct T S k h = rw (lt-ltb k 160 h)
+visible-direct : (T : List Bool) (S : State) (k : ℕ) → k < 160 → visible T S k ≡ S k
+unfolding visible
+visible-direct T S k h = rw (lt-ltb k 160 h)
 
-shown-effective : (T : List Bool) (S : State) (k : ℕ) → shown T S (160 + k) ≡ effective T S k
-unfolding shown effective
-shown-effective T S k = let e : 160 + k - 160 ≡ k = omega arith in rw (le-ltb (160 + k) 160 (omega arith), e)
+visible-effective : (T : List Bool) (S : State) (k : ℕ) → visible T S (160 + k) ≡ effective T S k
+unfolding visible effective
+visible-effective T S k = let e : 160 + k - 160 ≡ k = omega arith in rw (le-ltb (160 + k) 160 (omega arith), e)
 
 -- A term in range has a place.
 pub code-lt : (t : Term) → TermInRange t → codeOf (t .kind) (t .a) (t .v) < 320
@@ -37,19 +38,19 @@ code-lt t r = dite (ℕ-discrete (t .kind) 1) (λ (e : t .kind ≡ 1). rw (eq-eq
     (λ (n₃ : t .kind ≡ 3 → ⊥). rw (ne-eqb (t .kind) 1 n₁, ne-eqb (t .kind) 2 n₂, ne-eqb (t .kind) 3 n₃) (omega (arith, r .crew n₁ n₂)))))
 
 -- What is shown at a term's place is whether the term holds.
-pub term-place : (T : List Bool) (S : State) (t : Term) → TermInRange t → shown T S (codeOf (t .kind) (t .a) (t .v)) ≡ termShown T S t
+pub term-place : (T : List Bool) (S : State) (t : Term) → TermInRange t → visible T S (codeOf (t .kind) (t .a) (t .v)) ≡ termShown T S t
 unfolding codeOf termShown
-term-place T S t r = dite (ℕ-discrete (t .kind) 1) (λ (e : t .kind ≡ 1). rw (eq-eqb (t .kind) 1 e) (shown-direct T S (16 * t .a + t .v) (omega (arith, r .value e))))
-    (λ (n₁ : t .kind ≡ 1 → ⊥). dite (ℕ-discrete (t .kind) 2) (λ (e : t .kind ≡ 2). rw (ne-eqb (t .kind) 1 n₁, eq-eqb (t .kind) 2 e) (shown-effective T S (16 * t .a + t .v)))
-    (λ (n₂ : t .kind ≡ 2 → ⊥). dite (ℕ-discrete (t .kind) 3) (λ (e : t .kind ≡ 3). rw (ne-eqb (t .kind) 1 n₁, ne-eqb (t .kind) 2 n₂, eq-eqb (t .kind) 3 e) (shown-direct T S (128 + t .a) (omega (arith, r .crew n₁ n₂))))
+term-place T S t r = dite (ℕ-discrete (t .kind) 1) (λ (e : t .kind ≡ 1). rw (eq-eqb (t .kind) 1 e) (visible-direct T S (16 * t .a + t .v) (omega (arith, r .value e))))
+    (λ (n₁ : t .kind ≡ 1 → ⊥). dite (ℕ-discrete (t .kind) 2) (λ (e : t .kind ≡ 2). rw (ne-eqb (t .kind) 1 n₁, eq-eqb (t .kind) 2 e) (visible-effective T S (16 * t .a + t .v)))
+    (λ (n₂ : t .kind ≡ 2 → ⊥). dite (ℕ-discrete (t .kind) 3) (λ (e : t .kind ≡ 3). rw (ne-eqb (t .kind) 1 n₁, ne-eqb (t .kind) 2 n₂, eq-eqb (t .kind) 3 e) (visible-direct T S (128 + t .a) (omega (arith, r .crew n₁ n₂))))
     (λ (n₃ : t .kind ≡ 3 → ⊥). rw (ne-eqb (t .kind) 1 n₁, ne-eqb (t .kind) 2 n₂, ne-eqb (t .kind) 3 n₃) (crew (t .a)))))
   where
-    crew : (a : ℕ) → shown T S (288 + a) ≡ effective T S (128 + a)
-    crew a = let e : 288 + a ≡ 160 + (128 + a) = omega arith in rw e (shown-effective T S (128 + a))
+    crew : (a : ℕ) → visible T S (288 + a) ≡ effective T S (128 + a)
+    crew a = let e : 288 + a ≡ 160 + (128 + a) = omega arith in rw e (visible-effective T S (128 + a))
 
 -- More facts break no term.
 pub term-mono : (T : List Bool) {S Z : State} (t : Term) → TermInRange t → S ⊆ Z → termShown T S t ≡ true → termShown T Z t ≡ true
-term-mono T {S} {Z} t r le h = sym (term-place T Z t r) ∙ shown-mono T le (codeOf (t .kind) (t .a) (t .v)) (term-place T S t r ∙ h)
+term-mono T {S} {Z} t r le h = sym (term-place T Z t r) ∙ visible-mono T le (codeOf (t .kind) (t .a) (t .v)) (term-place T S t r ∙ h)
 
 all-zip : (p : ℕ → Bool) (q : Term → Bool) (n : ℕ) (ks : List ℕ) (ts : List Term) → n ≤ length ks → n ≤ length ts → ((j : ℕ) → j < n → p (getD ks j 0) ≡ q (getD ts j noTerm)) → all p (take n ks) ≡ all q (take n ts)
 unfolding all
@@ -59,10 +60,10 @@ all-zip p q (suc n) (k ∷ ks) [] a b h = absurd (omega arith)
 all-zip p q (suc n) (k ∷ ks) (t ∷ ts) a b h = rw (h 0 (omega arith), all-zip p q n ks ts (omega arith) (omega arith) (λ j l. h (suc j) (omega arith)))
 
 -- The move's terms hold just where the rule's do.
-pub move-met : (T : List Bool) (S : State) {r : Rule} {m : Move} → GoodRule r → MoveOf r m → met T S m ≡ ruleShown T S r
-unfolding met ruleShown placesOf
-move-met T S {r} {m} g k = rw (k .n) (all-zip (shown T S) (termShown T S) (r .n) (m .terms) (r .terms) (omega (arith, g .few, k .fine .size)) (omega (arith, g .few, g .size))
-    (λ j l. ap (shown T S) (k .places j l) ∙ term-place T S (getD (r .terms) j noTerm) (g .terms j l)))
+pub move-met : (T : List Bool) (S : State) {r : Rule} {m : Move} → GoodRule r → MoveOf r m → moveShown T S m ≡ ruleShown T S r
+unfolding moveShown ruleShown placesOf
+move-met T S {r} {m} g k = rw (k .n) (all-zip (visible T S) (termShown T S) (r .n) (m .terms) (r .terms) (omega (arith, g .few, k .fine .size)) (omega (arith, g .few, g .size))
+    (λ j l. ap (visible T S) (k .places j l) ∙ term-place T S (getD (r .terms) j noTerm) (g .terms j l)))
 
 -- The places of the first `j` terms are written, and no others.
 pub record PlacesSoFar (r : Rule) (ks : List ℕ) (j : ℕ) : Type 0 where

@@ -6,7 +6,7 @@ use mathlib.Core.Bool.{Bool, false}
 use Prim.Native.Nat.{ℕ, suc, _+_, _-_, _*_, _≤_, _<_}
 use native.Mathlib.Decide.{ℕ-discrete, decLt}
 use native.Mathlib.Omega.{arith}
-use Rattle.level.specs.Sweep.{Next, Turned}
+use Rattle.level.specs.Inner.Sweep.{Next, TurnAt}
 
 -- The place `j` is one of the last `quiet` before `i`, in a round of `n`.
 abbrev pub Window : ℕ → ℕ → ℕ → ℕ → Type 0
@@ -29,10 +29,10 @@ window-next {n} {i} {r} quiet j x h l w = by-cases (ℕ-discrete j i) (λ e. inl
     ⊎-elim (λ (a : (j < r) × (r ≤ j + (quiet + 1))). inl (omega arith, omega arith)) (λ (a : n + r ≤ j + (quiet + 1)). inr (omega arith)) w)))
 
 -- A turn stays where the sweep stands, or goes to a move by its name.
-pub turn-stays : {n tried i tried′ : ℕ} (quiet : ℕ) → i < n → tried ≤ tried′ → tried′ ≤ 160 → Turned n tried i quiet tried′ i quiet
+pub turn-stays : {n tried i tried′ : ℕ} (quiet : ℕ) → i < n → tried ≤ tried′ → tried′ ≤ 160 → TurnAt n tried i quiet tried′ i quiet
 turn-stays quiet l o m = record { fits = l; onward = o; names = m; goes = inl (refl, refl) }
 
-pub turn-goes : {n tried k : ℕ} (i quiet : ℕ) → k < n → tried < 160 → Turned n tried i quiet (tried + 1) k 0
+pub turn-goes : {n tried k : ℕ} (i quiet : ℕ) → k < n → tried < 160 → TurnAt n tried i quiet (tried + 1) k 0
 turn-goes i quiet l m = record { fits = l; onward = omega arith; names = omega arith; goes = inr (omega arith, refl) }
 
 -- Where a sweep of `n` moves stands, with `tried` of `size` names tried: it looks at move `i`, and the last `quiet` moves before it do not fire.
@@ -55,7 +55,7 @@ module _ {n : ℕ} {fires : ℕ → Bool} {size tried i quiet : ℕ} (s : Sweepi
   pub sweeping-ended : n ≤ quiet → (j : ℕ) → j < n → fires j ≡ false
   sweeping-ended h j l = s .still j l (window-all n i quiet j (s .within (omega arith)) h l)
 
-  module _ {tried′ i′ quiet′ : ℕ} (t : Turned n tried i quiet tried′ i′ quiet′) where
+  module _ {tried′ i′ quiet′ : ℕ} (t : TurnAt n tried i quiet tried′ i′ quiet′) where
     -- The sweep goes on.
     pub turned : Sweeping n fires size tried′ i′ quiet′
     turned = ⊎-elim
@@ -73,7 +73,7 @@ module _ {n : ℕ} {fires : ℕ → Bool} {size tried i quiet : ℕ} (s : Sweepi
     }
 
 -- A turn calls no move quiet that was not.
-pub turn-quiet : {n tried i quiet tried′ i′ quiet′ : ℕ} → Turned n tried i quiet tried′ i′ quiet′ → quiet < n → quiet′ < n
+pub turn-quiet : {n tried i quiet tried′ i′ quiet′ : ℕ} → TurnAt n tried i quiet tried′ i′ quiet′ → quiet < n → quiet′ < n
 turn-quiet {n} {tried} {i} {quiet} {tried′} {i′} {quiet′} t q =
     ⊎-elim (λ (g : (i′ ≡ i) × (quiet′ ≡ quiet)). omega (arith, g .1)) (λ (g : (tried < tried′) × (quiet′ ≡ 0)). omega (arith, g .1)) (t .goes)
 
@@ -94,7 +94,7 @@ fired-less n quiet tried tried′ {left} {left′} l =
     rounds-less n (161 * left′ + (160 - tried′)) (161 * left + (160 - tried)) (n - 0) (n - quiet) (omega arith) (omega arith)
 
 -- So does one that does not.
-pub quiet-less : {n tried i quiet tried′ i′ quiet′ : ℕ} (left : ℕ) → Turned n tried i quiet tried′ i′ quiet′ → quiet < n
+pub quiet-less : {n tried i quiet tried′ i′ quiet′ : ℕ} (left : ℕ) → TurnAt n tried i quiet tried′ i′ quiet′ → quiet < n
     → steps-left n left tried′ (quiet′ + 1) < steps-left n left tried quiet
 quiet-less {n} {tried} {i} {quiet} {tried′} {i′} {quiet′} left t q =
     by-cases (decLt tried tried′)

@@ -4,16 +4,16 @@ ghost use mathlib.Core.Path.{_≡_};
 ghost use mathlib.Core.Bool.{true, false, not, _&&_, _||_};
 ghost use Prim.Native.Nat.{_+_, _*_, _≤_, _<_};
 ghost use lib.ListN.{length, getD};
-ghost use Rattle.theory.specs.Facts.{_⊆_};
-ghost use Rattle.level.specs.Shown.{touches, More, rowFlags, Put, direct};
-ghost use Rattle.level.specs.Moves.{flagsMet, flagsWith, placeOf, Fine, Sound, askOf, moveFrom, moveAt, movesIn};
-ghost use Rattle.level.specs.Chosen.{chosenIn, Numbers, MovePut};
-ghost use Rattle.level.specs.Terms.{codeOf, GoodRule, MoveOf};
-ghost use Rattle.level.specs.Notes.{Noted};
-ghost use Rattle.level.specs.Build.{Blank, Built, Stripped, Copied, Lacks};
-ghost use Rattle.level.specs.Sweep.{firesIn, Next, Turned, Ready, Closed};
-ghost use Rattle.level.specs.BackSweep.{backsIn, ReadyBack, ClosedBack};
-ghost use Rattle.level.specs.Settle.{Sizes, Rounded, Result};
+ghost use Rattle.theory.specs.Inner.Facts.{_⊆_};
+ghost use Rattle.level.specs.Inner.Shown.{touches, More, rowFlags, Put, direct};
+ghost use Rattle.level.specs.Inner.Moves.{flagsMet, flagsWith, placeOf, Fine, Sound, askOf, moveFrom, moveAt, movesIn};
+ghost use Rattle.level.specs.Inner.Chosen.{chosenIn, Numbers, MovePut};
+ghost use Rattle.level.specs.Inner.Terms.{codeOf, GoodRule, MoveOf};
+ghost use Rattle.level.specs.Inner.Notes.{Noted};
+ghost use Rattle.level.specs.Inner.Build.{Blank, Built, Stripped, Copied, Lacks};
+ghost use Rattle.level.specs.Inner.Sweep.{firesIn, Next, TurnAt, Ready, Closed};
+ghost use Rattle.level.specs.Inner.BackSweep.{backsIn, ReadyBack, ClosedBack};
+ghost use Rattle.level.specs.Inner.Settle.{Lengths, Rounded, Result};
 
 // A rule as a move: the fact that it adds or deletes, the bytes of its request, and the places of its terms.
 pub struct Move {
@@ -296,7 +296,7 @@ pub struct Turn {
 // A name that no move has ends the names.
 fn turn_at(names: &[u16], tried: usize, i: usize, quiet: usize, count: usize) -> Turn
     requires { ⌜ (length (now names) ≡ 160) × ((tried ≤ 160) × (i < count)) ⌝ }
-    ensures { λ r. ⌜ Turned count tried i quiet (r .tried) (r .i) (r .quiet) ⌝ }
+    ensures { λ r. ⌜ TurnAt count tried i quiet (r .tried) (r .i) (r .quiet) ⌝ }
 {
     if tried == 160 {
         return Turn { tried, i, quiet };
@@ -559,7 +559,7 @@ pub fn round(
     down: &mut [u8],
 ) -> Ends
     requires { ⌜ Sound (movesIn (now adds)) × Sound (movesIn (now dels)) ⌝ }
-    requires { ⌜ Sizes (now table) (now bad) (now s) (now u) (now x) (now y) (now d) start (now up) end (now down) ⌝ }
+    requires { ⌜ Lengths (now table) (now bad) (now s) (now u) (now x) (now y) (now d) start (now up) end (now down) ⌝ }
     requires { ⌜ (direct (now s) ⊆ direct (now u)) ⌝ }
     requires { ⌜ (length (now added) ≡ 160) × (length (now deleted) ≡ 160) ⌝ }
     ensures { λ r. ⌜ Rounded (movesIn (now (adds .entry))) (movesIn (now (dels .entry))) subject (now (table .entry)) (now (bad .entry)) (now (s .entry)) (now (u .entry)) (now (x .exit)) (now (y .exit)) (now (d .exit)) start (now (up .entry)) (now (up .exit)) (r .ups) end (now (down .entry)) (now (down .exit)) (r .at) ⌝ }
@@ -600,7 +600,7 @@ pub fn settle(
     down: &mut [u8],
 ) -> Outcome
     requires { ⌜ Sound (movesIn (now adds)) × Sound (movesIn (now dels)) ⌝ }
-    requires { ⌜ Sizes (now table) (now bad) (now s) (now u) (now x) (now y) (now d) start (now up) end (now down) ⌝ }
+    requires { ⌜ Lengths (now table) (now bad) (now s) (now u) (now x) (now y) (now d) start (now up) end (now down) ⌝ }
     requires { ⌜ (direct (now s) ⊆ direct (now u)) ⌝ }
     requires { ⌜ (length (now added) ≡ 160) × (length (now deleted) ≡ 160) ⌝ }
     ensures { λ r. ⌜ Result (movesIn (now (adds .entry))) (movesIn (now (dels .entry))) subject (now (table .entry)) (now (bad .entry)) (now (s .entry)) (now (u .entry)) (now (x .exit)) start (now (up .entry)) (now (up .exit)) end (now (down .entry)) (now (down .exit)) (r .found) (r .ups) (r .at) ⌝ }

@@ -2,8 +2,11 @@
 ghost use mathlib.Core.Path.{_≡_};
 ghost use Prim.Native.Nat.{_+_, _*_, _<_, _≤_};
 ghost use lib.ListN.{length, drop};
-ghost use Rattle.lines.specs.Digits.{digit, character, isDigit, all, byteAt, Decoded};
-ghost use Rattle.lines.specs.Lines.{toEnd, opening, following};
+ghost use Rattle.lines.specs.Digits.{digit, character, isDigit, byteAt};
+ghost use Rattle.quantifiers.specs.Quantifiers.{all};
+ghost use Rattle.lines.specs.Inner.Decoding.{Decoded};
+ghost use Rattle.lines.specs.Lines.{toEnd};
+ghost use Rattle.lines.specs.Inner.Cursors.{opening, following};
 ghost use Rattle.lines.specs.Inner.Front.{Tabled, firstLine, Begun, isEnd};
 
 // A place in a book: the character at which a line starts, and the line's number.

@@ -11,44 +11,18 @@ use native.Mathlib.Omega.{arith}
 use native.Mathlib.Nat.{not-suc-le-zero, le-of-suc-le-suc}
 use lib.ListN.{length, getD, take, drop, length-drop}
 use lib.Seq.{getD-take, getD-drop, length-take-le}
-use Rattle.level.specs.Moves.{Moves, moveFrom, movesIn, moveAt}
-use Rattle.level.specs.Terms.{MoveOf}
-use Rattle.level.specs.Chosen.{chosenIn, ruleAt, GoodRules, MovesOf, MovePut}
+use Rattle.quantifiers.proofs.BelowLaws.{count-yes, count-no, count-longer, count-four}
+use Rattle.level.specs.Inner.Moves.{Moves, moveFrom, movesIn, moveAt}
+use Rattle.level.specs.Inner.Terms.{MoveOf}
+use Rattle.level.specs.Inner.Chosen.{chosenIn, ruleAt, GoodRules, MovesOf, MovePut}
 use Rattle.level.specs.declared.Move.{Move}
 use Rattle.level.proofs.MoveLaws.{move-same}
 use Rattle.level.proofs.ChosenLaws.{moves-more, moves-skip, chosen-none}
 use Rattle.frames.specs.Book.{noRule}
 use Rattle.frames.specs.declared.Rule.{Rule}
 use Rattle.frames.specs.declared.Rules.{Rules}
-use Rattle.moves.specs.Listed.{ofList, oneIf, countBelow, isChosen, chosenCount, RoomFrom, Taken, movesFrom, Gathered, partOf, Prepared}
-
--- ---------------------------------------------------------------- how many pass a test
-
--- One number more, that passes or does not.
-module _ (p : ℕ → Bool) (n : ℕ) where
-  count-yes : p n ≡ true → countBelow p (n + 1) ≡ countBelow p n + 1
-  unfolding countBelow oneIf
-  count-yes e = rw (add-one, e)
-
-  count-no : p n ≡ false → countBelow p (n + 1) ≡ countBelow p n
-  unfolding countBelow oneIf
-  count-no e = rw (add-one, e) (omega arith)
-
--- Of more numbers at least as many pass.
-count-mono : (p : ℕ → Bool) (i n : ℕ) → i ≤ n → countBelow p i ≤ countBelow p n
-unfolding countBelow
-count-mono p i zero h = let e : i ≡ 0 = omega arith in rw e (omega arith)
-count-mono p i (suc n) h =
-    dite (decLt i (suc n))
-    (λ (l : i < suc n). let below = count-mono p i n (omega arith) in omega (arith, below))
-    (λ (l : i < suc n → ⊥). let e : i ≡ suc n = omega arith in rw e (omega arith))
-
--- Where no number passes two of four tests, no more pass than there are.
-count-four : (p q r s : ℕ → Bool) (n : ℕ) → ((i : ℕ) → oneIf (p i) + oneIf (q i) + oneIf (r i) + oneIf (s i) ≤ 1)
-    → countBelow p n + countBelow q n + countBelow r n + countBelow s n ≤ n
-unfolding countBelow
-count-four p q r s zero h = omega arith
-count-four p q r s (suc n) h = omega (arith, count-four p q r s n h, h n)
+use Rattle.moves.specs.Inner.Listed.{ofList, isChosen, chosenCount, RoomFrom, Taken, movesFrom, Gathered, partOf, Prepared}
+use Rattle.quantifiers.specs.Inner.Lists.{oneIf, countBelow}
 
 -- ---------------------------------------------------------------- one rule more
 
@@ -113,12 +87,12 @@ module _ {rs : Rules} {one two roles from : ℕ} {xs : List ℕ} {i k : ℕ} {ys
   -- There is room for the move of a chosen rule.
   pub gathered-room : RoomFrom rs one two roles from → isChosen rs one two roles i ≡ true → k < 512
   gathered-room room e =
-      omega (arith, g .ends, count-yes (isChosen rs one two roles) i e, count-mono (isChosen rs one two roles) (i + 1) (rs .count) (omega arith))
+      omega (arith, g .ends, count-yes (isChosen rs one two roles) i e, count-longer (isChosen rs one two roles) (i + 1) (rs .count) (omega arith))
 
 -- There is never more than the room asked.
 pub gathered-few : {rs : Rules} {one two roles from : ℕ} {xs : List ℕ} {i k : ℕ} {ys : List ℕ} → Gathered rs one two roles from xs i k ys
     → RoomFrom rs one two roles from → k ≤ 512
-gathered-few {rs} {one} {two} {roles} {from} {xs} {i} g room = omega (arith, g .ends, count-mono (isChosen rs one two roles) i (rs .count) (g .moves .fits))
+gathered-few {rs} {one} {two} {roles} {from} {xs} {i} g room = omega (arith, g .ends, count-longer (isChosen rs one two roles) i (rs .count) (g .moves .fits))
 
 -- Within a list it does not matter what stands past its end.
 getD-within : {X : Type 0} (xs : List X) (i : ℕ) (d e : X) → i < length xs → getD xs i d ≡ getD xs i e
@@ -164,13 +138,11 @@ moves-part from n xs h room w =
 -- ---------------------------------------------------------------- four sides
 
 one-at-most : (b : Bool) → oneIf b ≤ 1
-unfolding oneIf
 one-at-most true = omega arith
 one-at-most false = omega arith
 
 -- A rule of no op of a side is not chosen there.
 apart : (one two roles : ℕ) (r : Rule) → (r .op ≡ one → ⊥) → (r .op ≡ two → ⊥) → oneIf (chosenIn one two roles r) ≡ 0
-unfolding oneIf
 apart one two roles r n e = rw (← chosen-none one two roles r n e)
 
 -- A rule has one op, so it is chosen for one side at most.

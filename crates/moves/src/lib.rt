@@ -3,9 +3,9 @@ ghost use mathlib.Core.Path.{_≡_};
 ghost use mathlib.Core.Bool.{true};
 ghost use Prim.Native.Nat.{_<_};
 ghost use lib.ListN.{length};
-ghost use Rattle.level.specs.Terms.{GoodRule};
-ghost use Rattle.level.specs.Chosen.{chosenIn, GoodRules};
-ghost use Rattle.moves.specs.Listed.{ofList, RoomFrom, Taken, Gathered, Prepared};
+ghost use Rattle.level.specs.Inner.Terms.{GoodRule};
+ghost use Rattle.level.specs.Inner.Chosen.{chosenIn, GoodRules};
+ghost use Rattle.moves.specs.Inner.Listed.{ofList, RoomFrom, Taken, Gathered, Prepared};
 use frames::Rule;
 use frames::Rules;
 

@@ -22,7 +22,7 @@ use Rattle.answers.specs.Written.{answerText, Written}
 use Rattle.answers.proofs.AnswerLaws.{line-long}
 use Rattle.answers.proofs.WrittenLaws.{end-within}
 use Rattle.plan.specs.Printed.{PlanPrinted, PrintedFor, Printed}
-use Rattle.plan.specs.Inner.Tried.{isShort, Tried}
+use Rattle.plan.specs.Inner.Tried.{isShort, PrintedIfRoom}
 
 -- ---------------------------------------------------------------- the text of an answer
 
@@ -70,7 +70,7 @@ printed-any {book} answer room =
 -- ---------------------------------------------------------------- what is put in the text
 
 -- Nothing is put.
-pub tried-none : {book : List ℕ} (text : List ℕ) → Tried book text 0 text
+pub tried-none : {book : List ℕ} (text : List ℕ) → PrintedIfRoom book text 0 text
 tried-none text = record { kept = λ e. refl; within = omega arith; printed = λ h. absurd (omega arith) }
 
 -- The text of an answer is not empty.
@@ -80,7 +80,7 @@ some-text (said81 n) plan = omega (arith, length-append (hexLine (countBytes n))
 some-text (said8F number line) plan = omega (arith, line-long (refusedBytes number line))
 
 pub tried-put : {book before out text after : List ℕ} {end : ℕ} (answer : Planned) → PlanPromise book before answer out → isShort (said answer) ≡ false
-    → Written text 0 (answerText (said answer) out) after end → Tried book text end after
+    → Written text 0 (answerText (said answer) out) after end → PrintedIfRoom book text end after
 tried-put {book} {before} {out} {text} {after} {end} answer promise not-short w =
     record {
       kept = λ e. absurd (omega (arith, w .long, some-text (said answer) out));

@@ -9,7 +9,7 @@ ghost use Rattle.planner.specs.Answer.{said};
 ghost use Rattle.answers.specs.Written.{Written};
 ghost use Rattle.plan.specs.Printed.{Printed};
 ghost use Rattle.plan.specs.Inner.Front.{Begins};
-ghost use Rattle.plan.specs.Inner.Tried.{isShort, Tried};
+ghost use Rattle.plan.specs.Inner.Tried.{isShort, PrintedIfRoom};
 use libc::STDIN_FILENO;
 use libc::STDOUT_FILENO;
 
@@ -38,7 +38,7 @@ fn is_short(answer: planner::Planned) -> bool
 // The same with a buffer that may be too short for the book: then the text is left as it was, and 0 returned.
 fn answer_in(text: &mut [u8], n: usize, plan: &mut [u8]) -> usize
     requires { ⌜ (n ≤ length (now text)) × ((9 ≤ length (now text)) × (35 + 11 * length (now plan) ≤ 5 * length (now text))) ⌝ }
-    ensures { λ end. ⌜ Tried (take n (now (text .entry))) (now (text .entry)) end (now (text .exit)) ⌝ }
+    ensures { λ end. ⌜ PrintedIfRoom (take n (now (text .entry))) (now (text .entry)) end (now (text .exit)) ⌝ }
 {
     let planned = planner::plan(&text[..n], plan);
     if is_short(planned) {
@@ -50,7 +50,7 @@ fn answer_in(text: &mut [u8], n: usize, plan: &mut [u8]) -> usize
 // With a buffer for the plans of books of up to 849 facts.
 fn answer_849(text: &mut [u8], n: usize) -> usize
     requires { ⌜ (n ≤ length (now text)) × (18688 ≤ length (now text)) ⌝ }
-    ensures { λ end. ⌜ Tried (take n (now (text .entry))) (now (text .entry)) end (now (text .exit)) ⌝ }
+    ensures { λ end. ⌜ PrintedIfRoom (take n (now (text .entry))) (now (text .entry)) end (now (text .exit)) ⌝ }
 {
     let mut plan = [0u8; 8490];
     answer_in(text, n, &mut plan)
@@ -59,7 +59,7 @@ fn answer_849(text: &mut [u8], n: usize) -> usize
 // Of up to 204 facts.
 fn answer_204(text: &mut [u8], n: usize) -> usize
     requires { ⌜ (n ≤ length (now text)) × (18688 ≤ length (now text)) ⌝ }
-    ensures { λ end. ⌜ Tried (take n (now (text .entry))) (now (text .entry)) end (now (text .exit)) ⌝ }
+    ensures { λ end. ⌜ PrintedIfRoom (take n (now (text .entry))) (now (text .entry)) end (now (text .exit)) ⌝ }
 {
     let mut plan = [0u8; 2040];
     answer_in(text, n, &mut plan)
@@ -89,7 +89,7 @@ fn facts_asked(book: &[u8]) -> usize {
 // With a small buffer for the plan. 0 where that is too short, and where the book fills the text, so that more of it may follow.
 fn answer_small(text: &mut [u8], n: usize) -> usize
     requires { ⌜ (n ≤ length (now text)) × (18688 ≤ length (now text)) ⌝ }
-    ensures { λ end. ⌜ Tried (take n (now (text .entry))) (now (text .entry)) end (now (text .exit)) × (0 < end → n < length (now (text .entry))) ⌝ }
+    ensures { λ end. ⌜ PrintedIfRoom (take n (now (text .entry))) (now (text .entry)) end (now (text .exit)) × (0 < end → n < length (now (text .entry))) ⌝ }
 {
     if n == text.len() {
         return 0;

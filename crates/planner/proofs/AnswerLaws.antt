@@ -11,25 +11,26 @@ use Rattle.gate.specs.declared.Sizes.{Sizes}
 use Rattle.gate.specs.Gate.{InRange}
 use Rattle.frames.specs.Book.{Contents, refused, accepted, bookOf}
 use Rattle.frames.specs.declared.Refusal as frames
-use Rattle.frames.specs.Fits.{Admitted}
+use Rattle.frames.specs.Inner.Fits.{Admitted}
 use Rattle.replay.specs.Chains.{fives, Leads}
 use Rattle.replay.specs.Met.{met}
 use Rattle.replay.proofs.ReplayLaws.{replay-reaches}
-use Rattle.theory.specs.Plan.{Ask}
-use Rattle.level.specs.Notes.{asks}
+use Rattle.quantifiers.proofs.ListLaws.{map-append}
+use Rattle.theory.specs.Inner.Plan.{Ask}
+use Rattle.level.specs.Inner.Notes.{asks}
 use Rattle.level.proofs.NoteLaws.{asks-length}
-use Rattle.reach.specs.Tracked.{bytesOf}
-use Rattle.drafts.specs.Drafts.{carried, flat}
+use Rattle.reach.specs.Inner.Tracked.{bytesOf}
+use Rattle.drafts.specs.Inner.Drafts.{carried, flat}
 use Rattle.drafts.proofs.DraftLaws.{run-carried, flat-append, fives-flat, length-flat}
-use Rattle.search.specs.Drive.{starts, drafted}
-use Rattle.search.specs.Scan.{NoRun, Written}
+use Rattle.search.specs.Inner.Drive.{starts, drafted}
+use Rattle.search.specs.Inner.Scan.{NoRun, BestWritten}
 use Rattle.planner.specs.Count.{factCount}
 use Rattle.planner.specs.Promise.{NoWay, Works}
 use Rattle.planner.specs.declared.Planned.{Planned}
 use Rattle.planner.specs.declared.Planned.the-variants.{Refused}
 use Rattle.planner.specs.declared.Refusal.the-variants.{BadBook, ShortBuffer}
 use Rattle.planner.specs.Answer.{front, Said, said80, said81, said8F, said, PlanGiven, Decided, Answered, PlanPromise}
-use Rattle.planner.specs.Inner.Found.{Found, Reply, reply, given}
+use Rattle.planner.specs.Inner.Found.{PlanFound, PlanReply, planReply, given}
 use Rattle.planner.proofs.CountLaws.{plan-few}
 use Rattle.planner.proofs.PromiseLaws.{lastLedger, no-run-no-way, best-no-way, best-leads, best-works}
 
@@ -53,11 +54,7 @@ module _ (z : Sizes) (range : InRange z) where
 
 -- ---------------------------------------------------------------- the requests written
 
-map-append : (us ds : List Ask) → map bytesOf (us ++ ds) ≡ map bytesOf us ++ map bytesOf ds
-map-append [] ds = refl
-map-append (u ∷ us) ds = ap (λ (x : List (List ℕ)). bytesOf u ∷ x) (map-append us ds)
-
-module _ (b : Contents) (ok : Admitted b) {up down : List ℕ} {ups at : ℕ} (w : Written b up down ups at) where
+module _ (b : Contents) (ok : Admitted b) {up down : List ℕ} {ups at : ℕ} (w : BestWritten b up down ups at) where
   drafted-is : drafted up ups down at ≡ map bytesOf (w .us) ++ map bytesOf (w .ds)
   drafted-is =
       ap (λ (x : List (List ℕ)). x ++ map bytesOf (asks down at (5280 - at))) (sym (w .bytes-up))
@@ -98,7 +95,7 @@ module _ (b : Contents) (ok : Admitted b) {up down : List ℕ} {ups at : ℕ} (w
       bytes = flat (map bytesOf (w .us ++ w .ds))
 
       is′ : out ≡ bytes ++ drop (5 * n) before
-      is′ = is ∙ ap (λ (c : List (List ℕ)). flat c ++ drop (5 * n) before) (drafted-is ∙ sym (map-append (w .us) (w .ds)))
+      is′ = is ∙ ap (λ (c : List (List ℕ)). flat c ++ drop (5 * n) before) (drafted-is ∙ sym (map-append bytesOf (w .us) (w .ds)))
 
       five : length bytes ≡ 5 * n
       five = length-flat (w .us ++ w .ds) ∙ ap (λ (k : ℕ). 5 * k) (whole ∙ sym count)
@@ -110,7 +107,7 @@ module _ (b : Contents) (ok : Admitted b) {up down : List ℕ} {ups at : ℕ} (w
       fives-are = ap fives front-is ∙ fives-flat (w .us ++ w .ds)
 
       chain-is : fives (front n out) ≡ map bytesOf (w .us) ++ map bytesOf (w .ds)
-      chain-is = fives-are ∙ map-append (w .us) (w .ds)
+      chain-is = fives-are ∙ map-append bytesOf (w .us) (w .ds)
 
       works : Works b (map bytesOf (w .us) ++ map bytesOf (w .ds))
       works = best-works b ok (w .best) (ap (λ (l : List ℕ). met b (holds l)) (sym last-is) ∙ e)
@@ -160,15 +157,15 @@ drafted-length up ups down at =
     ∙ ap (λ (n : ℕ). ups + n) (length-map (asks down at (5280 - at)) bytesOf ∙ asks-length down at (5280 - at))
 
 -- No way is given, or the plan.
-pub given-none : (found : Bool) (chain : List (List ℕ)) {before : List ℕ} → found ≡ false → reply said80 before ≡ given found chain before
+pub given-none : (found : Bool) (chain : List (List ℕ)) {before : List ℕ} → found ≡ false → planReply said80 before ≡ given found chain before
 given-none found chain {before} e = ap (λ (t : Bool). given t chain before) (sym e)
 
 pub given-plan : (found : Bool) (up : List ℕ) (ups : ℕ) (down : List ℕ) (at : ℕ) (before : List ℕ) {out : List ℕ} {n : ℕ} → found ≡ true → n ≡ ups + (5280 - at)
     → out ≡ flat (drafted up ups down at) ++ drop (5 * (ups + (5280 - at))) before
-    → reply (said81 n) out ≡ given found (drafted up ups down at) before
+    → planReply (said81 n) out ≡ given found (drafted up ups down at) before
 given-plan found up ups down at before {out} {n} e count is =
-    ap (λ (k : ℕ). reply (said81 k) out) (count ∙ sym long)
-    ∙ ap (reply (said81 (length (drafted up ups down at)))) (is ∙ ap (λ (k : ℕ). flat (drafted up ups down at) ++ drop (5 * k) before) (sym long))
+    ap (λ (k : ℕ). planReply (said81 k) out) (count ∙ sym long)
+    ∙ ap (planReply (said81 (length (drafted up ups down at)))) (is ∙ ap (λ (k : ℕ). flat (drafted up ups down at) ++ drop (5 * k) before) (sym long))
     ∙ ap (λ (t : Bool). given t (drafted up ups down at) before) (sym e)
   where
     long : length (drafted up ups down at) ≡ ups + (5280 - at)
@@ -176,7 +173,7 @@ given-plan found up ups down at before {out} {n} e count is =
 
 module _ (b : Contents) (ok : Admitted b) {up down : List ℕ} where
   -- No run ends clear of the forbidden facts: nothing is found.
-  pub found-none : NoRun b → Found b up down false 0 5280
+  pub found-none : NoRun b → PlanFound b up down false 0 5280
   found-none stuck =
       record {
         reached = λ e. absurd (true≢false (sym e));
@@ -187,8 +184,8 @@ module _ (b : Contents) (ok : Admitted b) {up down : List ℕ} where
       }
 
   -- The best plan's last ledger decides.
-  pub found-best : {ups at : ℕ} (found : Bool) → Written b up down ups at
-      → found ≡ met b (holds (carried (b .facts) (drafted up ups down at))) → Found b up down found ups at
+  pub found-best : {ups at : ℕ} (found : Bool) → BestWritten b up down ups at
+      → found ≡ met b (holds (carried (b .facts) (drafted up ups down at))) → PlanFound b up down found ups at
   found-best {ups} {at} found w e =
       record {
         reached = λ t. record { written = w; meets = sym e ∙ t };
@@ -199,18 +196,18 @@ module _ (b : Contents) (ok : Admitted b) {up down : List ℕ} where
       }
 
   -- What is given for it is what demand 3 says.
-  pub given-decided : {ups at : ℕ} {found : Bool} → Found b up down found ups at → (before : List ℕ) {s : Said} {out : List ℕ}
-      → 10 * factCount (b .sizes) ≤ length before → reply s out ≡ given found (drafted up ups down at) before → Decided b before s out
+  pub given-decided : {ups at : ℕ} {found : Bool} → PlanFound b up down found ups at → (before : List ℕ) {s : Said} {out : List ℕ}
+      → 10 * factCount (b .sizes) ≤ length before → planReply s out ≡ given found (drafted up ups down at) before → Decided b before s out
   given-decided {ups} {at} {found} f before {s} {out} long e = by-found found refl e
     where
       count : length (drafted up ups down at) ≡ ups + (5280 - at)
       count = drafted-length up ups down at
 
-      by-found : (t : Bool) → found ≡ t → reply s out ≡ given t (drafted up ups down at) before → Decided b before s out
+      by-found : (t : Bool) → found ≡ t → planReply s out ≡ given t (drafted up ups down at) before → Decided b before s out
       by-found false is g =
-          subst (λ (r : Reply). Decided b before (r .answer) (r .buffer)) (sym g) (f .none is, refl)
+          subst (λ (r : PlanReply). Decided b before (r .answer) (r .buffer)) (sym g) (f .none is, refl)
       by-found true is g =
-          subst (λ (r : Reply). Decided b before (r .answer) (r .buffer)) (sym g)
+          subst (λ (r : PlanReply). Decided b before (r .answer) (r .buffer)) (sym g)
           (reached b ok (f .reached is .written) (f .reached is .meets) before (length (drafted up ups down at)) _ count
           (omega (arith, count, f .few, long)) refl)
 

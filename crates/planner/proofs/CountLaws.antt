@@ -13,86 +13,89 @@ use borrow.Author.Tests.{ltb-true}
 use Rattle.facts.specs.declared.Fact.{Fact}
 use Rattle.facts.specs.declared.Fact.the-variants.{Holds, CrewHolds, Member}
 use Rattle.gate.specs.Gate.{isPerson, isCrew, isAttr, isValue, valuesOf}
-use Rattle.inherit.proofs.InheritanceLaws.{and-both}
+use Rattle.quantifiers.proofs.BoolLaws.{and-both}
 use Rattle.frames.specs.Book.{Contents}
-use Rattle.frames.specs.Fits.{inSizes, Admitted}
+use Rattle.frames.specs.Inner.Fits.{inSizes, Admitted}
 use Rattle.requests.proofs.RequestLaws.{well-formed-fact}
-use Rattle.theory.specs.Facts.{State, _⊆_, put, bit, count}
-use Rattle.theory.proofs.FactLaws.{put-same, put-other, at, count-le, count-mono, count-put}
-use Rattle.theory.specs.Plan.{Ask, Req, req, apply, end, Runs, World, Moves, Plan}
-use Rattle.reach.specs.Tracked.{personLevel, tracked, numberOf, factAt, isNumber, track, bytesOf, asked, May}
-use Rattle.reach.specs.Goal.{bad}
+use Rattle.theory.specs.Inner.Facts.{State, _⊆_, update}
+use Rattle.quantifiers.specs.Inner.Lists.{oneIf, countBelow}
+use Rattle.theory.proofs.FactLaws.{update-same, update-other, at, count-update}
+use Rattle.quantifiers.proofs.BelowLaws.{count-le, count-mono}
+use Rattle.theory.specs.Inner.Plan.{Ask, Req, req, apply, end, Runs, World, Lawful, Step, Plan}
+use Rattle.reach.specs.Inner.Tracked.{personLevel, tracked, numberOf, factAt, isNumber, track, bytesOf, asked, May}
+use Rattle.reach.specs.Inner.Goal.{bad}
 use Rattle.reach.proofs.TrackLaws.{tracked-value, tracked-crew, tracked-member, fact-tracked, track-at}
-use Rattle.reach.proofs.DepotLaws.{depot}
+use Rattle.reach.specs.Inner.Depot.{depot}
+use Rattle.reach.proofs.DepotLaws.{depot-lawful}
 use Rattle.planner.specs.Count.{factCount}
 
 -- ---------------------------------------------------------------- counting
 
 -- A set without a number at or above a bound has no more than the bound.
-few : (S : State) (m n : ℕ) → ((i : ℕ) → i < n → S i ≡ true → i < m) → count S n ≤ m
-unfolding count
+few : (S : State) (m n : ℕ) → ((i : ℕ) → i < n → S i ≡ true → i < m) → countBelow S n ≤ m
+unfolding countBelow
 few S m zero h = omega arith
 few S m (suc n) h = by-last (S n) refl (few S m n (λ i l t. h i (omega arith) t))
   where
-    by-last : (x : Bool) → S n ≡ x → count S n ≤ m → bit x + count S n ≤ m
+    by-last : (x : Bool) → S n ≡ x → countBelow S n ≤ m → countBelow S n + oneIf x ≤ m
     by-last true e rest = omega (arith, count-le S n, h n (omega arith) e)
     by-last false e rest = omega (arith, rest)
 
 -- A count in two parts.
-count-split : (S : State) (m n : ℕ) → count S (m + n) ≡ count S m + count (λ i. S (m + i)) n
-unfolding count
-count-split S m zero = let e : m + 0 ≡ m = omega arith in omega (arith, ap (count S) e)
-count-split S m (suc n) = let e : m + suc n ≡ suc (m + n) = omega arith in omega (arith, ap (count S) e, count-split S m n)
+count-split : (S : State) (m n : ℕ) → countBelow S (m + n) ≡ countBelow S m + countBelow (λ i. S (m + i)) n
+unfolding countBelow
+count-split S m zero = let e : m + 0 ≡ m = omega arith in omega (arith, ap (countBelow S) e)
+count-split S m (suc n) = let e : m + suc n ≡ suc (m + n) = omega arith in omega (arith, ap (countBelow S) e, count-split S m n)
 
 -- Where nothing lies at or above a bound, counting stops there.
-cap : (S : State) (m n : ℕ) → m ≤ n → ((i : ℕ) → i < n → S i ≡ true → i < m) → count S n ≤ count S m
+cap : (S : State) (m n : ℕ) → m ≤ n → ((i : ℕ) → i < n → S i ≡ true → i < m) → countBelow S n ≤ countBelow S m
 cap S m n le h =
     let e : m + (n - m) ≡ n = omega arith in
     let z = few (λ i. S (m + i)) 0 (n - m) (λ i l t. absurd (omega (arith, h (m + i) (omega arith) t))) in
-    omega (arith, ap (count S) e, count-split S m (n - m), z)
+    omega (arith, ap (countBelow S) e, count-split S m (n - m), z)
 
 -- Blocks of one width, none of which counts more than a bound.
-blocks : (S : State) (w m n : ℕ) → ((k : ℕ) → k < n → count (λ i. S (w * k + i)) w ≤ m) → count S (w * n) ≤ n * m
-unfolding count
-blocks S w m zero h = let e : w * 0 ≡ 0 = omega arith in omega (arith, ap (count S) e)
+blocks : (S : State) (w m n : ℕ) → ((k : ℕ) → k < n → countBelow (λ i. S (w * k + i)) w ≤ m) → countBelow S (w * n) ≤ n * m
+unfolding countBelow
+blocks S w m zero h = let e : w * 0 ≡ 0 = omega arith in omega (arith, ap (countBelow S) e)
 blocks S w m (suc n) h =
     let e : w * suc n ≡ w * n + w = omega arith in
-    omega (arith, ap (count S) e, count-split S (w * n) w, h n (omega arith), blocks S w m n (λ k l. h k (omega arith)))
+    omega (arith, ap (countBelow S) e, count-split S (w * n) w, h n (omega arith), blocks S w m n (λ k l. h k (omega arith)))
 
 -- ---------------------------------------------------------------- requests on the facts of a set
 
 -- The facts of a state that are in a set.
-abbrev only : State → State → State
-only S I g = S g && I g
+abbrev inSet : State → State → State
+inSet S I g = S g && I g
 
-only-in : (S I : State) → only S I ⊆ I
-only-in S I f = right (S f) (I f)
+in-set-in : (S I : State) → inSet S I ⊆ I
+in-set-in S I f = right (S f) (I f)
   where
     right : (x y : Bool) → x && y ≡ true → y ≡ true
     right true y e = e
     right false y e = absurd (true≢false (sym e))
 
-only-put : (S I : State) (f : ℕ) (on : Bool) → I f ≡ true → only (put S f on) I ≡ put (only S I) f on
-only-put S I f on h =
-    fun-ext λ g. at (λ g. (put S f on g && I g) ≡ put (only S I) f on g) f g (rw (put-same, put-same, h) (and-true on)) (λ n. rw (put-other, put-other) refl)
+in-set-update : (S I : State) (f : ℕ) (on : Bool) → I f ≡ true → inSet (update S f on) I ≡ update (inSet S I) f on
+in-set-update S I f on h =
+    fun-ext λ g. at (λ g. (update S f on g && I g) ≡ update (inSet S I) f on g) f g (rw (update-same, update-same, h) (and-true on)) (λ n. rw (update-other, update-other) refl)
 
-module _ (W : World) (I : State) (in-set : (S : State) (on : Bool) (q : Ask) → W .May S (req on q) → I (q .fact) ≡ true) where
+module _ {W : World} (lawful : Lawful W) (I : State) (in-set : (S : State) (on : Bool) (q : Ask) → W .May S (req on q) → I (q .fact) ≡ true) where
   -- Each request that changes a fact of the set changes the count by one.
-  counted : (S : State) (on : Bool) (q : Ask) → Moves W S (req on q)
-      → count (only (put S (q .fact) on) I) (W .F) + bit (only S I (q .fact)) ≡ count (only S I) (W .F) + bit on
-  counted S on q m = rw (only-put S I (q .fact) on (in-set S on q (m .may))) (count-put (only S I) (q .fact) on (W .F) (W .known S on q (m .may)))
+  counted : (S : State) (on : Bool) (q : Ask) → Step W S (req on q)
+      → countBelow (inSet (update S (q .fact) on) I) (W .F) + oneIf (inSet S I (q .fact)) ≡ countBelow (inSet S I) (W .F) + oneIf on
+  counted S on q m = rw (in-set-update S I (q .fact) on (in-set S on q (m .may))) (count-update (inSet S I) (q .fact) on (W .F) (lawful .known S on q (m .may)))
 
-  additions : (S : State) (us : List Ask) → Runs (Moves W) S (map (req true) us) → count (only S I) (W .F) + length us ≤ count I (W .F)
-  additions S [] r = omega (arith, count-mono (only-in S I) (W .F))
+  additions : (S : State) (us : List Ask) → Runs (Step W) S (map (req true) us) → countBelow (inSet S I) (W .F) + length us ≤ countBelow I (W .F)
+  additions S [] r = omega (arith, count-mono (in-set-in S I) (W .F))
   additions S (q ∷ us) r =
-      let none : bit (only S I (q .fact)) ≡ 0 = rw (r .0 .new) refl in
-      omega (arith, counted S true q (r .0), none, additions (put S (q .fact) true) us (r .1))
+      let none : oneIf (inSet S I (q .fact)) ≡ 0 = rw (r .0 .new) refl in
+      omega (arith, counted S true q (r .0), none, additions (update S (q .fact) true) us (r .1))
 
-  deletions : (S : State) (ds : List Ask) → Runs (Moves W) S (map (req false) ds) → length ds ≤ count (only S I) (W .F)
+  deletions : (S : State) (ds : List Ask) → Runs (Step W) S (map (req false) ds) → length ds ≤ countBelow (inSet S I) (W .F)
   deletions S [] r = omega arith
   deletions S (q ∷ ds) r =
-      let one : bit (only S I (q .fact)) ≡ 1 = rw (r .0 .new, in-set S false q (r .0 .may)) refl in
-      omega (arith, counted S false q (r .0), one, deletions (put S (q .fact) false) ds (r .1))
+      let one : oneIf (inSet S I (q .fact)) ≡ 1 = rw (r .0 .new, in-set S false q (r .0 .may)) refl in
+      omega (arith, counted S false q (r .0), one, deletions (update S (q .fact) false) ds (r .1))
 
 -- A chain in two parts runs in both.
 pub runs-first : (P : State → Req → Type 0) (S : State) (xs ys : List Req) → Runs P S (xs ++ ys) → Runs P S xs
@@ -171,7 +174,7 @@ module _ (b : Contents) where
 
   module _ (ok : Admitted b) where
     -- The values of a level.
-    level-values : (k : ℕ) → count (λ i. inside (160 * k + i)) 128 ≤ b .sizes .attrs * b .sizes .values
+    level-values : (k : ℕ) → countBelow (λ i. inside (160 * k + i)) 128 ≤ b .sizes .attrs * b .sizes .values
     level-values k =
         let top = cap (λ i. inside (160 * k + i)) (16 * b .sizes .attrs) 128 (omega (arith, ok .sized .attrs-most))
         (λ i l t. let f : (160 * k + i) % 160 ≡ i = omega arith in omega (arith, f, shape (160 * k + i) t .attr (omega (arith, f)))) in
@@ -184,7 +187,7 @@ module _ (b : Contents) where
         omega (arith, top, rows)
 
     -- A crew's level.
-    level-crew : (k : ℕ) → k < b .sizes .crews → count (λ i. inside (160 * k + i)) 160 ≤ b .sizes .attrs * b .sizes .values
+    level-crew : (k : ℕ) → k < b .sizes .crews → countBelow (λ i. inside (160 * k + i)) 160 ≤ b .sizes .attrs * b .sizes .values
     level-crew k l =
         let top = cap (λ i. inside (160 * k + i)) 128 160 (omega arith)
         (λ i m t.
@@ -194,7 +197,7 @@ module _ (b : Contents) where
         omega (arith, top, level-values k)
 
     -- The person's level.
-    level-person : count (λ i. inside (160 * b .sizes .crews + i)) 160 ≤ b .sizes .attrs * b .sizes .values + b .sizes .crews
+    level-person : countBelow (λ i. inside (160 * b .sizes .crews + i)) 160 ≤ b .sizes .attrs * b .sizes .values + b .sizes .crews
     level-person =
         let k = b .sizes .crews in
         let members = few (λ i. inside (160 * k + (128 + i))) k 32
@@ -204,7 +207,7 @@ module _ (b : Contents) where
         omega (arith, count-split (λ i. inside (160 * k + i)) 128 32, members, level-values k)
 
     -- The tracked facts within the sizes are no more than the paper's count.
-    pub inside-few : count inside 5280 ≤ factCount (b .sizes)
+    pub inside-few : countBelow inside 5280 ≤ factCount (b .sizes)
     unfolding factCount
     inside-few =
         let k = b .sizes .crews in
@@ -216,16 +219,16 @@ module _ (b : Contents) where
     in-depot S on q m = inside-may S on q m
 
     -- Additions that each change the state are no more than the paper's count of facts.
-    pub additions-few : (S : State) (us : List Ask) → Runs (Moves (depot b)) S (map (req true) us) → length us ≤ factCount (b .sizes)
-    additions-few S us r = omega (arith, additions (depot b) inside in-depot S us r, inside-few)
+    pub additions-few : (S : State) (us : List Ask) → Runs (Step (depot b)) S (map (req true) us) → length us ≤ factCount (b .sizes)
+    additions-few S us r = omega (arith, additions (depot-lawful b) inside in-depot S us r, inside-few)
 
     -- So are deletions.
-    pub deletions-few : (S : State) (ds : List Ask) → Runs (Moves (depot b)) S (map (req false) ds) → length ds ≤ factCount (b .sizes)
-    deletions-few S ds r = omega (arith, deletions (depot b) inside in-depot S ds r, count-mono (only-in S inside) 5280, inside-few)
+    pub deletions-few : (S : State) (ds : List Ask) → Runs (Step (depot b)) S (map (req false) ds) → length ds ≤ factCount (b .sizes)
+    deletions-few S ds r = omega (arith, deletions (depot-lawful b) inside in-depot S ds r, count-mono (in-set-in S inside) 5280, inside-few)
 
     -- A plan has at most two requests for each fact.
     pub plan-few : (S₀ : State) {us ds : List Ask} → Plan (depot b) (bad b) S₀ us ds → length us + length ds ≤ 2 * factCount (b .sizes)
     plan-few S₀ {us} {ds} p =
-        let ups = runs-first (Moves (depot b)) S₀ (map (req true) us) (map (req false) ds) (p .runs) in
-        let downs = runs-last (Moves (depot b)) S₀ (map (req true) us) (map (req false) ds) (p .runs) in
+        let ups = runs-first (Step (depot b)) S₀ (map (req true) us) (map (req false) ds) (p .runs) in
+        let downs = runs-last (Step (depot b)) S₀ (map (req true) us) (map (req false) ds) (p .runs) in
         omega (arith, additions-few S₀ us ups, deletions-few (end S₀ (map (req true) us)) ds downs)

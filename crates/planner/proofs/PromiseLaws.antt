@@ -6,30 +6,30 @@ use Prim.Native.Nat.{ℕ}
 use Rattle.facts.specs.Facts.{holds}
 use Rattle.facts.specs.declared.Fact.{Fact}
 use Rattle.frames.specs.Book.{Contents}
-use Rattle.frames.specs.Fits.{Admitted}
+use Rattle.frames.specs.Inner.Fits.{Admitted}
 use Rattle.requests.specs.Requests.{adds, requestOf}
 use Rattle.requests.proofs.RequestLaws.{in-sizes-fits, well-formed-fact}
 use Rattle.ledger.specs.Ledger.{after}
 use Rattle.ledger.proofs.LedgerLaws.{after-same}
 use Rattle.replay.specs.Chains.{run, Leads}
 use Rattle.replay.specs.Met.{met}
-use Rattle.theory.specs.Facts.{State, _⊆_, put, Clear}
-use Rattle.theory.specs.Plan.{Ask, Req, req, end, Runs, plan, Absent, Distinct, Moves, Best}
+use Rattle.theory.specs.Inner.Facts.{State, _⊆_, update, Clear}
+use Rattle.theory.specs.Inner.Plan.{Ask, Req, req, end, Runs, addThenDelete, Absent, Distinct, Step, Best}
 use Rattle.theory.proofs.PlanLaws.{runs-map, not-self}
-use Rattle.reach.specs.Tracked.{numberOf, lift, track, bytesOf, asked, May}
+use Rattle.reach.specs.Inner.Tracked.{numberOf, lift, track, bytesOf, asked, May}
 use Rattle.reach.proofs.Chained.{Kept, trackedOf, fiveOf}
-use Rattle.reach.specs.Goal.{goal, bad}
+use Rattle.reach.specs.Inner.Goal.{goal, bad}
 use Rattle.reach.proofs.TrackLaws.{lift-mono, track-at}
-use Rattle.reach.proofs.DepotLaws.{depot}
+use Rattle.reach.specs.Inner.Depot.{depot}
 use Rattle.reach.proofs.ChainLaws.{kept-after, track-after, adding-of, Chained, chain-ran, run-chained}
 use Rattle.reach.proofs.GoalLaws.{goal-mono, met-goal, met-clear, goal-met, goal-local, clear-of, clear-from}
-use Rattle.search.specs.Drive.{starts}
-use Rattle.search.specs.Scan.{NoRun}
+use Rattle.search.specs.Inner.Drive.{starts}
+use Rattle.search.specs.Inner.Scan.{NoRun}
 use Rattle.planner.proofs.CountLaws.{runs-first, runs-last}
 use Rattle.planner.specs.Promise.{NoWay, Changing, Never, Once, Works}
 
 -- The requests of a plan, as bytes.
-fives-plan : (us ds : List Ask) → map fiveOf (plan us ds) ≡ map bytesOf us ++ map bytesOf ds
+fives-plan : (us ds : List Ask) → map fiveOf (addThenDelete us ds) ≡ map bytesOf us ++ map bytesOf ds
 fives-plan [] [] = refl
 fives-plan [] (d ∷ ds) = ap (λ (x : List (List ℕ)). bytesOf d ∷ x) (fives-plan [] ds)
 fives-plan (u ∷ us) ds = ap (λ (x : List (List ℕ)). bytesOf u ∷ x) (fives-plan us ds)
@@ -42,9 +42,9 @@ module _ (b : Contents) where
   Named on [] = Unit {0}
   Named on (q ∷ qs) = ((numberOf b (asked q .fact) ≡ q .fact) × (adds (asked q .op) ≡ on)) × Named on qs
 
-  named-all : (ok : Admitted b) (on : Bool) (S : State) (qs : List Ask) → Runs (Moves (depot b)) S (map (req on) qs) → Named on qs
+  named-all : (ok : Admitted b) (on : Bool) (S : State) (qs : List Ask) → Runs (Step (depot b)) S (map (req on) qs) → Named on qs
   named-all ok on S [] r = tt
-  named-all ok on S (q ∷ qs) r = ((r .0 .may .number, adding-of b ok q (r .0 .may .adding)), named-all ok on (put S (q .fact) on) qs (r .1))
+  named-all ok on S (q ∷ qs) r = ((r .0 .may .number, adding-of b ok q (r .0 .may .adding)), named-all ok on (update S (q .fact) on) qs (r .1))
 
   never-absent : (on : Bool) (f : Fact) (n : ℕ) → numberOf b f ≡ n → (qs : List Ask) → Absent n qs → Named on qs → Never on f (map bytesOf qs)
   unfolding Never
@@ -87,19 +87,19 @@ module _ (b : Contents) (ok : Admitted b) where
   kept-first : Kept b (b .facts)
   kept-first = record { room = ok .facts-room; inside = ok .facts-in }
 
-  changing : (rs : List Req) (l : List ℕ) → Kept b l → Runs (Moves (depot b)) (track b (holds l)) rs → Changing l (map fiveOf rs)
+  changing : (rs : List Req) (l : List ℕ) → Kept b l → Runs (Step (depot b)) (track b (holds l)) rs → Changing l (map fiveOf rs)
   unfolding Changing
   changing [] l kept r = tt
   changing (req on q ∷ rs) l kept r =
       let may = r .0 .may in
       let op : adds (asked q .op) ≡ on = adding-of b ok q (may .adding) in
-      let next : track b (holds (after l (asked q))) ≡ put (track b (holds l)) (q .fact) on =
+      let next : track b (holds (after l (asked q))) ≡ update (track b (holds l)) (q .fact) on =
       track-after b ok l kept (bytesOf q) (may .formed) (may .of-fact) ∙ rw (may .number, op) refl in
       let before : holds l (asked q .fact) ≡ not on = sym (track-at b (holds l) (asked q .fact) (may .of-fact)) ∙ ap (track b (holds l)) (may .number) ∙ r .0 .new in
       let behind : holds (after l (asked q)) (asked q .fact) ≡ on =
       after-same l (asked q) (kept .room) (in-sizes-fits (b .sizes) (asked q .fact) (ok .sized) (well-formed-fact (b .sizes) (bytesOf q) (may .formed))) ∙ op in (
         λ same. not-self on (sym behind ∙ ap (λ (x : List ℕ). holds x (asked q .fact)) same ∙ before),
-        changing rs (after l (asked q)) (kept-after b ok l kept (bytesOf q) (may .formed)) (subst (λ (S : State). Runs (Moves (depot b)) S rs) (sym next) (r .1)),
+        changing rs (after l (asked q)) (kept-after b ok l kept (bytesOf q) (may .formed)) (subst (λ (S : State). Runs (Step (depot b)) S rs) (sym next) (r .1)),
       )
 
   -- Where no run ends clear, no chain leads to a ledger that meets the query.
@@ -113,12 +113,12 @@ module _ (b : Contents) (ok : Admitted b) where
       }
 
   module _ {us ds : List Ask} (best : Best (depot b) (bad b) (starts b) us ds) where
-    may-run : Runs (depot b .May) (starts b) (plan us ds)
-    may-run = runs-map (Moves (depot b)) (depot b .May) (λ S r m. m .may) (starts b) (plan us ds) (best .way .runs)
+    may-run : Runs (depot b .May) (starts b) (addThenDelete us ds)
+    may-run = runs-map (Step (depot b)) (depot b .May) (λ S r m. m .may) (starts b) (addThenDelete us ds) (best .way .runs)
 
     -- The plan carried out from the starting facts.
-    pub done : Chained b ok (b .facts) 1 (plan us ds)
-    done = run-chained b ok (plan us ds) (b .facts) 1 kept-first may-run
+    pub done : Chained b ok (b .facts) 1 (addThenDelete us ds)
+    done = run-chained b ok (addThenDelete us ds) (b .facts) 1 kept-first may-run
 
     abbrev pub lastLedger : List ℕ
     lastLedger = done .last
@@ -142,10 +142,10 @@ module _ (b : Contents) (ok : Admitted b) where
         }
 
     up-named : Named b true us
-    up-named = named-all b ok true (starts b) us (runs-first (Moves (depot b)) (starts b) (map (req true) us) (map (req false) ds) (best .way .runs))
+    up-named = named-all b ok true (starts b) us (runs-first (Step (depot b)) (starts b) (map (req true) us) (map (req false) ds) (best .way .runs))
 
     down-named : Named b false ds
-    down-named = named-all b ok false (end (starts b) (map (req true) us)) ds (runs-last (Moves (depot b)) (starts b) (map (req true) us) (map (req false) ds) (best .way .runs))
+    down-named = named-all b ok false (end (starts b) (map (req true) us)) ds (runs-last (Step (depot b)) (starts b) (map (req true) us) (map (req false) ds) (best .way .runs))
 
     -- The plan leads to that ledger.
     pub best-leads : Leads b (map bytesOf us ++ map bytesOf ds) lastLedger
@@ -158,7 +158,7 @@ module _ (b : Contents) (ok : Admitted b) where
           last = lastLedger;
           led = best-leads;
           meets = meets;
-          changes = subst (Changing (b .facts)) (fives-plan us ds) (changing (plan us ds) (b .facts) kept-first (best .way .runs));
+          changes = subst (Changing (b .facts)) (fives-plan us ds) (changing (addThenDelete us ds) (b .facts) kept-first (best .way .runs));
           added-once = once-before b true (map bytesOf us) (map bytesOf ds) (once-own b true us (best .way .once-up) up-named)
               (λ f. never-other b true f ds down-named) (once-other b true ds down-named);
           deleted-once = once-behind b false us (map bytesOf ds) up-named (once-own b false ds (best .way .once-down) down-named);

@@ -3,16 +3,16 @@ ghost use mathlib.Core.Path.{_≡_};
 ghost use Prim.Native.Nat.{_+_, _-_, _*_, _≤_, _<_};
 ghost use lib.ListN.{length, drop};
 ghost use Rattle.frames.specs.Book.{contentsOf};
-ghost use Rattle.frames.specs.Fits.{Admitted};
+ghost use Rattle.frames.specs.Inner.Fits.{Admitted};
 ghost use mathlib.Core.List.{_++_};
 ghost use Rattle.facts.specs.Facts.{holds};
 ghost use Rattle.gate.specs.Gate.{InRange};
 ghost use Rattle.replay.specs.Met.{met};
-ghost use Rattle.drafts.specs.Drafts.{carried, flat};
+ghost use Rattle.drafts.specs.Inner.Drafts.{carried, flat};
 ghost use Rattle.planner.specs.Count.{factCount};
 ghost use Rattle.planner.specs.Answer.{refusalNumber, refusalLine, said, Answered, PlanPromise};
-ghost use Rattle.planner.specs.Inner.Found.{Found, reply, given};
-ghost use Rattle.search.specs.Drive.{drafted};
+ghost use Rattle.planner.specs.Inner.Found.{PlanFound, planReply, given};
+ghost use Rattle.search.specs.Inner.Drive.{drafted};
 use frames::Book;
 use gate::Sizes;
 use level::Outcome;
@@ -78,7 +78,7 @@ fn is_reached(b: Book, up: &[u8], ups: usize, down: &[u8], at: usize) -> bool
 fn best_plan(b: Book, up: &mut [u8], down: &mut [u8]) -> Outcome
     requires { ⌜ Admitted (contentsOf b) ⌝ }
     requires { ⌜ (length (now up) ≡ 26400) × (length (now down) ≡ 26400) ⌝ }
-    ensures { λ r. ⌜ Found (contentsOf b) (now (up .exit)) (now (down .exit)) (r .found) (r .ups) (r .at) ⌝ }
+    ensures { λ r. ⌜ PlanFound (contentsOf b) (now (up .exit)) (now (down .exit)) (r .found) (r .ups) (r .at) ⌝ }
 {
     let r = search::search(b, up, down);
     if !r.found {
@@ -112,7 +112,7 @@ fn write_plan(up: &[u8], ups: usize, down: &[u8], at: usize, out: &mut [u8]) -> 
 fn give(found: bool, up: &[u8], ups: usize, down: &[u8], at: usize, out: &mut [u8]) -> Planned
     requires { ⌜ (ups ≤ 5280) × ((at ≤ 5280) × (5 * (ups + (5280 - at)) ≤ length (now out))) ⌝ }
     requires { ⌜ (length (now up) ≡ 26400) × (length (now down) ≡ 26400) ⌝ }
-    ensures { λ r. ⌜ reply (said r) (now (out .exit)) ≡ given found (drafted (now (up .entry)) ups (now (down .entry)) at) (now (out .entry)) ⌝ }
+    ensures { λ r. ⌜ planReply (said r) (now (out .exit)) ≡ given found (drafted (now (up .entry)) ups (now (down .entry)) at) (now (out .entry)) ⌝ }
 {
     if !found {
         return Planned::NoWay;

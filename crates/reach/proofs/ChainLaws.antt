@@ -12,7 +12,7 @@ use Rattle.facts.specs.declared.Fact.{Fact}
 use Rattle.facts.specs.declared.Fact.the-variants.{Holds, CrewHolds, Member}
 use Rattle.facts.proofs.FactLaws.{fact-discrete}
 use Rattle.frames.specs.Book.{Contents}
-use Rattle.frames.specs.Fits.{Admitted}
+use Rattle.frames.specs.Inner.Fits.{Admitted}
 use Rattle.frames.specs.declared.Term.{Term}
 use Rattle.requests.specs.declared.Request.{Request}
 use Rattle.requests.specs.Requests.{adds, requestOf, wellFormed}
@@ -23,12 +23,12 @@ use Rattle.ledger.specs.Ledger.{after}
 use Rattle.ledger.proofs.LedgerLaws.{after-same, after-other, after-length, allowed-permitted, permitted-local, term-of-crew, term-of-person}
 use Rattle.replay.specs.Chains.{goes, ends, run}
 use Rattle.replay.proofs.ReplayLaws.{one-end, goes-parts, goes-from, run-none, run-goes, run-parts}
-use Rattle.theory.specs.Facts.{State, put}
-use Rattle.theory.specs.Plan.{Ask, Req, req, Runs, end}
-use Rattle.reach.specs.Tracked.{tracked, numberOf, lift, track, bytesOf, asked, May}
-use Rattle.reach.proofs.Chained.{Kept, askOf, trackedOf, fiveOf}
+use Rattle.theory.specs.Inner.Facts.{State, update}
+use Rattle.theory.specs.Inner.Plan.{Ask, Req, req, Runs, end}
+use Rattle.reach.specs.Inner.Tracked.{tracked, numberOf, lift, track, bytesOf, asked, May}
+use Rattle.reach.proofs.Chained.{Kept, askFor, trackedOf, fiveOf}
 use Rattle.reach.proofs.TrackLaws.{tracked-value, tracked-member, level-low, track-put, track-other, crew-held, person-held}
-use Rattle.reach.proofs.DepotLaws.{depot}
+use Rattle.reach.specs.Inner.Depot.{depot}
 
 -- A list of five is its five elements.
 five : (q : List ℕ) → length q ≡ 5 → (getD q 0 0 ∷ getD q 1 0 ∷ getD q 2 0 ∷ getD q 3 0 ∷ getD q 4 0 ∷ []) ≡ q
@@ -71,7 +71,7 @@ module _ (b : Contents) (ok : Admitted b) where
 
     -- It changes the state at its fact, where that is tracked, and nothing where it is not.
     pub track-after : (q : List ℕ) → wellFormed (b .sizes) q ≡ true → tracked b (requestOf q .fact) ≡ true
-        → track b (holds (after l (requestOf q))) ≡ put (track b (holds l)) (numberOf b (requestOf q .fact)) (adds (requestOf q .op))
+        → track b (holds (after l (requestOf q))) ≡ update (track b (holds l)) (numberOf b (requestOf q .fact)) (adds (requestOf q .op))
     track-after q formed t =
         track-put b (holds l) (holds (after l (requestOf q))) (requestOf q .fact) (adds (requestOf q .op)) t
         (after-same l (requestOf q) (kept .room) (in-sizes-fits (b .sizes) (requestOf q .fact) (ok .sized) (well-formed-fact (b .sizes) q formed)))
@@ -82,8 +82,8 @@ module _ (b : Contents) (ok : Admitted b) where
 
     -- A request that goes is permitted in the state.
     may-from : (q : List ℕ) → goes b (b .query .roles) l q ≡ true → tracked b (requestOf q .fact) ≡ true
-        → May b (track b (holds l)) (adds (requestOf q .op)) (askOf b q)
-    unfolding askOf
+        → May b (track b (holds l)) (adds (requestOf q .op)) (askFor b q)
+    unfolding askFor
     may-from q g t =
         let parts = goes-parts b (b .query .roles) l q g in
         let whole = five q (well-formed-length (b .sizes) q (parts .0)) in
@@ -116,7 +116,7 @@ module _ (b : Contents) (ok : Admitted b) where
     pub kept : Kept b last
 
   pub chain-ran : (chain : List (List ℕ)) (l : List ℕ) (k : ℕ) (last : List ℕ) → Kept b l → run b (b .query .roles) l k chain ≡ ends last → Ran l chain last
-  unfolding trackedOf askOf
+  unfolding trackedOf askFor
   chain-ran [] l k last kept e = let same = one-end l last (sym (run-none b (b .query .roles) l k) ∙ e) in record { runs = tt; ends-at = ap (λ (x : List ℕ). track b (holds x)) same; kept = subst (Kept b) same kept }
   chain-ran (q ∷ qs) l k last kept e =
       let parts = run-parts b (b .query .roles) l k q qs last e in
@@ -151,7 +151,7 @@ module _ (b : Contents) (ok : Admitted b) where
   run-chained [] l k kept ok = record { last = l; led = run-none b (b .query .roles) l k; ends-at = refl; kept = kept }
   run-chained (req on q ∷ rs) l k kept ok =
       let may = ok .0 in
-      let next : track b (holds (after l (asked q))) ≡ put (track b (holds l)) (q .fact) on =
+      let next : track b (holds (after l (asked q))) ≡ update (track b (holds l)) (q .fact) on =
       track-after l kept (bytesOf q) (may .formed) (may .of-fact) ∙ rw (may .number, adding-of q (may .adding)) refl in
       let rest = run-chained rs (after l (asked q)) (k + 1) (kept-after l kept (bytesOf q) (may .formed)) (subst (λ (S : State). Runs (depot b .May) S rs) (sym next) (ok .1)) in
       record {

@@ -7,10 +7,10 @@ use lib.ListN.{length, getD}
 use Rattle.facts.specs.Facts.{holds, ledgerSize}
 use Rattle.facts.specs.declared.Fact.{Fact}
 use Rattle.frames.specs.Book.{Contents}
-use Rattle.frames.specs.Fits.{inSizes}
+use Rattle.frames.specs.Inner.Fits.{inSizes}
 use Rattle.requests.specs.Requests.{adds, requestOf}
-use Rattle.theory.specs.Plan.{Ask, Req, req}
-use Rattle.reach.specs.Tracked.{tracked, numberOf, bytesOf}
+use Rattle.theory.specs.Inner.Plan.{Ask, Req, req}
+use Rattle.reach.specs.Inner.Tracked.{tracked, numberOf, bytesOf}
 
 -- A ledger of 1,792 bytes without a fact outside the sizes.
 pub record Kept (b : Contents) (l : List ℕ) : Type 0 where
@@ -18,8 +18,8 @@ pub record Kept (b : Contents) (l : List ℕ) : Type 0 where
   pub inside : (f : Fact) → holds l f ≡ true → inSizes (b .sizes) f ≡ true
 
 -- The request of five bytes.
-unfoldable pub askOf : Contents → List ℕ → Ask
-askOf b q =
+unfoldable pub askFor : Contents → List ℕ → Ask
+askFor b q =
     record {
       fact = numberOf b (requestOf q .fact);
       op = getD q 0 0;
@@ -32,7 +32,7 @@ askOf b q =
 -- The requests of a chain on tracked facts, in order.
 unfoldable pub trackedOf : Contents → List (List ℕ) → List Req
 trackedOf b [] = []
-trackedOf b (q ∷ qs) = cond (tracked b (requestOf q .fact)) (req (adds (requestOf q .op)) (askOf b q) ∷ trackedOf b qs) (trackedOf b qs)
+trackedOf b (q ∷ qs) = cond (tracked b (requestOf q .fact)) (req (adds (requestOf q .op)) (askFor b q) ∷ trackedOf b qs) (trackedOf b qs)
 
 -- The five bytes of a request of the theory.
 abbrev pub fiveOf : Req → List ℕ

@@ -1,4 +1,4 @@
--- The depot as a world of the theory: its permission is monotone, and turns on the facts of its own level and those below.
+-- The laws of the depot as a world of the theory: its permission is monotone, and turns on the facts of its own level and those below.
 use mathlib.Core.Path.{_≡_, sym, _∙_}
 use mathlib.Core.Bool.{Bool, true}
 use Prim.Native.Nat.{ℕ, _+_, _*_, _/_, _≤_, _<_}
@@ -12,26 +12,19 @@ use Rattle.requests.specs.declared.Request.{Request}
 use Rattle.rules.specs.Rules.{subjectOf, termHolds, permitted}
 use Rattle.rules.proofs.RuleLaws.{subject-value, subject-crew, subject-member}
 use Rattle.ledger.proofs.LedgerLaws.{SameOf, permitted-mono, permitted-local, term-of-crew, term-of-person}
-use Rattle.theory.specs.Facts.{State, _⊆_}
-use Rattle.theory.specs.Plan.{Ask, Req, req, World}
-use Rattle.theory.specs.Tiers.{Tiers}
-use Rattle.reach.specs.Tracked.{personLevel, tracked, numberOf, lift, asked, May}
+use Rattle.theory.specs.Inner.Facts.{State, _⊆_}
+use Rattle.theory.specs.Inner.Plan.{Ask, Req, req, World, Lawful}
+use Rattle.theory.specs.Inner.Tiers.{Local, Agree}
+use Rattle.reach.specs.Inner.Tracked.{personLevel, tracked, numberOf, lift, asked, May}
+use Rattle.reach.specs.Inner.Depot.{depot, levelOf}
 use Rattle.reach.proofs.TrackLaws.{tracked-value, tracked-crew, tracked-member, level-low, lift-mono, lift-same}
 
--- The world of a book's query.
-abbrev pub depot : Contents → World
-depot b = record {
-  May = may;
-  mono = up;
-  F = 5280;
-  known = in-F;
-}
+-- More facts permit no fewer requests, and every request is about a tracked fact.
+pub depot-lawful : (b : Contents) → Lawful (depot b)
+depot-lawful b = record { mono = more; known = in-F }
   where
-    may : State → Req → Type 0
-    may S (req on q) = May b S on q
-
-    up : {S T : State} (r : Req) → S ⊆ T → may S r → may T r
-    up {S} {T} (req on q) le m =
+    more : {S T : State} (r : Req) → S ⊆ T → depot b .May S r → depot b .May T r
+    more {S} {T} (req on q) le m =
         record {
           formed = m .formed;
           role = m .role;
@@ -42,16 +35,12 @@ depot b = record {
           allows = permitted-mono (b .juniors) (lift-mono b le) (b .rules) (asked q) (m .allows);
         }
 
-    in-F : (S : State) (on : Bool) (q : Ask) → may S (req on q) → q .fact < 5280
+    in-F : (S : State) (on : Bool) (q : Ask) → depot b .May S (req on q) → q .fact < 5280
     in-F S on q m = m .bounded
-
--- Two states that agree up to a level.
-abbrev pub Upto : ℕ → State → State → Type 0
-Upto k S T = (g : ℕ) → g / 160 ≤ k → S g ≡ T g
 
 module _ (b : Contents) (S T : State) where
   -- A term about a tracked subject reads facts of its level and those below alone.
-  terms-agree : (f : Fact) → tracked b f ≡ true → Upto (numberOf b f / 160) S T
+  terms-agree : (f : Fact) → tracked b f ≡ true → Agree levelOf (numberOf b f / 160) S T
       → (t : Term) → termHolds (b .juniors) (lift b S) (subjectOf f) t ≡ termHolds (b .juniors) (lift b T) (subjectOf f) t
   unfolding numberOf
   terms-agree (Holds p a v) e agree t =
@@ -86,14 +75,13 @@ module _ (b : Contents) (S T : State) where
       }) t)
 
   -- So does a permission.
-  pub permitted-agree : (r : Request) → tracked b (r .fact) ≡ true → Upto (numberOf b (r .fact) / 160) S T
+  pub permitted-agree : (r : Request) → tracked b (r .fact) ≡ true → Agree levelOf (numberOf b (r .fact) / 160) S T
       → permitted (b .juniors) (b .rules) (lift b S) r ≡ permitted (b .juniors) (b .rules) (lift b T) r
   permitted-agree r e agree = permitted-local (b .juniors) (lift b S) (lift b T) (b .rules) r (terms-agree (r .fact) e agree)
 
--- The levels of the depot are tiers of the theory.
-abbrev pub levels : (b : Contents) → Tiers (depot b)
-levels b = record {
-  tier = λ g. g / 160;
+-- A request is permitted alike wherever the facts of its level and of those below are alike: the levels are tiers of the theory.
+pub depot-local : (b : Contents) → Local (depot b) levelOf
+depot-local b = record {
   local = λ {S} {T} on q agree m. record {
     formed = m .formed;
     role = m .role;

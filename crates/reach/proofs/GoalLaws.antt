@@ -18,21 +18,24 @@ use Rattle.facts.specs.declared.Fact.{Fact}
 use Rattle.facts.specs.declared.Fact.the-variants.{Holds, CrewHolds, Member}
 use Rattle.gate.specs.Gate.{isPerson, isCrew, isAttr, isValue, valuesOf}
 use Rattle.inherit.specs.Inheritance.{isJunior, Falling, Below, here, down, downward, crewHolds, personHolds, Subset}
-use Rattle.inherit.proofs.InheritanceLaws.{and-both, not-on, any-from, any-cases, junior-member, reached, reaches, crew-holds-direct, crew-holds-junior, crew-holds-cases, person-holds-cases, person-holds-direct, person-holds-from}
+use Rattle.inherit.proofs.InheritanceLaws.{junior-member, reached, reaches, crew-holds-direct, crew-holds-junior, crew-holds-cases, person-holds-cases}
+use Rattle.inherit.proofs.InheritanceLaws.{person-holds-direct, person-holds-from}
+use Rattle.quantifiers.proofs.BelowLaws.{any-from, any-cases, all-at}
+use Rattle.quantifiers.proofs.BoolLaws.{and-both, not-on, and-from}
 use Rattle.frames.specs.declared.Want.{Want}
 use Rattle.frames.specs.Book.{Contents, noWant}
-use Rattle.frames.specs.Fits.{inSizes, wantOf, wantFits, Admitted}
-use Rattle.requests.proofs.RequestLaws.{and-from, all-at}
-use Rattle.rules.specs.Search.{all, any}
-use Rattle.rules.proofs.SearchLaws.{all-in, all-any, all-mono, all-front}
+use Rattle.frames.specs.Inner.Fits.{inSizes, wantOf, wantFits, Admitted}
+use Rattle.quantifiers.specs.Quantifiers.{all, any}
+use Rattle.quantifiers.proofs.ListLaws.{all-in, all-any, all-mono, all-front}
 use Rattle.ledger.specs.Show.{setBelow}
 use Rattle.ledger.proofs.OperationLaws.{set-below-from, set-below-parts, set-below-lt}
 use Rattle.ledger.proofs.LedgerLaws.{SameOf, value-set-below, member-value-set}
 use Rattle.replay.specs.Met.{wants, effectiveSet, directCrews, metAtLeast, metExactly, met}
-use Rattle.replay.proofs.MetLaws.{wants-front, direct-crews-below, at-least-each, exactly-parts, exactly-from, met-at-least, met-exactly, at-least-mono, direct-crews-mono, at-least-local, direct-crews-local}
-use Rattle.theory.specs.Facts.{Clear}
-use Rattle.reach.specs.Tracked.{tracked, numberOf, lift, factAt, isNumber, track}
-use Rattle.reach.specs.Goal.{banned, belowListed, forbids, forbidden, goal, bad}
+use Rattle.replay.proofs.MetLaws.{wants-front, direct-crews-below, at-least-each, exactly-parts, exactly-from, met-at-least, met-exactly, at-least-mono}
+use Rattle.replay.proofs.MetLaws.{direct-crews-mono, at-least-local, direct-crews-local}
+use Rattle.theory.specs.Inner.Facts.{Clear}
+use Rattle.reach.specs.Inner.Tracked.{tracked, numberOf, lift, factAt, isNumber, track}
+use Rattle.reach.specs.Inner.Goal.{banned, belowListed, forbids, forbidden, goal, bad}
 use Rattle.reach.proofs.TrackLaws.{tracked-value, tracked-member, number-is, number-fact, fact-tracked, track-at, crew-in, value-in, member-in, person-held}
 
 -- ---------------------------------------------------------------- tests

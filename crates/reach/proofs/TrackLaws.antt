@@ -14,15 +14,15 @@ use Rattle.facts.specs.declared.Fact.{Fact}
 use Rattle.facts.specs.declared.Fact.the-variants.{Holds, CrewHolds, Member}
 use Rattle.facts.proofs.FactLaws.{same-person}
 use Rattle.inherit.specs.Inheritance.{Subset}
-use Rattle.inherit.proofs.InheritanceLaws.{and-both}
+use Rattle.quantifiers.proofs.BoolLaws.{and-both, and-from}
 use Rattle.gate.specs.Gate.{isPerson, isCrew, isValue}
 use Rattle.frames.specs.Book.{Contents}
-use Rattle.frames.specs.Fits.{inSizes, Admitted}
-use Rattle.requests.proofs.RequestLaws.{and-from, value-bounds}
+use Rattle.frames.specs.Inner.Fits.{inSizes, Admitted}
+use Rattle.requests.proofs.RequestLaws.{value-bounds}
 use Rattle.ledger.proofs.LedgerLaws.{SameOf}
-use Rattle.theory.specs.Facts.{State, _⊆_, put}
-use Rattle.theory.proofs.FactLaws.{put-same, put-other}
-use Rattle.reach.specs.Tracked.{personLevel, isAsked, tracked, numberOf, lift, factAt, isNumber, track}
+use Rattle.theory.specs.Inner.Facts.{State, _⊆_, update}
+use Rattle.theory.proofs.FactLaws.{update-same, update-other}
+use Rattle.reach.specs.Inner.Tracked.{personLevel, isAsked, tracked, numberOf, lift, factAt, isNumber, track}
 
 -- ---------------------------------------------------------------- tracked facts
 
@@ -152,15 +152,15 @@ lift-same b S T f h = by-tracked (tracked b f) refl
 
 -- One tracked fact changed.
 pub track-put : (b : Contents) (F H : Fact → Bool) (f : Fact) (on : Bool) → tracked b f ≡ true → H f ≡ on → ((g : Fact) → (g ≡ f → ⊥) → H g ≡ F g)
-    → track b H ≡ put (track b F) (numberOf b f) on
+    → track b H ≡ update (track b F) (numberOf b f) on
 unfolding track
 track-put b F H f on t here other = fun-ext at-number
   where
-    at-number : (g : ℕ) → (isNumber b g && H (factAt b (g / 160) (g % 160))) ≡ put (track b F) (numberOf b f) on g
+    at-number : (g : ℕ) → (isNumber b g && H (factAt b (g / 160) (g % 160))) ≡ update (track b F) (numberOf b f) on g
     at-number g =
         dite (ℕ-discrete g (numberOf b f))
-        (λ (same : g ≡ numberOf b f). rw same (rw (number-is b f t, number-fact b f t, here) (sym (put-same (track b F) (numberOf b f) on))))
-        (λ (apart : g ≡ numberOf b f → ⊥). by-number (isNumber b g) refl apart ∙ sym (put-other (track b F) (numberOf b f) on apart))
+        (λ (same : g ≡ numberOf b f). rw same (rw (number-is b f t, number-fact b f t, here) (sym (update-same (track b F) (numberOf b f) on))))
+        (λ (apart : g ≡ numberOf b f → ⊥). by-number (isNumber b g) refl apart ∙ sym (update-other (track b F) (numberOf b f) on apart))
       where
         by-number : (n : Bool) → isNumber b g ≡ n → (g ≡ numberOf b f → ⊥) → (n && H (factAt b (g / 160) (g % 160))) ≡ isNumber b g && F (factAt b (g / 160) (g % 160))
         by-number true i apart = rw i (other (factAt b (g / 160) (g % 160)) (λ e. apart (sym (fact-tracked b g i .1) ∙ ap (numberOf b) e)))

@@ -8,7 +8,8 @@ use native.Mathlib.Decide.{decLt}
 use native.Mathlib.Omega.{arith}
 use lib.ListN.{length, take, drop, length-drop}
 use lib.Seq.{take-all}
-use Rattle.lines.specs.Digits.{malformed, InFront, FrontOnly, Decoded}
+use Rattle.lines.specs.Digits.{malformed}
+use Rattle.lines.specs.Inner.Decoding.{InFront, FrontOnly, Decoded}
 use Rattle.lines.specs.Lines.{toEnd}
 use Rattle.lines.specs.Inner.Front.{firstLine, Begun, isEnd}
 use Rattle.lines.specs.declared.Cursor.{Cursor}
@@ -18,7 +19,7 @@ use Rattle.lines.proofs.FrameLaws.{decoded-frame, decoded-long, decoded-malform
 use Rattle.lines.proofs.LineLaws.{end-at}
 use Rattle.reader.specs.declared.Line.{Line}
 use Rattle.reader.specs.declared.Read.{Read}
-use Rattle.reader.specs.Reading.{lineEnd, lineOf, LineRead, FrameRead}
+use Rattle.reader.specs.Inner.Reading.{lineEnd, lineOf, LineRead, FrameRead}
 
 -- The characters from a place on, as the code lends them.
 pub rest-of : (book : List ℕ) (at : ℕ) → take (length book - at) (drop at book) ≡ drop at book

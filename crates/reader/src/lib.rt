@@ -3,7 +3,7 @@ ghost use mathlib.Core.Path.{_≡_};
 ghost use Prim.Native.Nat.{_+_, _≤_};
 ghost use lib.ListN.{length};
 ghost use Rattle.lines.specs.Inner.Front.{Tabled};
-ghost use Rattle.reader.specs.Reading.{LineRead, FrameRead};
+ghost use Rattle.reader.specs.Inner.Reading.{LineRead, FrameRead};
 use lines::Cursor;
 
 // What a line gives: its frame, and the place of its end.

@@ -4,7 +4,7 @@ ghost use mathlib.Core.Path.{_≡_};
 ghost use Prim.Native.Nat.{_+_, _*_, _<_, _≤_};
 ghost use lib.ListN.{length, getD};
 ghost use Rattle.facts.specs.Facts.{ledgerSize};
-ghost use Rattle.gate.specs.Gate.{allBelow};
+ghost use Rattle.quantifiers.specs.Quantifiers.{allBelow};
 ghost use Rattle.requests.specs.Requests.{adds, aimed, requestOf, fieldsGood, wellFormed};
 ghost use Rattle.requests.specs.Suitable.{roomOf, valueSetGood, memberSetGood, suitable};
 use facts::Attr;

@@ -11,39 +11,44 @@ use lib.ListN.{length, getD}
 use borrow.Author.Tests.{le-ltb, le-leb, lt-leb, eq-eqb, ne-eqb, eqb-true}
 use Rattle.facts.specs.declared.Attr.{Attr}
 use Rattle.facts.specs.declared.Fact.the-variants.{CrewHolds}
-use Rattle.inherit.specs.Inheritance.{isJunior, anyBelow, downward, crewHolds}
-use Rattle.inherit.proofs.InheritanceLaws.{and-both, not-on, any-same, any-cases, junior-member, downward-step, crew-holds-cases}
+use Rattle.inherit.specs.Inheritance.{isJunior, downward, crewHolds}
+use Rattle.quantifiers.specs.Quantifiers.{anyBelow}
+use Rattle.inherit.proofs.InheritanceLaws.{junior-member, downward-step, crew-holds-cases}
+use Rattle.quantifiers.proofs.BelowLaws.{any-same, any-cases}
+use Rattle.quantifiers.proofs.BoolLaws.{and-both, not-on}
 use Rattle.frames.specs.declared.Rules.{Rules}
 use Rattle.frames.specs.Book.{Contents, listed}
-use Rattle.frames.specs.Fits.{Admitted}
-use Rattle.theory.specs.Facts.{State, _⊆_, Clear}
-use Rattle.theory.specs.Plan.{Ask, Req, Runs, end, Best}
+use Rattle.frames.specs.Inner.Fits.{Admitted}
+use Rattle.quantifiers.proofs.ListLaws.{map-append}
+use Rattle.theory.specs.Inner.Facts.{State, _⊆_, Clear}
+use Rattle.theory.specs.Inner.Plan.{Ask, Req, Runs, end, Best}
 use Rattle.theory.proofs.PlanLaws.{bounds-first}
-use Rattle.level.specs.Moves.{Moves}
-use Rattle.level.specs.Shown.{row, shown, direct, Whole}
-use Rattle.level.specs.Terms.{effective}
-use Rattle.level.specs.World.{world}
+use Rattle.level.specs.Inner.Moves.{Moves}
+use Rattle.level.specs.Inner.Shown.{row, visible, direct, Whole}
+use Rattle.level.specs.Inner.Terms.{effective}
+use Rattle.level.specs.Inner.World.{world}
 use Rattle.level.proofs.Levels.{onLevel, toWhole, Within}
-use Rattle.level.specs.Notes.{askAt, asks}
-use Rattle.level.specs.Settle.{Settled, Stuck}
-use Rattle.level.specs.Upto.{Upto}
+use Rattle.level.specs.Inner.Notes.{askAt, asks}
+use Rattle.level.specs.Inner.Settle.{Settled, Stuck}
+use Rattle.level.specs.Inner.Upto.{Upto}
 use Rattle.level.proofs.ShownLaws.{direct-low, direct-in}
 use Rattle.level.proofs.NoteLaws.{asks-same}
 use Rattle.level.proofs.LevelLaws.{on-level-in, on-level-out, stuck-none}
 use Rattle.level.proofs.UptoLaws.{upto-first, upto-next, upto-best}
-use Rattle.reach.specs.Tracked.{personLevel, tracked, numberOf, lift, track, isNumber, bytesOf, May}
-use Rattle.reach.specs.Goal.{bad}
+use Rattle.reach.specs.Inner.Tracked.{personLevel, tracked, numberOf, lift, track, isNumber, bytesOf, May}
+use Rattle.reach.specs.Inner.Goal.{bad}
 use Rattle.reach.proofs.TrackLaws.{tracked-crew, level-low}
-use Rattle.reach.proofs.DepotLaws.{depot, levels}
-use Rattle.flags.specs.Flags as flags
-use Rattle.search.proofs.Tables.{CrewTable, PersonTable}
-use Rattle.search.specs.Drive.{starts, Rows, Driving}
+use Rattle.reach.specs.Inner.Depot.{depot, levelOf}
+use Rattle.reach.proofs.DepotLaws.{depot-lawful, depot-local}
+use Rattle.flags.specs.Inner.Flags as flags
+use Rattle.search.proofs.Tables.{CrewTableRight, PersonTableRight}
+use Rattle.search.specs.Inner.Drive.{starts, Rows, Driving}
 use Rattle.search.proofs.TermBridge.{crew-effective, lower-holds}
 
 -- What is shown behind the direct facts is what is effective.
-shown-at : (T : List Bool) (S : State) (f : ℕ) → shown T S (160 + f) ≡ effective T S f
-unfolding shown effective
-shown-at T S f = let e : 160 + f - 160 ≡ f = omega arith in rw (le-ltb (160 + f) 160 (omega arith), e) refl
+visible-at : (T : List Bool) (S : State) (f : ℕ) → visible T S (160 + f) ≡ effective T S f
+unfolding visible effective
+visible-at T S f = let e : 160 + f - 160 ≡ f = omega arith in rw (le-ltb (160 + f) 160 (omega arith), e) refl
 
 -- ---------------------------------------------------------------- numbers that are no crew's
 
@@ -90,7 +95,7 @@ module _ (b : Contents) (ok : Admitted b) where
         R = allFacts;
         us = [];
         ds = [];
-        upto = upto-first (depot b) (levels b) (λ g. refl) (bad b) (starts b) (bounds-first (depot b) (bad b) (starts b) allFacts within-all permitted-all) within-all;
+        upto = upto-first (depot-lawful b) (depot-local b) (λ g. refl) (bad b) (starts b) (bounds-first (depot b) (bad b) (starts b) allFacts within-all permitted-all) within-all;
         full = λ g low high. le-leb (g / 160) (personLevel b) high;
         none = λ g high. lt-leb (g / 160) (personLevel b) high;
         rows-right = record {
@@ -125,7 +130,7 @@ module _ (b : Contents) (ok : Admitted b) where
 
   -- The table of crew k out of the rows below it.
   pub crew-table : {R : State} {k : ℕ} {rows before table : List Bool} → Rows b R k rows → k < b .sizes .crews → flags.CrewTable (b .juniors) k rows before table
-      → ((j : ℕ) → j < 5120 → getD before j false ≡ false) → CrewTable b R k table
+      → ((j : ℕ) → j < 5120 → getD before j false ≡ false) → CrewTableRight b R k table
   unfolding row
   crew-table {R} {k} {rows} right is-crew made blank =
       record {
@@ -136,7 +141,7 @@ module _ (b : Contents) (ok : Admitted b) where
       }
 
   -- The table of the query's person out of all rows.
-  pub person-table : {R : State} {rows table : List Bool} → Rows b R (personLevel b) rows → flags.PersonTable rows table → PersonTable b R table
+  pub person-table : {R : State} {rows table : List Bool} → Rows b R (personLevel b) rows → flags.PersonTable rows table → PersonTableRight b R table
   unfolding row
   person-table {R} right made =
       record {
@@ -146,7 +151,7 @@ module _ (b : Contents) (ok : Admitted b) where
       }
 
   -- The rows after crew k, with its row filled from its flags.
-  pub rows-next : {R : State} {k : ℕ} {rows table x rows′ : List Bool} → Rows b R k rows → k < b .sizes .crews → CrewTable b R k table → Whole table x
+  pub rows-next : {R : State} {k : ℕ} {rows table x rows′ : List Bool} → Rows b R k rows → k < b .sizes .crews → CrewTableRight b R k table → Whole table x
       → flags.FilledRow (b .juniors) k x rows rows′ → Rows b (onLevel k R (direct x)) (suc k) rows′
   rows-next {R} {k} {rows} {table} {x} {rows′} right is-crew tab whole filled =
       record { size = filled .size; values = values; crews = crews }
@@ -157,11 +162,11 @@ module _ (b : Contents) (ok : Admitted b) where
       flag : (f : ℕ) → f < 128 → getD x (160 + f) false ≡ crewHolds (b .juniors) (lift b (onLevel k R (direct x))) (record { 0 = f / 16 }) (f % 16) k
       flag f h =
           let e : 16 * (f / 16) + f % 16 ≡ f = omega arith in
-          whole .shows (160 + f) (omega arith) ∙ shown-effective f ∙ ap (effective table (direct x)) (sym e)
+          whole .shows (160 + f) (omega arith) ∙ visible-effective f ∙ ap (effective table (direct x)) (sym e)
           ∙ crew-effective b R (direct x) k table tab is-crew (record { 0 = f / 16 }) (f % 16) (omega arith) (omega arith)
         where
-          shown-effective : (f : ℕ) → shown table (direct x) (160 + f) ≡ effective table (direct x) f
-          shown-effective f = shown-at table (direct x) f
+          visible-effective : (f : ℕ) → visible table (direct x) (160 + f) ≡ effective table (direct x) f
+          visible-effective f = visible-at table (direct x) f
 
       values : (c f : ℕ) → c < 32 → (c < b .sizes .crews → c < suc k) → f < 128
           → getD rows′ (160 * c + f) false ≡ crewHolds (b .juniors) (lift b (onLevel k R (direct x))) (record { 0 = f / 16 }) (f % 16) c
@@ -196,10 +201,6 @@ module _ (b : Contents) (ok : Admitted b) where
   bytes-whole : (k : ℕ) (qs : List Ask) → map bytesOf (map (toWhole k) qs) ≡ map bytesOf qs
   bytes-whole k [] = refl
   bytes-whole k (q ∷ qs) = ap (λ (xs : List (List ℕ)). bytesOf q ∷ xs) (bytes-whole k qs)
-
-  map-append : (xs ys : List Ask) → map bytesOf (xs ++ ys) ≡ map bytesOf xs ++ map bytesOf ys
-  map-append [] ys = refl
-  map-append (x ∷ xs) ys = ap (λ (zs : List (List ℕ)). bytesOf x ∷ zs) (map-append xs ys)
 
   asks-append : (out : List ℕ) (k m n : ℕ) → asks out k (m + n) ≡ asks out k m ++ asks out (k + m) n
   unfolding asks
@@ -236,29 +237,29 @@ module _ (b : Contents) (ok : Admitted b) where
       drive-stuck stuck =
           let f = stuck .fact in
           let h : f < 160 = direct-in s f (stuck .held) in
-          stuck-none w (bad b) (direct bads) same-bad (starts b) (direct s) (λ g e. same-s (g % 160) (omega arith) ∙ e) (λ g e i. drive .upto .starts g i)
+          stuck-none w (depot-lawful b) (bad b) (direct bads) same-bad (starts b) (direct s) (λ g e. same-s (g % 160) (omega arith) ∙ e) (λ g e i. drive .upto .starts g i)
           f h (sym (same-s f h) ∙ stuck .held) (stuck .missing) (stuck .rounds) (rw whole-u (drive .upto .bounds))
 
       module _ {x : List Bool} {up down : List ℕ} {n at′ : ℕ} (settled : Settled adds dels p T bads s u x ups up₀ up n at down₀ down at′) where
-        next-upto : Upto (depot b) (levels b) (bad b) (starts b) (suc k) (onLevel k (drive .R) (direct x))
+        next-upto : Upto (depot b) levelOf (bad b) (starts b) (suc k) (onLevel k (drive .R) (direct x))
             (drive .us ++ map (toWhole k) (asks up ups n)) (map (toWhole k) (asks down at′ (at - at′)) ++ drive .ds)
         next-upto =
-            upto-next (depot b) (levels b) (λ g. refl) (bad b) (starts b) (drive .upto) (world T adds dels p) w (direct s) (direct u) (direct x) (asks up ups n) (asks down at′ (at - at′)) (direct bads)
+            upto-next (depot-lawful b) (depot-local b) (λ g. refl) (bad b) (starts b) (drive .upto) (world T adds dels p) w (direct s) (direct u) (direct x) (asks up ups n) (asks down at′ (at - at′)) (direct bads)
             same-bad same-s same-u (settled .rounds) (settled .additions) (settled .deletions) (settled .grown)
 
         pub up-next : map bytesOf (drive .us ++ map (toWhole k) (asks up ups n)) ≡ map bytesOf (asks up 0 (ups + n))
         up-next =
-            map-append (drive .us) (map (toWhole k) (asks up ups n))
+            map-append bytesOf (drive .us) (map (toWhole k) (asks up ups n))
             ∙ rw (bytes-whole k (asks up ups n), drive .bytes-up, asks-same up₀ up 0 ups (λ j l h. sym (settled .stands-up j (omega arith))))
-            (sym (ap (map bytesOf) (asks-append up 0 ups n) ∙ map-append (asks up 0 ups) (asks up (0 + ups) n) ∙ ap (λ (i : ℕ). map bytesOf (asks up 0 ups) ++ map bytesOf (asks up i n)) (omega arith)))
+            (sym (ap (map bytesOf) (asks-append up 0 ups n) ∙ map-append bytesOf (asks up 0 ups) (asks up (0 + ups) n) ∙ ap (λ (i : ℕ). map bytesOf (asks up 0 ups) ++ map bytesOf (asks up i n)) (omega arith)))
 
         pub down-next : map bytesOf (map (toWhole k) (asks down at′ (at - at′)) ++ drive .ds) ≡ map bytesOf (asks down at′ (5280 - at′))
         down-next =
             let e : at - at′ + (5280 - at) ≡ 5280 - at′ = omega (arith, settled .down-to, drive .most-down) in
             let f : at′ + (at - at′) ≡ at = omega (arith, settled .down-to) in
-            map-append (map (toWhole k) (asks down at′ (at - at′))) (drive .ds)
+            map-append bytesOf (map (toWhole k) (asks down at′ (at - at′))) (drive .ds)
             ∙ rw (bytes-whole k (asks down at′ (at - at′)), drive .bytes-down, asks-same down₀ down at (5280 - at) (λ j l h. sym (settled .stands-down j l)))
-            (sym (ap (λ (i : ℕ). map bytesOf (asks down at′ i)) (sym e) ∙ ap (map bytesOf) (asks-append down at′ (at - at′) (5280 - at)) ∙ map-append (asks down at′ (at - at′)) (asks down (at′ + (at - at′)) (5280 - at))
+            (sym (ap (λ (i : ℕ). map bytesOf (asks down at′ i)) (sym e) ∙ ap (map bytesOf) (asks-append down at′ (at - at′) (5280 - at)) ∙ map-append bytesOf (asks down at′ (at - at′)) (asks down (at′ + (at - at′)) (5280 - at))
             ∙ ap (λ (i : ℕ). map bytesOf (asks down at′ (at - at′)) ++ map bytesOf (asks down i (5280 - at))) f))
 
         -- A settled level: everything but the rows.
@@ -283,5 +284,5 @@ module _ (b : Contents) (ok : Admitted b) where
 
         -- After the last level there is the best plan.
         pub drive-best : k ≡ personLevel b → Best (depot b) (bad b) (starts b) (drive .us ++ map (toWhole k) (asks up ups n)) (map (toWhole k) (asks down at′ (at - at′)) ++ drive .ds)
-        drive-best last = upto-best (depot b) (levels b) (λ g. refl) (bad b) (starts b) {n = suc k}
+        drive-best last = upto-best (depot-lawful b) (depot-local b) (λ g. refl) (bad b) (starts b) {n = suc k}
             (λ g h. on-level-out k (drive .R) (direct x) g (omega arith) ∙ drive .none g (omega arith)) next-upto

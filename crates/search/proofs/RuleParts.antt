@@ -7,12 +7,13 @@ use native.Mathlib.Omega.{arith}
 use lib.Dec.{eqb, leb}
 use borrow.Author.Tests.{leb-true, ltb-true, eqb-true}
 use Rattle.gate.specs.declared.Sizes.{Sizes}
-use Rattle.gate.specs.Gate.{InRange, allBelow, between, isCrew, isValue, isCrewField, headGood}
-use Rattle.gate.proofs.PassedLaws.{and-both, between-true}
-use Rattle.inherit.proofs.InheritanceLaws.{or-cases}
-use Rattle.requests.proofs.RequestLaws.{all-at}
+use Rattle.gate.specs.Gate.{InRange, between, isCrew, isValue, isCrewField, headGood}
+use Rattle.quantifiers.specs.Quantifiers.{allBelow}
+use Rattle.gate.proofs.PassedLaws.{between-true}
+use Rattle.quantifiers.proofs.BoolLaws.{and-both, or-cases}
+use Rattle.quantifiers.proofs.BelowLaws.{all-at}
 use Rattle.frames.specs.declared.Rule.{Rule}
-use Rattle.frames.specs.Fits.{termOf, termFits, ruleFits}
+use Rattle.frames.specs.Inner.Fits.{termOf, termFits, ruleFits}
 
 -- The parts of a rule within the sizes.
 pub record Parts (z : Sizes) (r : Rule) : Type 0 where

@@ -10,26 +10,27 @@ use native.Mathlib.Omega.{arith}
 use lib.Dec.{eqb}
 use borrow.Author.Tests.{not-true, not-false}
 use Rattle.inherit.specs.Inheritance.{isJunior, downward}
-use Rattle.inherit.proofs.InheritanceLaws.{any-same, downward-step}
+use Rattle.inherit.proofs.InheritanceLaws.{downward-step}
+use Rattle.quantifiers.proofs.BelowLaws.{any-same}
 use lib.ListN.{length, getD}
 use Rattle.frames.specs.declared.Book.{Book}
 use Rattle.frames.specs.Book.{contentsOf, listed}
-use Rattle.frames.specs.Fits.{Admitted}
-use Rattle.theory.specs.Facts.{_⊆_}
-use Rattle.level.specs.Moves.{Moves, movesIn}
-use Rattle.level.specs.Shown.{direct}
-use Rattle.level.specs.World.{world}
-use Rattle.level.specs.Chosen.{GoodRules, MovesOf}
+use Rattle.frames.specs.Inner.Fits.{Admitted}
+use Rattle.theory.specs.Inner.Facts.{_⊆_}
+use Rattle.level.specs.Inner.Moves.{Moves, movesIn}
+use Rattle.level.specs.Inner.Shown.{direct}
+use Rattle.level.specs.Inner.World.{world}
+use Rattle.level.specs.Inner.Chosen.{GoodRules, MovesOf}
 use Rattle.level.proofs.Levels.{toWhole, Within}
-use Rattle.level.specs.Notes.{asks}
-use Rattle.level.specs.Settle.{Result}
+use Rattle.level.specs.Inner.Notes.{asks}
+use Rattle.level.specs.Inner.Settle.{Result}
 use Rattle.level.proofs.ShownLaws.{direct-low, direct-in}
 use Rattle.level.proofs.ChosenLaws.{moves-sound}
-use Rattle.reach.specs.Tracked.{personLevel}
-use Rattle.reach.proofs.DepotLaws.{depot}
-use Rattle.flags.specs.Flags as flags
-use Rattle.search.specs.Drive.{Driving}
-use Rattle.search.specs.Scan.{SideMoves, AllAllowed, BlankTable, Scanned, Searched}
+use Rattle.reach.specs.Inner.Tracked.{personLevel}
+use Rattle.reach.specs.Inner.Depot.{depot}
+use Rattle.flags.specs.Inner.Flags as flags
+use Rattle.search.specs.Inner.Drive.{Driving}
+use Rattle.search.specs.Inner.Scan.{SideMoves, AllAllowed, BlankTable, Scanned, Searched}
 use Rattle.search.proofs.WithinLaws.{within, all-good}
 use Rattle.search.proofs.SubjectLaws.{crew-level, crew-terms, crew-adds, crew-dels, person-level, person-terms, person-adds, person-dels}
 use Rattle.search.proofs.DriveLaws.{Handed, crew-table, person-table, rows-next, drive-stuck, drive-next, drive-best, up-next, down-next}

@@ -13,19 +13,19 @@ use Rattle.facts.specs.declared.Fact.the-variants.{Holds, CrewHolds, Member}
 use Rattle.frames.specs.declared.Rule.{Rule}
 use Rattle.frames.specs.declared.Rules.{Rules}
 use Rattle.frames.specs.Book.{Contents, listed, noTerm}
-use Rattle.frames.specs.Fits.{termOf, Admitted}
+use Rattle.frames.specs.Inner.Fits.{termOf, Admitted}
 use Rattle.requests.specs.Requests.{aimed, fieldsGood}
 use Rattle.requests.proofs.RequestLaws.{value-bounds, aimed-value, aimed-crew, aimed-member, fields-on-person, fields-on-crew, fields-joins, fields-op}
 use Rattle.rules.specs.declared.Subject.the-variants.{User, Group}
 use Rattle.rules.specs.Rules.{subjectOf, termHolds}
 use Rattle.rules.proofs.RuleLaws.{subject-value, subject-crew, subject-member}
-use Rattle.theory.specs.Facts.{State}
-use Rattle.level.specs.Moves.{placeOf}
-use Rattle.level.specs.Terms.{termShown, GoodRule}
+use Rattle.theory.specs.Inner.Facts.{State}
+use Rattle.level.specs.Inner.Moves.{placeOf}
+use Rattle.level.specs.Inner.Terms.{termShown, GoodRule}
 use Rattle.level.proofs.Levels.{onLevel}
-use Rattle.reach.specs.Tracked.{personLevel, tracked, numberOf, lift}
+use Rattle.reach.specs.Inner.Tracked.{personLevel, tracked, numberOf, lift}
 use Rattle.reach.proofs.TrackLaws.{tracked-value, tracked-crew, tracked-member}
-use Rattle.search.proofs.Tables.{CrewTable, PersonTable}
+use Rattle.search.proofs.Tables.{CrewTableRight, PersonTableRight}
 use Rattle.search.proofs.RuleParts.{Parts, crew-low, rule-value, rule-crew}
 use Rattle.search.proofs.TermBridge.{crew-term, person-term}
 use Rattle.search.proofs.WithinLaws.{LevelIs, SideIs}
@@ -112,7 +112,7 @@ module _ (b : Contents) (ok : Admitted b) (rs : Rules) (same-rules : b .rules �
     }
 
     -- The terms of a rule on crews, at the crew's level.
-    pub crew-terms : (T : List Bool) (R : State) → CrewTable b R k T → (S : State) (r : Rule) → Parts (b .sizes) r → GoodRule r → OnCrew (r .op) → (j : ℕ) → j < r .n
+    pub crew-terms : (T : List Bool) (R : State) → CrewTableRight b R k T → (S : State) (r : Rule) → Parts (b .sizes) r → GoodRule r → OnCrew (r .op) → (j : ℕ) → j < r .n
         → termShown T S (getD (r .terms) j noTerm) ≡ termHolds (b .juniors) (lift b (onLevel k R S)) (Group (record { 0 = k })) (getD (r .terms) j noTerm)
     unfolding termOf
     crew-terms T R table S r p good h j l =
@@ -210,7 +210,7 @@ module _ (b : Contents) (ok : Admitted b) (rs : Rules) (same-rules : b .rules �
     from-number = person-from;
   }
 
-  pub person-terms : (T : List Bool) (R : State) → PersonTable b R T → (S : State) (r : Rule) → Parts (b .sizes) r → GoodRule r → OnPerson (r .op) → (j : ℕ) → j < r .n
+  pub person-terms : (T : List Bool) (R : State) → PersonTableRight b R T → (S : State) (r : Rule) → Parts (b .sizes) r → GoodRule r → OnPerson (r .op) → (j : ℕ) → j < r .n
       → termShown T S (getD (r .terms) j noTerm) ≡ termHolds (b .juniors) (lift b (onLevel (personLevel b) R S)) (User (b .query .person)) (getD (r .terms) j noTerm)
   unfolding termOf
   person-terms T R table S r p good h j l = person-term b R S T table (getD (r .terms) j noTerm) (good .terms j l) (p .kinds j l .0) (p .kinds j l .1)

@@ -11,33 +11,23 @@ use borrow.Author.Tests.{lt-ltb, eq-eqb}
 use Rattle.facts.specs.declared.Attr.{Attr}
 use Rattle.facts.specs.declared.Fact.{Fact}
 use Rattle.facts.specs.declared.Fact.the-variants.{Holds, CrewHolds, Member}
-use Rattle.inherit.specs.Inheritance.{isJunior, anyBelow, downward, crewHolds, personIn, personHolds}
-use Rattle.inherit.proofs.InheritanceLaws.{any-zero, any-step, any-same, any-from, downward-here, crew-holds-step, person-in-step, person-holds-step, crew-holds-local}
+use Rattle.inherit.specs.Inheritance.{isJunior, downward, crewHolds, personIn, personHolds}
+use Rattle.quantifiers.specs.Quantifiers.{anyBelow}
+use Rattle.inherit.proofs.InheritanceLaws.{downward-here, crew-holds-step, person-in-step, person-holds-step, crew-holds-local}
+use Rattle.quantifiers.proofs.BelowLaws.{any-same, any-from, any-false}
 use Rattle.frames.specs.Book.{Contents}
 use Rattle.frames.specs.declared.Term.{Term}
 use Rattle.rules.specs.declared.Subject.the-variants.{User, Group}
 use Rattle.rules.specs.Rules.{termHolds}
 use Rattle.rules.proofs.RuleLaws.{term-person-direct, term-crew-direct, term-person-effective, term-crew-effective, term-in-direct, term-in-effective}
-use Rattle.theory.specs.Facts.{State}
-use Rattle.level.specs.Shown as shown
-use Rattle.level.specs.Shown.{row, inherited}
-use Rattle.level.specs.Terms.{effective, termShown, TermInRange}
+use Rattle.theory.specs.Inner.Facts.{State}
+use Rattle.level.specs.Inner.Shown.{row, inherited}
+use Rattle.level.specs.Inner.Terms.{effective, termShown, TermInRange}
 use Rattle.level.proofs.Levels.{onLevel}
 use Rattle.level.proofs.LevelLaws.{on-level-at, on-level-out}
-use Rattle.reach.specs.Tracked.{personLevel, tracked, numberOf, lift}
+use Rattle.reach.specs.Inner.Tracked.{personLevel, tracked, numberOf, lift}
 use Rattle.reach.proofs.TrackLaws.{lift-same, tracked-crew}
-use Rattle.search.proofs.Tables.{CrewTable, PersonTable}
-
-any-false : (p : ℕ → Bool) (n : ℕ) → ((i : ℕ) → i < n → p i ≡ false) → shown.anyBelow p n ≡ false
-unfolding shown.anyBelow
-any-false p zero h = refl
-any-false p (suc n) h = rw (any-false p n (λ i l. h i (omega arith)), h n (omega arith)) refl
-
--- The two crates' tests of some number below a bound are one.
-any-one : (p q : ℕ → Bool) (n : ℕ) → ((i : ℕ) → i < n → p i ≡ q i) → shown.anyBelow p n ≡ anyBelow q n
-unfolding shown.anyBelow
-any-one p q zero h = sym (any-zero q)
-any-one p q (suc n) h = rw (any-one p q n (λ i l. h i (omega arith)), h n (omega arith)) (sym (any-step q n))
+use Rattle.search.proofs.Tables.{CrewTableRight, PersonTableRight}
 
 module _ (b : Contents) (R S : State) where
   -- ---------------------------------------------------------------- what the state of a level says
@@ -75,7 +65,7 @@ module _ (b : Contents) (R S : State) where
 
   -- ---------------------------------------------------------------- a crew's terms
 
-  module _ (k : ℕ) (T : List Bool) (table : CrewTable b R k T) (is-crew : k < b .sizes .crews) where
+  module _ (k : ℕ) (T : List Bool) (table : CrewTableRight b R k T) (is-crew : k < b .sizes .crews) where
     -- What a crew effectively holds.
     pub crew-effective : (a : Attr) (v : ℕ) → a .0 < 8 → v < 16 → effective T S (16 * a .0 + v) ≡ crewHolds (b .juniors) (lift b (onLevel k R S)) a v k
     unfolding effective inherited
@@ -83,7 +73,7 @@ module _ (b : Contents) (R S : State) where
         let f = 16 * a .0 + v in
         let at : f / 16 ≡ a .0 = omega arith in
         let rest : f % 16 ≡ v = omega arith in
-        let none : shown.anyBelow (λ c. S (128 + c) && row T c f) 32 ≡ false = any-false (λ c. S (128 + c) && row T c f) 32 (λ c l. ap (λ (x : Bool). S (128 + c) && x) (table .rows c f l (omega arith)) ∙ and-false (S (128 + c))) in
+        let none : anyBelow (λ c. S (128 + c) && row T c f) 32 ≡ false = any-false (λ c. S (128 + c) && row T c f) 32 (λ c l. ap (λ (x : Bool). S (128 + c) && x) (table .rows c f l (omega arith)) ∙ and-false (S (128 + c))) in
         rw (none, or-false (row T 32 f), table .own f (omega arith), at, rest)
         (sym (crew-holds-step (b .juniors) (lift b (onLevel k R S)) a v k
         ∙ rw (crew-value k a v is-crew s t)
@@ -104,7 +94,7 @@ module _ (b : Contents) (R S : State) where
 
   -- ---------------------------------------------------------------- the query's person's terms
 
-  module _ (T : List Bool) (table : PersonTable b R T) where
+  module _ (T : List Bool) (table : PersonTableRight b R T) where
     abbrev held : Fact → Bool
     held = lift b (onLevel (personLevel b) R S)
 
@@ -117,7 +107,7 @@ module _ (b : Contents) (R S : State) where
         let rest : f % 16 ≡ v = omega arith in
         rw (person-holds-step (b .juniors) held (b .query .person) a v, table .own f (omega arith), person-value a v s t)
         (ap (λ (x : Bool). S f || x)
-        (any-one (λ c. S (128 + c) && row T c f) (λ d. lift b (onLevel (personLevel b) R S) (Member (b .query .person) (record { 0 = d })) && crewHolds (b .juniors) (lift b (onLevel (personLevel b) R S)) a v d) 32
+        (any-same (λ c. S (128 + c) && row T c f) (λ d. lift b (onLevel (personLevel b) R S) (Member (b .query .person) (record { 0 = d })) && crewHolds (b .juniors) (lift b (onLevel (personLevel b) R S)) a v d) 32
         (λ c l. rw (person-member c l, table .values c f l (omega arith), at, rest) (ap (λ (x : Bool). S (128 + c) && x) (sym (lower-holds (personLevel b) c a v (λ x h i. i)))))))
 
     person-reaches : (a : ℕ) → a < 32 → effective T S (128 + a) ≡ personIn (b .juniors) (lift b (onLevel (personLevel b) R S)) (b .query .person) a
@@ -126,7 +116,7 @@ module _ (b : Contents) (R S : State) where
         rw (
           person-in-step (b .juniors) held (b .query .person) a,
           table .own (128 + a) (omega arith),
-          any-one (λ c. S (128 + c) && row T c (128 + a)) (λ d. lift b (onLevel (personLevel b) R S) (Member (b .query .person) (record { 0 = d })) && downward (b .juniors) (λ x. eqb x a) d) 32
+          any-same (λ c. S (128 + c) && row T c (128 + a)) (λ d. lift b (onLevel (personLevel b) R S) (Member (b .query .person) (record { 0 = d })) && downward (b .juniors) (λ x. eqb x a) d) 32
               (λ c l. rw (person-member c l, table .crews c a l s) refl),
         )
         (absorbed (S (128 + a)) refl)

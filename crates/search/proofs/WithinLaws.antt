@@ -11,38 +11,31 @@ use Rattle.sets.specs.Sets.{member}
 use Rattle.facts.specs.declared.Fact.{Fact}
 use Rattle.frames.specs.declared.Rule.{Rule}
 use Rattle.frames.specs.declared.Rules.{Rules}
-use Rattle.frames.specs.Book.{Contents, listed, noTerm}
-use Rattle.frames.specs.Fits.{ruleFits, Each, Short, Admitted}
+use Rattle.frames.specs.Book.{Contents, listed, noTerm, noRule}
+use Rattle.frames.specs.Inner.Fits.{ruleFits, Short, Admitted}
+use Rattle.quantifiers.specs.Inner.Lists.{Each}
 use Rattle.requests.specs.declared.Request.{Request}
 use Rattle.requests.specs.Requests.{adds, aimed, fieldsGood, wellFormed}
 use Rattle.requests.proofs.RequestLaws.{request-parts, well-formed-parts, well-formed-from, fields-zero}
 use Rattle.rules.specs.declared.Subject.{Subject}
-use Rattle.rules.specs.Search as search-in
 use Rattle.rules.specs.Rules.{subjectOf, termHolds}
-use Rattle.rules.proofs.SearchLaws.{all-nil, all-cons, each-at}
+use Rattle.quantifiers.proofs.ListLaws.{each-at, all-same-at}
 use Rattle.rules.proofs.RuleLaws.{a-of-aimed, v-of-aimed, PermittedBy, permitted-from, permitted-cases}
-use Rattle.theory.specs.Facts.{State}
-use Rattle.theory.specs.Plan.{Ask, req}
+use Rattle.theory.specs.Inner.Facts.{State}
+use Rattle.theory.specs.Inner.Plan.{Ask, req}
 use Rattle.level.specs.declared.Move.{Move}
-use Rattle.level.specs.Moves.{Moves, all, placeOf, moveAt, askOf}
-use Rattle.level.specs.World.{Some, world}
-use Rattle.level.specs.Terms.{termShown, ruleShown, GoodRule}
-use Rattle.level.specs.Chosen.{noRule, ruleAt, GoodRules, MovesOf}
+use Rattle.level.specs.Inner.Moves.{Moves, placeOf, moveAt, askOf}
+use Rattle.quantifiers.specs.Quantifiers.{all}
+use Rattle.level.specs.Inner.World.{Some, world}
+use Rattle.level.specs.Inner.Terms.{termShown, ruleShown, GoodRule}
+use Rattle.level.specs.Inner.Chosen.{ruleAt, GoodRules, MovesOf}
 use Rattle.level.proofs.Levels.{onLevel, toWhole, toLevel, Within}
 use Rattle.level.proofs.TermLaws.{move-met}
 use Rattle.level.proofs.RuleLaws.{rules-good}
 use Rattle.level.proofs.ChosenLaws.{chosen-parts, chosen-from}
-use Rattle.reach.specs.Tracked.{tracked, numberOf, lift, bytesOf, asked, May}
-use Rattle.reach.proofs.DepotLaws.{depot}
+use Rattle.reach.specs.Inner.Tracked.{tracked, numberOf, lift, bytesOf, asked, May}
+use Rattle.reach.specs.Inner.Depot.{depot}
 use Rattle.search.proofs.RuleParts.{Parts, rule-parts, crew-low, rule-crew}
-
--- ---------------------------------------------------------------- tests over lists
-
--- The two crates' tests of all of a list are one.
-all-one : {A : Type 0} (p q : A → Bool) (d : A) (xs : List A) → ((j : ℕ) → j < length xs → p (getD xs j d) ≡ q (getD xs j d)) → all p xs ≡ search-in.all q xs
-unfolding all
-all-one p q d [] h = sym (all-nil q)
-all-one p q d (x ∷ xs) h = rw (h 0 (omega arith), all-one p q d xs (λ j l. h (suc j) (omega arith))) (sym (all-cons q x xs))
 
 -- A request with a move's fields is the move's.
 ask-same : (q : Ask) (m : Move) (p : ℕ) → m .fact ≡ q .fact % 160 → m .op ≡ q .op → m .role ≡ q .role → q .subject ≡ p → m .a ≡ q .a → m .v ≡ q .v → toLevel q ≡ askOf p m
@@ -89,10 +82,10 @@ module _ (b : Contents) (ok : Admitted b) (rs : Rules) (same-rules : b .rules �
       → termShown T S (getD (r .terms) j noTerm) ≡ termHolds (b .juniors) (lift b (onLevel k R S)) s (getD (r .terms) j noTerm)) where
     -- The terms of a rule, at the level and in the ledger.
     rule-same : (S : State) (r : Rule) → Parts (b .sizes) r → GoodRule r → Op (r .op)
-        → ruleShown T S r ≡ search-in.all (termHolds (b .juniors) (lift b (onLevel k R S)) s) (take (r .n) (r .terms))
+        → ruleShown T S r ≡ all (termHolds (b .juniors) (lift b (onLevel k R S)) s) (take (r .n) (r .terms))
     unfolding ruleShown
     rule-same S r parts good op =
-        all-one (termShown T S) (termHolds (b .juniors) (lift b (onLevel k R S)) s) noTerm (take (r .n) (r .terms))
+        all-same-at (termShown T S) (termHolds (b .juniors) (lift b (onLevel k R S)) s) noTerm (take (r .n) (r .terms))
         (λ j l.
         let n : length (take (r .n) (r .terms)) ≡ r .n = length-take-le (r .n) (r .terms) (omega (arith, good .few, good .size)) in
         let h : j < r .n = omega arith in
@@ -146,7 +139,7 @@ module _ (b : Contents) (ok : Admitted b) (rs : Rules) (same-rules : b .rules �
       role : r .role .0 ≡ q .role
       a : r .a ≡ q .a
       v : r .v ≡ q .v
-      all-hold : search-in.all (termHolds (b .juniors) F (subjectOf (aimed (q .op) (q .subject) (q .a) (q .v)))) (take (r .n) (r .terms)) ≡ true
+      all-hold : all (termHolds (b .juniors) F (subjectOf (aimed (q .op) (q .subject) (q .a) (q .v)))) (take (r .n) (r .terms)) ≡ true
 
     fields-of : (q : Ask) → wellFormed (b .sizes) (bytesOf q) ≡ true → fieldsGood (b .sizes) (q .op) (q .role) (q .subject) (q .a) (q .v) ≡ true
     fields-of q e = well-formed-parts (b .sizes) (bytesOf q) e .1

@@ -4,11 +4,11 @@ ghost use mathlib.Core.Bool.{Bool, true, false};
 ghost use Prim.Native.Nat.{_+_, _*_, _≤_, _<_};
 ghost use lib.ListN.{length};
 ghost use Rattle.frames.specs.Book.{contentsOf};
-ghost use Rattle.frames.specs.Fits.{Admitted};
-ghost use Rattle.flags.specs.Flags.{Reaching};
-ghost use Rattle.level.specs.Moves.{movesIn};
-ghost use Rattle.search.specs.Drive.{Driving};
-ghost use Rattle.search.specs.Scan.{SideMoves, AllAllowed, BlankTable, Scanned, Searched};
+ghost use Rattle.frames.specs.Inner.Fits.{Admitted};
+ghost use Rattle.flags.specs.Inner.Flags.{Reaching};
+ghost use Rattle.level.specs.Inner.Moves.{movesIn};
+ghost use Rattle.search.specs.Inner.Drive.{Driving};
+ghost use Rattle.search.specs.Inner.Scan.{SideMoves, AllAllowed, BlankTable, Scanned, Searched};
 use frames::Book;
 use level::Outcome;
 

@@ -4,9 +4,9 @@ use mathlib.Core.Path.{_≡_, ap, _∙_}
 use mathlib.Core.List.{map}
 use Prim.Native.Nat.{_+_, _*_, _-_, _≤_}
 use lib.ListN.{length}
-use Rattle.level.specs.Notes.{asks}
-use Rattle.reach.specs.Tracked.{bytesOf}
-use Rattle.drafts.specs.Drafts.{carried}
+use Rattle.level.specs.Inner.Notes.{asks}
+use Rattle.reach.specs.Inner.Tracked.{bytesOf}
+use Rattle.drafts.specs.Inner.Drafts.{carried}
 use Rattle.drafts.proofs.DraftLaws.{carried-length, carry-first, carry-more, carry-all}
 use borrow.Author.Needs.{needs}
 use native.Mathlib.Omega.{arith}

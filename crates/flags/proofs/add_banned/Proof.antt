@@ -3,16 +3,16 @@
 use mathlib.Core.Path.{_≡_, _∙_}
 use Prim.Native.Nat.{_≤_, _-_}
 use native.Mathlib.Omega.{arith}
-use Rattle.frames.specs.Fits.{wantOf}
-use Rattle.flags.specs.Flags.{Written}
-use Rattle.flags.specs.Inner.{bannedFlag}
+use Rattle.frames.specs.Inner.Fits.{wantOf}
+use Rattle.flags.specs.Inner.Flags.{FlagsWritten}
+use Rattle.flags.specs.Inner.Flags.{bannedFlag}
 use Rattle.flags.proofs.BadLaws.{banned-none, banned-more}
 use borrow.Author.Needs.{needs}
 use Rattle.flags.proofs.add_banned.Statement.{statement}
 use Rattle.flags.proofs.add_banned.Tie as tie
 
 abbrev Inv-loop : tie.InvT-loop
-Inv-loop bad₀ q n j₀ bad j = (j ≤ n) × Written bad₀ 0 (bannedFlag bad₀ q j) 128 bad
+Inv-loop bad₀ q n j₀ bad j = (j ≤ n) × FlagsWritten bad₀ 0 (bannedFlag bad₀ q j) 128 bad
 
 abbrev μ-loop : tie.MeasureT-loop
 μ-loop bad₀ q n j₀ bad j = n - j

@@ -3,16 +3,16 @@
 use mathlib.Core.Path.{refl}
 use Prim.Native.Nat.{_+_, _≤_, _-_}
 use native.Mathlib.Omega.{arith}
-use Rattle.flags.specs.Flags.{Written}
+use Rattle.flags.specs.Inner.Flags.{FlagsWritten}
 use Rattle.flags.proofs.FlagLaws.{written-none, written-more, written-end}
 use Rattle.sets.specs.Sets.{member, bit}
-use Rattle.flags.specs.Inner.{lackingFlag}
+use Rattle.flags.specs.Inner.Flags.{lackingFlag}
 use borrow.Author.Needs.{needs}
 use Rattle.flags.proofs.add_lacking.Statement.{statement}
 use Rattle.flags.proofs.add_lacking.Tie as tie
 
 abbrev Inv-loop : tie.InvT-loop
-Inv-loop x n s₀ at v₀ s v = (v ≤ n) × Written s₀ at (lackingFlag s₀ at x) v s
+Inv-loop x n s₀ at v₀ s v = (v ≤ n) × FlagsWritten s₀ at (lackingFlag s₀ at x) v s
 
 abbrev μ-loop : tie.MeasureT-loop
 μ-loop x n s₀ at v₀ s v = n - v

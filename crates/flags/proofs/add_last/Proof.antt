@@ -4,14 +4,14 @@ use mathlib.Core.Bool.{false, _||_}
 use Prim.Native.Nat.{_+_, _*_, _≤_, _-_}
 use native.Mathlib.Omega.{arith}
 use lib.ListN.{getD}
-use Rattle.flags.specs.Flags.{Written, addedFlag}
+use Rattle.flags.specs.Inner.Flags.{FlagsWritten, addedFlag}
 use Rattle.flags.proofs.FlagLaws.{written-none, written-more, written-end}
 use borrow.Author.Needs.{needs}
 use Rattle.flags.proofs.add_last.Statement.{statement}
 use Rattle.flags.proofs.add_last.Tie as tie
 
 abbrev Inv-loop : tie.InvT-loop
-Inv-loop rows j table₀ row f₀ table f = (f ≤ 160) × Written table₀ 5120 (addedFlag rows j table₀) f table
+Inv-loop rows j table₀ row f₀ table f = (f ≤ 160) × FlagsWritten table₀ 5120 (addedFlag rows j table₀) f table
 
 abbrev μ-loop : tie.MeasureT-loop
 μ-loop rows j table₀ row f₀ table f = 160 - f

@@ -3,7 +3,7 @@
 use mathlib.Core.Path.{refl}
 use Prim.Native.Nat.{_+_, _≤_, _-_}
 use native.Mathlib.Omega.{arith}
-use Rattle.flags.specs.Flags.{Written}
+use Rattle.flags.specs.Inner.Flags.{FlagsWritten}
 use Rattle.flags.proofs.FlagLaws.{written-none, written-more, written-end}
 use mathlib.Core.Bool.{false}
 use borrow.Author.Needs.{needs}
@@ -11,7 +11,7 @@ use Rattle.flags.proofs.clear_flags.Statement.{statement}
 use Rattle.flags.proofs.clear_flags.Tie as tie
 
 abbrev Inv-loop : tie.InvT-loop
-Inv-loop s₀ at n f₀ s f = (f ≤ n) × Written s₀ at (λ _. false) f s
+Inv-loop s₀ at n f₀ s f = (f ≤ n) × FlagsWritten s₀ at (λ _. false) f s
 
 abbrev μ-loop : tie.MeasureT-loop
 μ-loop s₀ at n f₀ s f = n - f

@@ -3,7 +3,7 @@
 use mathlib.Core.Path.{refl}
 use Prim.Native.Nat.{_+_, _≤_, _-_}
 use native.Mathlib.Omega.{arith}
-use Rattle.flags.specs.Flags.{Written}
+use Rattle.flags.specs.Inner.Flags.{FlagsWritten}
 use Rattle.flags.proofs.FlagLaws.{written-none, written-more, written-end}
 use mathlib.Core.Bool.{false}
 use lib.ListN.{getD}
@@ -12,7 +12,7 @@ use Rattle.flags.proofs.copy_flags.Statement.{statement}
 use Rattle.flags.proofs.copy_flags.Tie as tie
 
 abbrev Inv-loop : tie.InvT-loop
-Inv-loop src from n dst₀ to f₀ dst f = (f ≤ n) × Written dst₀ to (λ i. getD src (from + i) false) f dst
+Inv-loop src from n dst₀ to f₀ dst f = (f ≤ n) × FlagsWritten dst₀ to (λ i. getD src (from + i) false) f dst
 
 abbrev μ-loop : tie.MeasureT-loop
 μ-loop src from n dst₀ to f₀ dst f = n - f

@@ -3,14 +3,14 @@ use mathlib.Core.Path.{_≡_, sym, _∙_}
 use Prim.Native.Nat.{_≤_, _-_}
 use native.Mathlib.Omega.{arith}
 use Rattle.inherit.proofs.InheritanceLaws.{junior-member}
-use Rattle.flags.specs.Flags.{Written}
+use Rattle.flags.specs.Inner.Flags.{FlagsWritten}
 use Rattle.flags.proofs.FlagLaws.{juniorsBelow, juniors-none, juniors-add, juniors-skip, written-over, crew-table-all}
 use borrow.Author.Needs.{needs}
 use Rattle.flags.proofs.crew_table.Statement.{statement}
 use Rattle.flags.proofs.crew_table.Tie as tie
 
 abbrev Inv-loop : tie.InvT-loop
-Inv-loop juniors k rows table₀ direct j₀ table j = (j ≤ k) × Written table₀ 5120 (juniorsBelow juniors k rows j) 160 table
+Inv-loop juniors k rows table₀ direct j₀ table j = (j ≤ k) × FlagsWritten table₀ 5120 (juniorsBelow juniors k rows j) 160 table
 
 abbrev μ-loop : tie.MeasureT-loop
 μ-loop juniors k rows table₀ direct j₀ table j = k - j

@@ -2,9 +2,9 @@
 use mathlib.Core.Path.{_≡_, ap, sym, _∙_}
 use mathlib.Core.Bool.{false}
 use Prim.Native.Nat.{_≤_, _-_}
-use Rattle.inherit.specs.Inheritance.{anyBelow}
-use Rattle.inherit.proofs.InheritanceLaws.{any-zero, any-next, any-from}
-use Rattle.flags.specs.Flags.{listedReaches}
+use Rattle.quantifiers.specs.Quantifiers.{anyBelow}
+use Rattle.quantifiers.proofs.BelowLaws.{any-zero, any-next, any-from}
+use Rattle.flags.specs.Inner.Flags.{listedReaches}
 use borrow.Author.Needs.{needs}
 use native.Mathlib.Omega.{arith}
 use Rattle.flags.proofs.do_listed_reach.Statement.{statement}

@@ -3,14 +3,14 @@
 use mathlib.Core.Path.{_≡_, _∙_}
 use Prim.Native.Nat.{_≤_, _-_}
 use native.Mathlib.Omega.{arith}
-use Rattle.flags.specs.Flags.{Written}
+use Rattle.flags.specs.Inner.Flags.{FlagsWritten}
 use Rattle.flags.proofs.FlagLaws.{isOwnBelow, own-none, own-more, first-rows-all}
 use borrow.Author.Needs.{needs}
 use Rattle.flags.proofs.first_rows.Statement.{statement}
 use Rattle.flags.proofs.first_rows.Tie as tie
 
 abbrev Inv-loop : tie.InvT-loop
-Inv-loop rows₀ c₀ rows c = (c ≤ 32) × Written rows₀ 0 (isOwnBelow c) 5120 rows
+Inv-loop rows₀ c₀ rows c = (c ≤ 32) × FlagsWritten rows₀ 0 (isOwnBelow c) 5120 rows
 
 abbrev μ-loop : tie.MeasureT-loop
 μ-loop rows₀ c₀ rows c = 32 - c

@@ -3,7 +3,7 @@
 use mathlib.Core.Path.{refl}
 use Prim.Native.Nat.{_+_, _≤_, _-_}
 use native.Mathlib.Omega.{arith}
-use Rattle.flags.specs.Flags.{Written}
+use Rattle.flags.specs.Inner.Flags.{FlagsWritten}
 use Rattle.flags.proofs.FlagLaws.{written-none, written-more, written-end}
 use Rattle.sets.specs.Sets.{member, bit}
 use borrow.Author.Needs.{needs}
@@ -11,7 +11,7 @@ use Rattle.flags.proofs.write_bits.Statement.{statement}
 use Rattle.flags.proofs.write_bits.Tie as tie
 
 abbrev Inv-loop : tie.InvT-loop
-Inv-loop x n s₀ at v₀ s v = (v ≤ n) × Written s₀ at (member x) v s
+Inv-loop x n s₀ at v₀ s v = (v ≤ n) × FlagsWritten s₀ at (member x) v s
 
 abbrev μ-loop : tie.MeasureT-loop
 μ-loop x n s₀ at v₀ s v = n - v

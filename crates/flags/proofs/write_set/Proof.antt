@@ -3,14 +3,14 @@
 use Prim.Native.Nat.{_*_, _≤_, _-_}
 use native.Mathlib.Omega.{arith}
 use Rattle.sets.specs.Sets.{memberAt}
-use Rattle.flags.specs.Flags.{Written}
+use Rattle.flags.specs.Inner.Flags.{FlagsWritten}
 use Rattle.flags.proofs.FlagLaws.{written-none, written-end, set-more}
 use borrow.Author.Needs.{needs}
 use Rattle.flags.proofs.write_set.Statement.{statement}
 use Rattle.flags.proofs.write_set.Tie as tie
 
 abbrev Inv-loop : tie.InvT-loop
-Inv-loop facts place w s₀ at m₀ s m = (m ≤ w) × Written s₀ at (memberAt facts place w) (8 * m) s
+Inv-loop facts place w s₀ at m₀ s m = (m ≤ w) × FlagsWritten s₀ at (memberAt facts place w) (8 * m) s
 
 abbrev μ-loop : tie.MeasureT-loop
 μ-loop facts place w s₀ at m₀ s m = w - m

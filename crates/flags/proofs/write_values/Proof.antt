@@ -2,15 +2,15 @@
 -- Assumes nothing.
 use Prim.Native.Nat.{_*_, _≤_, _-_}
 use native.Mathlib.Omega.{arith}
-use Rattle.flags.specs.Flags.{Written}
-use Rattle.flags.specs.Inner.{valueAt}
+use Rattle.flags.specs.Inner.Flags.{FlagsWritten}
+use Rattle.flags.specs.Inner.Flags.{valueAt}
 use Rattle.flags.proofs.FlagLaws.{written-none, written-end, values-more}
 use borrow.Author.Needs.{needs}
 use Rattle.flags.proofs.write_values.Statement.{statement}
 use Rattle.flags.proofs.write_values.Tie as tie
 
 abbrev Inv-loop : tie.InvT-loop
-Inv-loop facts place s₀ a₀ s a = (a ≤ 8) × Written s₀ 0 (valueAt facts place) (16 * a) s
+Inv-loop facts place s₀ a₀ s a = (a ≤ 8) × FlagsWritten s₀ 0 (valueAt facts place) (16 * a) s
 
 abbrev μ-loop : tie.MeasureT-loop
 μ-loop facts place s₀ a₀ s a = 8 - a

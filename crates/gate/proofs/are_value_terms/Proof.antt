@@ -2,8 +2,9 @@
 use mathlib.Core.Path.{_≡_, ap, _∙_}
 use Prim.Native.Nat.{ℕ, _≤_, _-_}
 use lib.Dec.{leb}
-use Rattle.gate.specs.Gate.{allBelow, valueTermAt}
-use Rattle.gate.proofs.GateLaws.{all-more, all-none}
+use Rattle.gate.specs.Gate.{valueTermAt}
+use Rattle.quantifiers.specs.Quantifiers.{allBelow}
+use Rattle.quantifiers.proofs.BelowLaws.{all-more, all-none}
 use borrow.Author.Needs.{needs}
 use native.Mathlib.Omega.{arith}
 use Rattle.gate.proofs.are_value_terms.Statement.{statement}

@@ -7,8 +7,10 @@ use mathlib.Core.Path.{_≡_, sym, _∙_}
 use mathlib.Core.Bool.{true, false, not}
 use mathlib.Core.Logic.{⊎-elim}
 use Rattle.facts.specs.Facts.{holds}
-use Rattle.inherit.specs.Inheritance.{isJunior, downward, sought, juniorPasses, Tried}
-use Rattle.inherit.proofs.InheritanceLaws.{downward-here, by-juniors, tried-more, junior-none, junior-hit, junior-fails, junior-skipped, and-both}
+use Rattle.inherit.specs.Inheritance.{isJunior, downward}
+use Rattle.inherit.specs.Inner.Search.{sought, juniorPasses, Tried}
+use Rattle.inherit.proofs.InheritanceLaws.{downward-here, by-juniors, tried-more, junior-none, junior-hit, junior-fails, junior-skipped}
+use Rattle.quantifiers.proofs.BoolLaws.{and-both}
 use Prim.Native.Nat.{ℕ, _<_}
 use borrow.Fn.Kinds.{In}
 use borrow.Fn.PlainCycle.{Measures, is, falls, and}

@@ -1,6 +1,7 @@
 -- `inherit::crew_holds` meets its contract: it is `crew_tried` from no crew tried, looking for the value. Assumes nothing.
 use Rattle.facts.specs.Facts.{holds}
-use Rattle.inherit.specs.Inheritance.{crewHolds, sought}
+use Rattle.inherit.specs.Inheritance.{crewHolds}
+use Rattle.inherit.specs.Inner.Search.{sought}
 use Rattle.inherit.specs.declared.Sought.the-variants.{Value}
 use Rattle.inherit.proofs.InheritanceLaws.{tried-none}
 use Rattle.inherit.proofs.crew_holds.Statement.{statement}

@@ -1,7 +1,7 @@
 -- `inherit::is_sought` meets its contract: each arm is the definition at its variant. Assumes nothing.
 use mathlib.Core.Path.{ap, sym, _∙_}
 use Rattle.facts.specs.Facts.{holds}
-use Rattle.inherit.specs.Inheritance.{sought}
+use Rattle.inherit.specs.Inner.Search.{sought}
 use Rattle.inherit.specs.declared.Sought.{Sought}
 use borrow.Author.Needs.{needs}
 use Rattle.inherit.proofs.is_sought.Statement.{statement}

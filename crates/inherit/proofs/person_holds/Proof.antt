@@ -3,7 +3,8 @@ use mathlib.Core.Bool.{true, false}
 use mathlib.Core.Path.{_≡_, sym, _∙_}
 use Rattle.facts.specs.Facts.{holds}
 use Rattle.facts.specs.declared.Fact.the-variants.{Holds}
-use Rattle.inherit.specs.Inheritance.{crewHolds, sought}
+use Rattle.inherit.specs.Inheritance.{crewHolds}
+use Rattle.inherit.specs.Inner.Search.{sought}
 use Rattle.inherit.proofs.InheritanceLaws.{person-holds-direct, by-crews}
 use borrow.Author.Needs.{needs}
 use Rattle.inherit.proofs.person_holds.Statement.{statement}

@@ -1,5 +1,6 @@
 -- `inherit::person_in` meets its contract: it is `person_reaches`, looking for the crew. Assumes nothing.
-use Rattle.inherit.specs.Inheritance.{personIn, sought}
+use Rattle.inherit.specs.Inheritance.{personIn}
+use Rattle.inherit.specs.Inner.Search.{sought}
 use borrow.Author.Needs.{needs}
 use Rattle.inherit.proofs.person_in.Statement.{statement}
 use Rattle.inherit.proofs.person_in.Tie as tie

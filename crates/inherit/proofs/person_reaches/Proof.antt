@@ -9,9 +9,12 @@ use mathlib.Core.Logic.{⊎-elim}
 use Rattle.facts.specs.Facts.{holds}
 use Rattle.facts.specs.declared.Person.{Person}
 use Rattle.facts.specs.declared.Fact.the-variants.{Member}
-use Rattle.inherit.specs.Inheritance.{anyBelow, downward, sought, Tried}
+use Rattle.inherit.specs.Inheritance.{downward}
+use Rattle.quantifiers.specs.Quantifiers.{anyBelow}
+use Rattle.inherit.specs.Inner.Search.{sought, Tried}
 use Rattle.inherit.specs.declared.Sought.{Sought}
-use Rattle.inherit.proofs.InheritanceLaws.{any-zero, any-next, any-from, tried-none}
+use Rattle.inherit.proofs.InheritanceLaws.{tried-none}
+use Rattle.quantifiers.proofs.BelowLaws.{any-zero, any-next, any-from}
 use borrow.Author.Needs.{needs}
 use Rattle.inherit.proofs.person_reaches.Statement.{statement}
 use Rattle.inherit.proofs.person_reaches.Tie as tie

@@ -1,6 +1,6 @@
 -- The fact that op, a and v name: values below op 05, memberships from there on. Assumes nothing.
 use borrow.Author.Tests.{lt-ltb, le-ltb}
-use Rattle.level.specs.Moves.{placeOf}
+use Rattle.level.specs.Inner.Moves.{placeOf}
 use borrow.Author.Needs.{needs}
 use Rattle.level.proofs.aim.Statement.{statement}
 use Rattle.level.proofs.aim.Tie as tie

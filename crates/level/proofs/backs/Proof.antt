@@ -1,8 +1,8 @@
 -- Whether a move puts a fact back: three tests, the last with the fact put in. Its numbers are read where they stand. Assumes nothing.
 use Prim.Native.Nat.{_*_}
 use native.Mathlib.Omega.{arith}
-use Rattle.level.specs.Moves.{moveAt}
-use Rattle.level.specs.BackSweep.{backsIn}
+use Rattle.level.specs.Inner.Moves.{moveAt}
+use Rattle.level.specs.Inner.BackSweep.{backsIn}
 use Rattle.level.proofs.MoveLaws.{listed-room, listed-stands, fact-fits, fact-flag}
 use borrow.Author.Needs.{needs}
 use Rattle.level.proofs.backs.Statement.{statement}

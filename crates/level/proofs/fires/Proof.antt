@@ -1,8 +1,8 @@
 -- Whether a move adds a fact: it is lacking, it is allowed, and the terms hold. Its numbers are read where they stand. Assumes nothing.
 use Prim.Native.Nat.{_*_}
 use native.Mathlib.Omega.{arith}
-use Rattle.level.specs.Moves.{moveAt}
-use Rattle.level.specs.Sweep.{firesIn}
+use Rattle.level.specs.Inner.Moves.{moveAt}
+use Rattle.level.specs.Inner.Sweep.{firesIn}
 use Rattle.level.proofs.MoveLaws.{listed-room, listed-stands, fact-fits, fact-flag}
 use borrow.Author.Needs.{needs}
 use Rattle.level.proofs.fires.Statement.{statement}

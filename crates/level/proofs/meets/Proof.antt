@@ -5,8 +5,9 @@ use native.Mathlib.Omega.{arith}
 use borrow.Author.Needs.{needs}
 use borrow.Author.Tests.{not-true, not-false}
 use lib.ListN.{getD, drop}
-use Rattle.level.specs.Moves.{all, placesOf, flagsMet, moveFrom}
-use Rattle.level.proofs.MoveLaws.{Reading, few-terms, term-fits, met-pass, met-fail, met-out}
+use Rattle.level.specs.Inner.Moves.{placesOf, flagsMet, moveFrom}
+use Rattle.quantifiers.specs.Quantifiers.{all}
+use Rattle.level.proofs.MoveLaws.{Reading, few-terms, term-fits, places-pass, places-fail, places-out}
 use mathlib.Core.Bool.{false}
 use Rattle.level.proofs.meets.Statement.{statement}
 use Rattle.level.proofs.meets.Tie as tie
@@ -78,7 +79,7 @@ returns c =
     let n = at-count t in
     let s = at-start n in
     sym (t .before .loop .inv .1
-    ∙ met-fail (reading n) (λ k. getD (s .args .x .now) k false) (t .before .loop .j) (t .loop-test .taken)
+    ∙ places-fail (reading n) (λ k. getD (s .args .x .now) k false) (t .before .loop .j) (t .loop-test .taken)
     (c .before .before .wide2 .ensures) (not-true _ (c .if1 .taken)))
 
 add-j : tie.Need-add-j Inv-loop μ-loop
@@ -94,7 +95,7 @@ loop-again c =
     let s = at-start n in (
       omega arith,
       t .before .loop .inv .1
-          ∙ met-pass (reading n) (λ k. getD (s .args .x .now) k false) (t .before .loop .j) (t .loop-test .taken)
+          ∙ places-pass (reading n) (λ k. getD (s .args .x .now) k false) (t .before .loop .j) (t .loop-test .taken)
           (c .before .before .wide2 .ensures) (not-false _ (c .if1 .left)),
     )
 
@@ -102,7 +103,7 @@ returns-2 : tie.Need-returns-2 Inv-loop μ-loop
 returns-2 c =
     let n = c .before .before in
     let s = at-start n in
-    sym (c .before .loop .inv .1 ∙ met-out (reading n) (λ k. getD (s .args .x .now) k false) (c .before .loop .j) (c .loop-test .left))
+    sym (c .before .loop .inv .1 ∙ places-out (reading n) (λ k. getD (s .args .x .now) k false) (c .before .loop .j) (c .loop-test .left))
 
 pub meets-spec : {M : Type 1} → statement M
 meets-spec =

@@ -6,9 +6,10 @@ use Prim.Native.Nat.{_≤_, _-_}
 use borrow.Author.Tests.{not-true, not-false}
 use lib.ListN.{getD, drop}
 use mathlib.Core.Bool.{false, _||_}
-use Rattle.level.specs.Shown.{touches}
-use Rattle.level.specs.Moves.{all, placesOf, flagsWith, moveFrom}
-use Rattle.level.proofs.MoveLaws.{fact-fits, Reading, few-terms, term-fits, met-pass, met-fail, met-out}
+use Rattle.level.specs.Inner.Shown.{touches}
+use Rattle.level.specs.Inner.Moves.{placesOf, flagsWith, moveFrom}
+use Rattle.quantifiers.specs.Quantifiers.{all}
+use Rattle.level.proofs.MoveLaws.{fact-fits, Reading, few-terms, term-fits, places-pass, places-fail, places-out}
 use Rattle.level.proofs.BackSweepLaws.{with-read}
 use Rattle.level.proofs.meets_with.Statement.{statement}
 use Rattle.level.proofs.meets_with.Tie as tie
@@ -100,7 +101,7 @@ returns c =
     let n = at-count t in
     let s = at-start (at-fact n) in
     sym (t .before .loop .inv .1
-    ∙ met-fail (reading n) (λ k. getD (s .args .x .now) k false || touches (s .args .table .now) (at-fact n .wide .result) k)
+    ∙ places-fail (reading n) (λ k. getD (s .args .x .now) k false || touches (s .args .table .now) (at-fact n .wide .result) k)
     (t .before .loop .j) (t .loop-test .taken) (c .before .before .wide3 .ensures) (sym (c .before .lit .ensures) ∙ not-true _ (c .if1 .taken)))
 
 add-j : tie.Need-add-j Inv-loop μ-loop
@@ -116,7 +117,7 @@ loop-again c =
     let s = at-start (at-fact n) in (
       omega arith,
       t .before .loop .inv .1
-          ∙ met-pass (reading n) (λ k. getD (s .args .x .now) k false || touches (s .args .table .now) (at-fact n .wide .result) k)
+          ∙ places-pass (reading n) (λ k. getD (s .args .x .now) k false || touches (s .args .table .now) (at-fact n .wide .result) k)
           (t .before .loop .j) (t .loop-test .taken) (c .before .before .wide3 .ensures) (sym (c .before .lit .ensures) ∙ not-false _ (c .if1 .left)),
     )
 
@@ -125,7 +126,7 @@ returns-2 c =
     let n = c .before .before in
     let s = at-start (at-fact n) in
     sym (c .before .loop .inv .1
-    ∙ met-out (reading n) (λ k. getD (s .args .x .now) k false || touches (s .args .table .now) (at-fact n .wide .result) k)
+    ∙ places-out (reading n) (λ k. getD (s .args .x .now) k false || touches (s .args .table .now) (at-fact n .wide .result) k)
     (c .before .loop .j) (c .loop-test .left))
 
 pub meets-with-spec : {M : Type 1} → statement M

@@ -1,6 +1,6 @@
 -- `level::move_at` meets its contract: the 14 numbers of move `i`. Assumes nothing.
 use mathlib.Core.Path.{refl}
-use Rattle.level.specs.Moves.{moveFrom, moveAt}
+use Rattle.level.specs.Inner.Moves.{moveFrom, moveAt}
 use borrow.Author.Needs.{needs}
 use Rattle.level.proofs.move_at.Statement.{statement}
 use Rattle.level.proofs.move_at.Tie as tie

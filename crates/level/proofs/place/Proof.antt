@@ -1,6 +1,6 @@
 -- The place of a term, by its kind. Assumes nothing.
 use borrow.Author.Tests.{eq-eqb, ne-eqb}
-use Rattle.level.specs.Terms.{codeOf}
+use Rattle.level.specs.Inner.Terms.{codeOf}
 use borrow.Author.Needs.{needs}
 use Rattle.level.proofs.place.Statement.{statement}
 use Rattle.level.proofs.place.Tie as tie

@@ -3,9 +3,9 @@
 use native.Mathlib.Omega.{arith}
 use mathlib.Core.Path.{_≡_, sym, _∙_}
 use lib.ListN.{length}
-use Rattle.theory.specs.Facts.{count}
-use Rattle.level.specs.Shown.{direct}
-use Rattle.level.specs.Moves.{movesIn}
+use Rattle.quantifiers.specs.Inner.Lists.{countBelow}
+use Rattle.level.specs.Inner.Shown.{direct}
+use Rattle.level.specs.Inner.Moves.{movesIn}
 use Rattle.level.proofs.SettleLaws.{Going, going-first, settled, stuck, go-on, smaller, result-found, result-none}
 use Rattle.level.proofs.settle.Statement.{statement}
 use Rattle.level.proofs.settle.Tie as tie
@@ -15,7 +15,7 @@ Inv-loop adds dels added₀ deleted₀ subject table bad s u₀ x₀ y₀ d₀ s
     Going (movesIn adds) (movesIn dels) subject table bad s u₀ u x y d start up₀ up end down₀ down × ((length added ≡ 160) × (length deleted ≡ 160))
 
 abbrev μ-loop : tie.MeasureT-loop
-μ-loop adds dels added₀ deleted₀ subject table bad s u₀ x₀ y₀ d₀ start up₀ end down₀ added deleted u x y d up down = count (direct u) 160
+μ-loop adds dels added₀ deleted₀ subject table bad s u₀ x₀ y₀ d₀ start up₀ end down₀ added deleted u x y d up down = countBelow (direct u) 160
 
 -- The places that the answers name, each seen from a later one.
 abbrev start : tie.After-slice-known8 Inv-loop μ-loop → tie.Start Inv-loop μ-loop

@@ -4,7 +4,8 @@ use mathlib.Core.Path.{_≡_, refl, sym, _∙_}
 use Prim.Native.Nat.{_-_}
 use native.Mathlib.Omega.{arith}
 use lib.ListN.{length, drop}
-use Rattle.lines.specs.Digits.{isDigit, all}
+use Rattle.lines.specs.Digits.{isDigit}
+use Rattle.quantifiers.specs.Quantifiers.{all}
 use Rattle.lines.proofs.DigitLaws.{all-out, all-fail, all-pass, digit-yes, digit-no}
 use borrow.Author.Needs.{needs}
 use Rattle.lines.proofs.are_digits.Statement.{statement}

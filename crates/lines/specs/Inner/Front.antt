@@ -5,7 +5,8 @@ use mathlib.Core.Bool.{Bool, _&&_}
 use mathlib.Core.List.{List, _++_}
 use lib.ListN.{length, take, drop, getD}
 use lib.Dec.{eqb, ltb}
-use Rattle.lines.specs.Digits.{digit, isDigit, all, frameOf}
+use Rattle.lines.specs.Digits.{digit, isDigit, frameOf}
+use Rattle.quantifiers.specs.Quantifiers.{all}
 use Rattle.lines.specs.Lines.{toEnd}
 
 -- A table of the values of all 256 characters: entry c is the value of character c.

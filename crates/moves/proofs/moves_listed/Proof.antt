@@ -22,9 +22,11 @@ use prog.Wp.{Heap, Env, Calls, Loops, WpFn, Tables}
 use ghost.Atoms.{Atoms, sem}
 use contract.Monad.{Fun}
 use contract.Running.{givenOf, tables, tablesOf}
-use types.Kit.{Given, Item, Go, Sq, Post, runs, lands, ‵, raw, _⊛_, ⋆, some, later, pick, _$_, _∵_, !, qed, by, move, group, keep, drop, use0, use1, use2, use3, split, join, rewrite, fsplit, fjoin, feqL, suffices, frame, await, done}
+use types.Kit.{Given, Item, Go, Sq, Post, runs, lands, ‵, raw, _⊛_, ⋆, some, later, pick, _$_, _∵_, !, qed, by, move, group, keep, drop, use0, use1, use2, use3, split}
+use types.Kit.{join, rewrite, fsplit, fjoin, feqL, suffices, frame, await, done}
 use types.Part.{whole, sub, look-in, agg}
-use types.Run.{Opds, look, init, forget, stop, hop, fld, from, load, lit, addr, of-opd, and-then, no-more, assigns, land, returns, enter, alloc1, alloc0, params1, pass1, pass0}
+use types.Run.{Opds, look, init, forget, stop, hop, fld, from, load, lit, addr, of-opd, and-then, no-more, assigns, land, returns, enter, alloc1, alloc0, params1, pass1}
+use types.Run.{pass0}
 use types.Tokens.{lft-new, lft-end}
 use sound.WpLaws.{FmC, fmOf, WpFn-mono}
 use denote.RattleType.{owns}
@@ -55,9 +57,9 @@ use Rattle.frames.proofs.Rule as T
 use Rattle.frames.proofs.Rule.Laws as T′
 use Rattle.frames.proofs.Rules as S
 use Rattle.frames.proofs.Rules.Laws as S′
-use Rattle.level.specs.Chosen.{GoodRules}
+use Rattle.level.specs.Inner.Chosen.{GoodRules}
 use Rattle.moves.specs.declared.Counts.{Counts}
-use Rattle.moves.specs.Listed.{ofList, RoomFrom, Gathered, Prepared}
+use Rattle.moves.specs.Inner.Listed.{ofList, RoomFrom, Gathered, Prepared}
 use Rattle.moves.proofs.Counts as N
 use Rattle.moves.proofs.Counts.Laws as N′
 use Rattle.moves.proofs.ListedLaws.{front-good, room-first, room-second, room-third, room-fourth, prepared}

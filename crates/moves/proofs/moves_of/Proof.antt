@@ -25,9 +25,11 @@ use prog.Wp.{Heap, Out, Env, afterSeq, afterBlock, afterTurn, Calls, Loops, Wp, 
 use ghost.Atoms.{Atoms}
 use contract.Monad.{Fun}
 use contract.Running.{givenOf, tables, tablesOf}
-use types.Kit.{Given, Item, Sq, runs, anyQ, atRet, ‵, raw, _⊛_, ⋆, some, later, pick, _$_, _∵_, !, qed, by, move, keep, drop, use2, use3, split, join, rewrite, fsplit, fjoin, feqL, suffices, frame, await, done}
+use types.Kit.{Given, Item, Sq, runs, anyQ, atRet, ‵, raw, _⊛_, ⋆, some, later, pick, _$_, _∵_, !, qed, by, move, keep, drop, use2, use3, split, join, rewrite, fsplit}
+use types.Kit.{fjoin, feqL, suffices, frame, await, done}
 use types.Part.{whole, sub, look-in, agg}
-use types.Run.{look, init, store, forget, stop, hop, fld, from, load, lit, addr, of-opd, bin, and-then, no-more, assigns, assigns-last, land, first, stays, leaves-loop, blocks, loops, Below, again, returns, exec, enter, alloc1, alloc0, params1, pass1, pass0}
+use types.Run.{look, init, store, forget, stop, hop, fld, from, load, lit, addr, of-opd, bin, and-then, no-more, assigns, assigns-last, land, first, stays, leaves-loop}
+use types.Run.{blocks, loops, Below, again, returns, exec, enter, alloc1, alloc0, params1, pass1, pass0}
 use types.Tokens.{lft-new, lft-end}
 use sound.WpLaws.{FmC, fmOf, WpFn-mono}
 use denote.RattleType.{owns}
@@ -57,13 +59,13 @@ use Rattle.frames.specs.declared.Rules.{Rules}
 use Rattle.frames.specs.Book.{noRule}
 use Rattle.frames.proofs.Rule as T
 use Rattle.frames.proofs.Rule.Laws as T′
-use Rattle.level.specs.Terms.{GoodRule}
-use Rattle.level.specs.Chosen.{GoodRules, chosenIn, ruleAt}
+use Rattle.level.specs.Inner.Terms.{GoodRule}
+use Rattle.level.specs.Inner.Chosen.{GoodRules, chosenIn, ruleAt}
 use Rattle.rule_list.proofs.rule_at as rule-at
 use Rattle.rule_list.proofs.rule_at.Symbol as rule-at-def
 use Rattle.rule_list.proofs.rule_at.Symbol.{name as #rule_list·rule-at}
 use Rattle.rule_list.proofs.rule_at.Met as rule-at-thm
-use Rattle.moves.specs.Listed.{ofList, RoomFrom, Taken, Gathered}
+use Rattle.moves.specs.Inner.Listed.{ofList, RoomFrom, Taken, Gathered}
 use Rattle.moves.proofs.ListedLaws.{gathered-none, gathered-next, gathered-room, gathered-few, rule-same}
 use Rattle.moves.proofs.gather as gather
 use Rattle.moves.proofs.gather.Symbol as gather-def

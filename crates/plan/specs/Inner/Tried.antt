@@ -15,7 +15,7 @@ isShort (said81 n) = false
 isShort (said8F number line) = eqb number 10
 
 -- The answer's characters are the first `end` of the text; or there are none, and the text is as it was.
-pub record Tried (book before : List ℕ) (end : ℕ) (after : List ℕ) : Type 0 where
+pub record PrintedIfRoom (book before : List ℕ) (end : ℕ) (after : List ℕ) : Type 0 where
   pub kept : end ≡ 0 → after ≡ before
   pub within : end ≤ length after
   pub printed : 0 < end → Printed book (take end after)

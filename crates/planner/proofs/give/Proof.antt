@@ -2,7 +2,7 @@
 use mathlib.Core.Path.{_≡_, refl, ap, sym, _∙_}
 use borrow.Author.Needs.{needs}
 use borrow.Author.Tests.{not-true, not-false}
-use Rattle.search.specs.Drive.{drafted}
+use Rattle.search.specs.Inner.Drive.{drafted}
 use Rattle.planner.proofs.AnswerLaws.{given-none, given-plan}
 use Rattle.planner.proofs.give.Statement.{statement}
 use Rattle.planner.proofs.give.Tie as tie

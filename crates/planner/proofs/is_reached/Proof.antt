@@ -5,9 +5,9 @@ use Prim.Native.Nat.{ℕ, _-_}
 use Rattle.facts.specs.Facts.{holds}
 use Rattle.frames.specs.Book.{contentsOf}
 use Rattle.replay.specs.Met.{met}
-use Rattle.reach.specs.Tracked.{bytesOf}
-use Rattle.level.specs.Notes.{asks}
-use Rattle.drafts.specs.Drafts.{carried}
+use Rattle.reach.specs.Inner.Tracked.{bytesOf}
+use Rattle.level.specs.Inner.Notes.{asks}
+use Rattle.drafts.specs.Inner.Drafts.{carried}
 use Rattle.drafts.proofs.DraftLaws.{carried-append}
 use borrow.Author.Needs.{needs}
 use native.Mathlib.Omega.{arith}

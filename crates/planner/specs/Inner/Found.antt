@@ -7,20 +7,20 @@ use lib.ListN.{length, drop}
 use Rattle.facts.specs.Facts.{holds}
 use Rattle.frames.specs.Book.{Contents}
 use Rattle.replay.specs.Met.{met}
-use Rattle.drafts.specs.Drafts.{carried, flat}
-use Rattle.search.specs.Drive.{drafted}
-use Rattle.search.specs.Scan.{Written}
+use Rattle.drafts.specs.Inner.Drafts.{carried, flat}
+use Rattle.search.specs.Inner.Drive.{drafted}
+use Rattle.search.specs.Inner.Scan.{BestWritten}
 use Rattle.planner.specs.Count.{factCount}
 use Rattle.planner.specs.Promise.{NoWay}
 use Rattle.planner.specs.Answer.{Said, said80, said81}
 
 -- The best plan's requests stand in two buffers, and lead to a ledger that meets the query.
 pub record Reached (b : Contents) (up down : List ℕ) (ups at : ℕ) : Type 0 where
-  pub written : Written b up down ups at
+  pub written : BestWritten b up down ups at
   pub meets : met b (holds (carried (b .facts) (drafted up ups down at))) ≡ true
 
 -- Found: they do. Not found: there is no way. The count of the requests is small in either case.
-pub record Found (b : Contents) (up down : List ℕ) (found : Bool) (ups at : ℕ) : Type 0 where
+pub record PlanFound (b : Contents) (up down : List ℕ) (found : Bool) (ups at : ℕ) : Type 0 where
   pub reached : found ≡ true → Reached b up down ups at
   pub none : found ≡ false → NoWay b
   pub few-up : ups ≤ 5280
@@ -28,14 +28,14 @@ pub record Found (b : Contents) (up down : List ℕ) (found : Bool) (ups at : �
   pub few : ups + (5280 - at) ≤ 2 * factCount (b .sizes)
 
 -- What plan says, and the bytes of its buffer afterwards.
-pub record Reply : Type 0 where
+pub record PlanReply : Type 0 where
   pub answer : Said
   pub buffer : List ℕ
 
-abbrev pub reply : Said → List ℕ → Reply
-reply s out = record { answer = s; buffer = out }
+abbrev pub planReply : Said → List ℕ → PlanReply
+planReply s out = record { answer = s; buffer = out }
 
 -- No way, and the buffer as it was; or the requests in its front, their count, and the bytes behind as they were.
-abbrev pub given : Bool → List (List ℕ) → List ℕ → Reply
-given false chain before = reply said80 before
-given true chain before = reply (said81 (length chain)) (flat chain ++ drop (5 * length chain) before)
+abbrev pub given : Bool → List (List ℕ) → List ℕ → PlanReply
+given false chain before = planReply said80 before
+given true chain before = planReply (said81 (length chain)) (flat chain ++ drop (5 * length chain) before)

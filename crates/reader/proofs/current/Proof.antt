@@ -21,7 +21,8 @@ use contract.Monad.{Fun}
 use contract.Running.{givenOf, tables, tablesOf}
 use types.Kit.{Given, Item, ‵, raw, _⊛_, given, ⋆, _$_, _∵_, !, qed, by, move, keep, use1, use3, learn, split, join, fsplit, fjoin, feqL, suffices, frame, done}
 use types.Part.{whole, sub, look-in, agg}
-use types.Run.{look, init, forget, stop, hop, fld, from, load, of-opd, addr, and-then, no-more, assigns, land, returns, enter, alloc1, alloc0, params1, pass1, pass0, free1, free0}
+use types.Run.{look, init, forget, stop, hop, fld, from, load, of-opd, addr, and-then, no-more, assigns, land, returns, enter, alloc1, alloc0, params1, pass1, pass0}
+use types.Run.{free1, free0}
 use sound.WpLaws.{FmC, fmOf, WpFn-mono}
 use denote.RattleType.{owns}
 use denote.Laws.{Is, shows}
@@ -43,7 +44,7 @@ use denote.Triple.Walked.{says, needs, Stays, stay-dropped, gave-slice, walkOf, 
 use Rattle.walks.proofs.Walk.{goes}
 use Rattle.walks.proofs.Last.{returned-last}
 use Rattle.lines.specs.Inner.Front.{Tabled}
-use Rattle.reader.specs.Reading.{LineRead}
+use Rattle.reader.specs.Inner.Reading.{LineRead}
 use Rattle.reader.specs.declared.Reader.{Reader}
 use Rattle.reader.specs.declared.Line.{Line}
 use Rattle.reader.proofs.Reader as T

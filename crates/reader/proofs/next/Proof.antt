@@ -39,7 +39,7 @@ use denote.Triple.Table.{entered, cited}
 use denote.Triple.Walked.{says, needs, Stays, walkOf, Walks, walked, walk-meets}
 use Rattle.walks.proofs.Walk.{drops, goes, leaves, returned}
 use Rattle.lines.specs.declared.Cursor.{Cursor}
-use Rattle.lines.specs.Lines.{following}
+use Rattle.lines.specs.Inner.Cursors.{following}
 use Rattle.lines.proofs.Cursor as K
 use Rattle.lines.proofs.Cursor.Laws as K′
 use Rattle.reader.specs.declared.Reader.{Reader}

@@ -25,7 +25,8 @@ use contract.Monad.{Fun}
 use contract.Running.{givenOf, tables, tablesOf}
 use types.Kit.{Given, Item, ‵, raw, _⊛_, ⋆, _$_, _∵_, !, qed, by, move, keep, use1, use2, use3, drop, split, join, rewrite, fsplit, fjoin, feqL, suffices, frame, done}
 use types.Part.{whole, sub, look-in, agg}
-use types.Run.{look, init, forget, stop, hop, fld, from, load, of-opd, addr, and-then, no-more, assigns, land, returns, enter, alloc1, alloc0, params1, pass1, pass0, free1, free0}
+use types.Run.{look, init, forget, stop, hop, fld, from, load, of-opd, addr, and-then, no-more, assigns, land, returns, enter, alloc1, alloc0, params1, pass1, pass0}
+use types.Run.{free1, free0}
 use sound.WpLaws.{FmC, fmOf, WpFn-mono}
 use denote.RattleType.{owns}
 use denote.Laws.{Is, shows}
@@ -47,12 +48,12 @@ use Rattle.walks.proofs.Walk.{returned}
 use Rattle.walks.proofs.Last.{returned-last}
 use Rattle.lines.specs.declared.Cursor.{Cursor}
 use Rattle.lines.specs.Inner.Front.{Tabled}
-use Rattle.lines.specs.Lines.{following}
+use Rattle.lines.specs.Inner.Cursors.{following}
 use Rattle.lines.specs.declared.Frame.{Frame}
 use Rattle.lines.proofs.LineLaws.{line-within}
 use Rattle.lines.proofs.Cursor as K
 use Rattle.lines.proofs.Cursor.Laws as K′
-use Rattle.reader.specs.Reading.{LineRead, FrameRead}
+use Rattle.reader.specs.Inner.Reading.{LineRead, FrameRead}
 use Rattle.reader.specs.declared.Reader.{Reader}
 use Rattle.reader.specs.declared.Line.{Line}
 use Rattle.reader.specs.declared.Read.{Read}

@@ -13,8 +13,8 @@ use Rattle.gate.specs.declared.Sizes.{Sizes}
 use Rattle.frames.specs.declared.Want.{Want}
 use Rattle.frames.specs.declared.Query.{Query}
 use Rattle.frames.specs.Book.{contentsOf}
-use Rattle.rules.specs.Search.{all}
-use Rattle.rules.proofs.SearchLaws.{all-out, all-pass, all-fail}
+use Rattle.quantifiers.specs.Quantifiers.{all}
+use Rattle.quantifiers.proofs.ListLaws.{all-out, all-pass, all-fail}
 use Rattle.ledger.specs.Show.{valueSet}
 use Rattle.replay.specs.Met.{wants}
 use borrow.Author.Needs.{needs}

@@ -6,7 +6,7 @@ use borrow.Author.Tests.{not-true, not-false}
 use Rattle.sets.specs.Sets.{member}
 use Rattle.requests.specs.declared.Request.{Request}
 use Rattle.requests.specs.Requests.{requestOf, wellFormed}
-use Rattle.replay.specs.Lent.{fiveAt}
+use Rattle.replay.specs.Inner.Lent.{fiveAt}
 use Rattle.replay.proofs.LentLaws.{due-not, due-by-role}
 use borrow.Author.Needs.{needs}
 use native.Mathlib.Omega.{arith}

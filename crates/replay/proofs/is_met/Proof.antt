@@ -9,7 +9,7 @@ use Rattle.facts.specs.Facts.{holds}
 use Rattle.facts.specs.declared.Fact.{Fact}
 use Rattle.frames.specs.declared.Want.{Want}
 use Rattle.frames.specs.Book.{Contents, contentsOf}
-use Rattle.rules.specs.Search.{all}
+use Rattle.quantifiers.specs.Quantifiers.{all}
 use Rattle.replay.specs.Met.{wants, effectiveSet, directCrews, metAtLeast, metExactly, met}
 use borrow.Author.Needs.{needs}
 use Rattle.replay.proofs.is_met.Statement.{statement}

@@ -17,9 +17,11 @@ use ghost.Atoms.{Atoms}
 use contract.Lifetimes.{Lfts, Shares}
 use contract.Monad.{Fun}
 use contract.Running.{givenOf, tables, tablesOf}
-use types.Kit.{Given, Item, ‵, raw, _⊛_, ⋆, some, later, _$_, _∵_, !, qed, by, move, keep, group, drop, use1, use2, use3, split, join, pick, rewrite, fsplit, fjoin, feqL, suffices, frame, await, done}
+use types.Kit.{Given, Item, ‵, raw, _⊛_, ⋆, some, later, _$_, _∵_, !, qed, by, move, keep, group, drop, use1, use2, use3, split, join, pick, rewrite, fsplit, fjoin, feqL}
+use types.Kit.{suffices, frame, await, done}
 use types.Part.{whole, sub, look-in, agg}
-use types.Run.{look, init, forget, stop, hop, fld, from, load, addr, of-opd, and-then, no-more, assigns, land, returns, enter, alloc1, alloc0, params1, pass1, pass0, free1, free0}
+use types.Run.{look, init, forget, stop, hop, fld, from, load, addr, of-opd, and-then, no-more, assigns, land, returns, enter, alloc1, alloc0, params1, pass1, pass0}
+use types.Run.{free1, free0}
 use types.Tokens.{lft-new, lft-end}
 use sound.WpLaws.{FmC, fmOf, WpFn-mono}
 use denote.RattleType.{owns}
@@ -48,13 +50,14 @@ use Rattle.gate.proofs.Sizes.Laws as Z′
 use Rattle.frames.specs.declared.Rule.{Rule}
 use Rattle.frames.specs.declared.Rules.{Rules}
 use Rattle.frames.specs.Book.{listed}
-use Rattle.frames.specs.Fits.{Each, Short}
+use Rattle.frames.specs.Inner.Fits.{Short}
+use Rattle.quantifiers.specs.Inner.Lists.{Each}
 use Rattle.frames.proofs.Rule as R
 use Rattle.frames.proofs.Rule.Laws as R′
 use Rattle.frames.proofs.Rules as L
 use Rattle.frames.proofs.Rules.Laws as L′
 use Rattle.replay.specs.Chains.{run as runs-to, Run, fives}
-use Rattle.replay.specs.Lent.{standing, ranTo}
+use Rattle.replay.specs.Inner.Lent.{standing, ranTo}
 use Rattle.replay.proofs.run_plan as run-plan
 use Rattle.replay.proofs.run_plan.Symbol as run-plan-def
 use Rattle.replay.proofs.run_plan.Symbol.{name as #replay·run-plan}

@@ -24,9 +24,11 @@ use prog.Wp.{Heap, Out, Env, afterSeq, afterBlock, afterTurn, Calls, Loops, Wp, 
 use ghost.Atoms.{Atoms, sem}
 use contract.Monad.{Fun}
 use contract.Running.{givenOf, tables, tablesOf}
-use types.Kit.{Given, Item, Sq, runs, frees, prop, anyQ, atRet, ‵, raw, _⊛_, ⋆, some, later, _$_, _∵_, !, qed, by, move, keep, group, drop, use1, use2, use3, split, join, pick, rewrite, fsplit, fjoin, feqL, suffices, frame, await, done}
+use types.Kit.{Given, Item, Sq, runs, frees, prop, anyQ, atRet, ‵, raw, _⊛_, ⋆, some, later, _$_, _∵_, !, qed, by, move, keep, group, drop, use1, use2, use3, split, join}
+use types.Kit.{pick, rewrite, fsplit, fjoin, feqL, suffices, frame, await, done}
 use types.Part.{whole, sub, look-in, agg}
-use types.Run.{look, init, store, forget, stop, hop, fld, from, load, lit, addr, of-opd, bin, and-then, no-more, assigns, assigns-last, land, first, branches, stays, leaves-loop, blocks, loops, Below, again, returns, returns-within, exec, enter, alloc1, alloc0, params1, pass1, pass0}
+use types.Run.{look, init, store, forget, stop, hop, fld, from, load, lit, addr, of-opd, bin, and-then, no-more, assigns, assigns-last, land, first, branches, stays}
+use types.Run.{leaves-loop, blocks, loops, Below, again, returns, returns-within, exec, enter, alloc1, alloc0, params1, pass1, pass0}
 use types.Tokens.{lft-new, lft-end}
 use sound.WpLaws.{FmC, fmOf, WpFn-mono}
 use denote.RattleType.{owns}
@@ -54,12 +56,13 @@ use Rattle.gate.proofs.Sizes as Z
 use Rattle.gate.proofs.Sizes.Laws as Z′
 use Rattle.frames.specs.declared.Rule.{Rule}
 use Rattle.frames.specs.Book.{Contents}
-use Rattle.frames.specs.Fits.{Each, Short}
+use Rattle.frames.specs.Inner.Fits.{Short}
+use Rattle.quantifiers.specs.Inner.Lists.{Each}
 use Rattle.frames.proofs.Rule as R
 use Rattle.requests.specs.Requests.{requestOf}
 use Rattle.ledger.specs.Ledger.{after}
 use Rattle.replay.specs.Chains.{goes, run as runs-to, fives}
-use Rattle.replay.specs.Lent.{standing, fiveAt, ranTo}
+use Rattle.replay.specs.Inner.Lent.{standing, fiveAt, ranTo}
 use Rattle.replay.proofs.LentLaws.{Left, left-first, left-next, left-stop, left-none}
 use Rattle.replay.proofs.count_of as count-of
 use Rattle.replay.proofs.count_of.Symbol as count-of-def

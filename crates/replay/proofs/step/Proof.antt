@@ -18,9 +18,11 @@ use prog.Wp.{Heap, Calls, Loops, WpFn, Tables}
 use ghost.Atoms.{Atoms, sem}
 use contract.Monad.{Fun}
 use contract.Running.{givenOf, tables, tablesOf}
-use types.Kit.{Given, Item, ‵, raw, _⊛_, ⋆, some, later, _$_, _∵_, !, qed, by, move, keep, group, drop, use1, use2, split, join, pick, rewrite, fsplit, fjoin, feqL, suffices, frame, await, done}
+use types.Kit.{Given, Item, ‵, raw, _⊛_, ⋆, some, later, _$_, _∵_, !, qed, by, move, keep, group, drop, use1, use2, split, join, pick, rewrite, fsplit, fjoin, feqL}
+use types.Kit.{suffices, frame, await, done}
 use types.Part.{whole, sub, look-in, agg}
-use types.Run.{look, init, forget, stop, hop, fld, from, load, addr, of-opd, and-then, no-more, assigns, land, returns, enter, alloc1, alloc0, params1, pass1, pass0, free1, free0}
+use types.Run.{look, init, forget, stop, hop, fld, from, load, addr, of-opd, and-then, no-more, assigns, land, returns, enter, alloc1, alloc0, params1, pass1, pass0}
+use types.Run.{free1, free0}
 use types.Tokens.{lft-new, lft-end}
 use sound.WpLaws.{FmC, fmOf, WpFn-mono}
 use denote.RattleType.{owns}
@@ -47,13 +49,14 @@ use Rattle.gate.specs.declared.Sizes.{Sizes}
 use Rattle.gate.proofs.Sizes as Z
 use Rattle.gate.proofs.Sizes.Laws as Z′
 use Rattle.frames.specs.declared.Rule.{Rule}
-use Rattle.frames.specs.Fits.{Each, Short}
+use Rattle.frames.specs.Inner.Fits.{Short}
+use Rattle.quantifiers.specs.Inner.Lists.{Each}
+use Rattle.rules.specs.Inner.First.{first}
 use Rattle.frames.proofs.Rule as R
 use Rattle.requests.specs.declared.Request.{Request}
 use Rattle.requests.specs.Requests.{requestOf}
 use Rattle.requests.proofs.Request as Q
 use Rattle.requests.proofs.Request.Laws as Q′
-use Rattle.rules.specs.Search.{first}
 use Rattle.rules.specs.Rules.{permits}
 use Rattle.rules.proofs.first_permitting as first-permitting
 use Rattle.rules.proofs.first_permitting.Symbol as first-permitting-def
@@ -61,7 +64,7 @@ use Rattle.rules.proofs.first_permitting.Symbol.{name as #rules·first-permitti
 use Rattle.rules.proofs.first_permitting.Met as first-permitting-thm
 use Rattle.ledger.specs.Ledger.{after}
 use Rattle.replay.specs.Chains.{goes}
-use Rattle.replay.specs.Lent.{standing, fiveAt, due}
+use Rattle.replay.specs.Inner.Lent.{standing, fiveAt, due}
 use Rattle.replay.proofs.LentLaws.{step-done}
 use Rattle.replay.proofs.is_due as is-due
 use Rattle.replay.proofs.is_due.Symbol as is-due-def

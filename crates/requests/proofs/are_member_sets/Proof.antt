@@ -3,8 +3,8 @@
 use mathlib.Core.Path.{_≡_, ap, _∙_}
 use Prim.Native.Nat.{_≤_, _-_}
 use native.Mathlib.Omega.{arith}
-use Rattle.gate.specs.Gate.{allBelow}
-use Rattle.gate.proofs.GateLaws.{all-more, all-none}
+use Rattle.quantifiers.specs.Quantifiers.{allBelow}
+use Rattle.quantifiers.proofs.BelowLaws.{all-more, all-none}
 use Rattle.requests.specs.Suitable.{memberSetGood}
 use borrow.Author.Needs.{needs}
 use Rattle.requests.proofs.are_member_sets.Statement.{statement}

@@ -21,7 +21,8 @@ use contract.Monad.{Fun, factI}
 use contract.Running.{givenOf, tables, tablesOf}
 use types.Kit.{Given, Item, ‵, raw, _⊛_, ⋆, some, later, _$_, _∵_, !, qed, by, move, keep, use2, use3, split, join, pick, rewrite, fsplit, fjoin, frame, await, done}
 use types.Part.{whole, sub, look-in, agg}
-use types.Run.{look, init, forget, stop, fld, from, load, addr, of-opd, and-then, no-more, assigns, land, returns, enter, alloc1, alloc0, params1, pass1, pass0, free1, free0}
+use types.Run.{look, init, forget, stop, fld, from, load, addr, of-opd, and-then, no-more, assigns, land, returns, enter, alloc1, alloc0, params1, pass1, pass0, free1}
+use types.Run.{free0}
 use types.Tokens.{lft-new, lft-end}
 use sound.WpLaws.{FmC, fmOf, WpFn-mono}
 use denote.RattleType.{owns}
@@ -47,7 +48,9 @@ use Rattle.facts.specs.Facts.{holds}
 use Rattle.frames.specs.declared.Rule.{Rule}
 use Rattle.frames.specs.declared.Rules.{Rules}
 use Rattle.frames.specs.Book.{listed}
-use Rattle.frames.specs.Fits.{Each, Short}
+use Rattle.frames.specs.Inner.Fits.{Short}
+use Rattle.quantifiers.specs.Inner.Lists.{Each}
+use Rattle.rules.specs.Inner.First.{first}
 use Rattle.frames.proofs.Rule as T
 use Rattle.frames.proofs.Rule.Laws as T′
 use Rattle.frames.proofs.Rules as L
@@ -55,7 +58,6 @@ use Rattle.frames.proofs.Rules.Laws as L′
 use Rattle.requests.specs.declared.Request.{Request}
 use Rattle.requests.proofs.Request as Q
 use Rattle.requests.proofs.Request.Laws as Q′
-use Rattle.rules.specs.Search.{first}
 use Rattle.rules.specs.Rules.{permits}
 use Rattle.rules.proofs.first_permitting as first-permitting
 use Rattle.rules.proofs.first_permitting.Symbol as first-permitting-def

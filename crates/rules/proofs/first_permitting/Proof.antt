@@ -26,9 +26,11 @@ use ghost.Atoms.{Atoms, sem}
 use contract.Lifetimes.{Lfts, Shares}
 use contract.Monad.{Fun, factI}
 use contract.Running.{givenOf, tables, tablesOf}
-use types.Kit.{Given, Item, Sq, runs, anyQ, atRet, ‵, raw, _⊛_, ⋆, _$_, _∵_, !, qed, by, move, keep, drop, use0, use1, use2, use3, split, join, rewrite, fsplit, fjoin, frame, done}
+use types.Kit.{Given, Item, Sq, runs, anyQ, atRet, ‵, raw, _⊛_, ⋆, _$_, _∵_, !, qed, by, move, keep, drop, use0, use1, use2, use3, split, join, rewrite, fsplit, fjoin}
+use types.Kit.{frame, done}
 use types.Part.{whole, sub, look-in}
-use types.Run.{look, init, store, forget, stop, fld, from, load, lit, of-opd, un, bin, and-then, no-more, assigns, assigns-last, land, first as enters, branches, skips, jumps, stays, leaves-loop, blocks, loops, Below, again, returns, exec, enter, alloc1, alloc0, params1, pass1, pass0}
+use types.Run.{look, init, store, forget, stop, fld, from, load, lit, of-opd, un, bin, and-then, no-more, assigns, assigns-last, land, first as enters, branches, skips}
+use types.Run.{jumps, stays, leaves-loop, blocks, loops, Below, again, returns, exec, enter, alloc1, alloc0, params1, pass1, pass0}
 use sound.WpLaws.{FmC, fmOf, WpFn-mono}
 use denote.RattleType.{owns}
 use denote.Laws.{Is, shows}
@@ -52,13 +54,14 @@ use Rattle.facts.specs.declared.Fact.{Fact}
 use Rattle.facts.specs.Facts.{holds}
 use Rattle.frames.specs.declared.Rule.{Rule}
 use Rattle.frames.specs.Book.{noTerm, noRule}
-use Rattle.frames.specs.Fits.{Each, Short}
+use Rattle.frames.specs.Inner.Fits.{Short}
+use Rattle.quantifiers.specs.Inner.Lists.{Each}
+use Rattle.rules.specs.Inner.First.{first}
 use Rattle.frames.proofs.Rule as T
 use Rattle.frames.proofs.Rule.Laws as T′
 use Rattle.requests.specs.declared.Request.{Request}
 use Rattle.requests.proofs.Request as Q
 use Rattle.requests.proofs.Request.Laws as Q′
-use Rattle.rules.specs.Search.{first}
 use Rattle.rules.specs.Rules.{names, permits}
 use Rattle.rules.proofs.TrialLaws.{at-place, holdsOf, Left, left-all, left-next, Open, open-all, open-out, open-unnamed, open-unmet, open-met}
 use Rattle.rule_list.proofs.rule_at as rule-at

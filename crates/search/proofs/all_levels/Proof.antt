@@ -6,7 +6,7 @@ use Prim.Native.Nat.{ℕ}
 use native.Mathlib.Omega.{arith}
 use lib.ListN.{getD-replicate}
 use Rattle.frames.specs.Book.{Contents, contentsOf}
-use Rattle.search.specs.Scan.{NoRun, Searched}
+use Rattle.search.specs.Inner.Scan.{NoRun, Searched}
 use Rattle.search.proofs.DriveLaws.{drive-first}
 use Rattle.search.proofs.StepLaws.{no-found, was-found}
 use borrow.Author.Needs.{needs}

@@ -5,8 +5,8 @@ use mathlib.Core.List.{List}
 use Prim.Native.Nat.{ℕ, _+_, _-_, _*_, _≤_, _<_}
 use lib.ListN.{length}
 use Rattle.frames.specs.Book.{Contents, contentsOf}
-use Rattle.search.specs.Drive.{Driving}
-use Rattle.search.specs.Scan.{BlankTable, Scanned}
+use Rattle.search.specs.Inner.Drive.{Driving}
+use Rattle.search.specs.Inner.Scan.{BlankTable, Scanned}
 use Rattle.search.proofs.StepLaws.{no-found, was-found}
 use borrow.Author.Needs.{needs}
 use native.Mathlib.Omega.{arith}

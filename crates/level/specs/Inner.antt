@@ -1,0 +1,11 @@
+pub mod Shown
+pub mod Moves
+pub mod World
+pub mod Terms
+pub mod Chosen
+pub mod Notes
+pub mod Sweep
+pub mod BackSweep
+pub mod Build
+pub mod Settle
+pub mod Upto

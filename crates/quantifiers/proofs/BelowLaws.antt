@@ -1,0 +1,156 @@
+-- Tests over the numbers below a bound: some one passes, all pass, how many do.
+use mathlib.Core.Path.{_≡_, refl, sym, _∙_}
+use mathlib.Core.Logic.{dite, ⊎-elim}
+use mathlib.Core.Bool.{Bool, true, false, _&&_, _||_, or-true, false≢true}
+use Prim.Native.Nat.{ℕ, zero, suc, _+_, _≤_, _<_}
+use native.Mathlib.Decide.{ℕ-discrete, decLt}
+use native.Mathlib.Numerals.{add-one}
+use native.Mathlib.Omega.{arith}
+use Rattle.quantifiers.specs.Quantifiers.{allBelow, anyBelow}
+use Rattle.quantifiers.specs.Inner.Lists.{oneIf, countBelow}
+use Rattle.quantifiers.proofs.BoolLaws.{and-both, and-from, or-cases, not-on}
+
+-- ---------------------------------------------------------------- some number below n
+
+-- No number is below 0.
+pub any-zero : (p : ℕ → Bool) → anyBelow p 0 ≡ false
+unfolding anyBelow
+any-zero p = refl
+
+-- Some number below n + 1 passes where some below n does or n does.
+pub any-step : (p : ℕ → Bool) (n : ℕ) → anyBelow p (suc n) ≡ anyBelow p n || p n
+unfolding anyBelow
+any-step p n = refl
+
+-- Where none below n passes, and n does not, none below n + 1 does.
+pub any-next : (p : ℕ → Bool) (n : ℕ) → anyBelow p n ≡ false → p n ≡ false → anyBelow p (n + 1) ≡ false
+unfolding anyBelow
+any-next p n e f = rw (add-one, e, f)
+
+-- A number below n that passes is found.
+pub any-from : (p : ℕ → Bool) (n i : ℕ) → p i ≡ true → i < n → anyBelow p n ≡ true
+unfolding anyBelow
+any-from p zero i e h = absurd (omega arith)
+any-from p (suc n) i e h =
+    dite (ℕ-discrete i n)
+    (λ (q : i ≡ n). rw (← q, e) (or-true (anyBelow p i)))
+    (λ (q : i ≡ n → ⊥). rw (any-from p n i e (omega arith)))
+
+-- What is found is a number below n that passes.
+pub any-cases : (p : ℕ → Bool) (n : ℕ) → anyBelow p n ≡ true → (i : ℕ) × ((i < n) × (p i ≡ true))
+unfolding anyBelow
+any-cases p zero e = absurd (false≢true e)
+any-cases p (suc n) e =
+    ⊎-elim
+    (λ (f : anyBelow p n ≡ true). let found = any-cases p n f in (found .0, (omega (arith, found .1 .0), found .1 .1)))
+    (λ (f : p n ≡ true). (n, (omega arith, f)))
+    (or-cases (anyBelow p n) (p n) e)
+
+-- Where nothing is found, no number below n passes.
+pub any-none : (p : ℕ → Bool) (n i : ℕ) → anyBelow p n ≡ false → i < n → p i ≡ false
+any-none p n i e h = not-on (p i) (λ (t : p i ≡ true). false≢true (sym e ∙ any-from p n i t h))
+
+-- Tests that agree below n find alike.
+pub any-same : (p q : ℕ → Bool) (n : ℕ) → ((i : ℕ) → i < n → p i ≡ q i) → anyBelow p n ≡ anyBelow q n
+unfolding anyBelow
+any-same p q zero h = refl
+any-same p q (suc n) h =
+    let below = any-same p q n (λ i l. h i (omega arith)) in
+    let last : p n ≡ q n = h n (omega arith) in
+    rw (below, last)
+
+-- A test that passes more numbers finds more.
+pub any-below-mono : (p q : ℕ → Bool) (n : ℕ) → ((i : ℕ) → i < n → p i ≡ true → q i ≡ true) → anyBelow p n ≡ true → anyBelow q n ≡ true
+any-below-mono p q n h e = let found = any-cases p n e in any-from q n (found .0) (h (found .0) (found .1 .0) (found .1 .1)) (found .1 .0)
+
+-- Where each number below n fails, none is found.
+pub any-false : (p : ℕ → Bool) (n : ℕ) → ((i : ℕ) → i < n → p i ≡ false) → anyBelow p n ≡ false
+unfolding anyBelow
+any-false p zero h = refl
+any-false p (suc n) h = rw (any-false p n (λ i l. h i (omega arith)), h n (omega arith)) refl
+
+-- ---------------------------------------------------------------- all numbers below n
+
+-- No number is below 0.
+pub all-none : (p : ℕ → Bool) → true ≡ allBelow p 0
+unfolding allBelow
+all-none p = refl
+
+-- One number more: what held below j, and the test at j.
+pub all-more : (p : ℕ → Bool) (j : ℕ) (b t : Bool) → b ≡ allBelow p j → t ≡ p j → (b && t) ≡ allBelow p (j + 1)
+unfolding allBelow
+all-more p j b t e f = rw (add-one, e, f) refl
+
+-- A test that all numbers below n pass is passed by each of them.
+pub all-at : (p : ℕ → Bool) (n i : ℕ) → allBelow p n ≡ true → i < n → p i ≡ true
+unfolding allBelow
+all-at p zero i e h = absurd (omega arith)
+all-at p (suc n) i e h =
+    let both = and-both (allBelow p n) (p n) e in
+    dite (decLt i n)
+    (λ (l : i < n). all-at p n i (both .0) l)
+    (λ (l : i < n → ⊥). let q : i ≡ n = omega arith in rw q (both .1))
+
+-- A test that each number below n passes is passed by all.
+pub all-from : (p : ℕ → Bool) (n : ℕ) → ((i : ℕ) → i < n → p i ≡ true) → allBelow p n ≡ true
+unfolding allBelow
+all-from p zero h = refl
+all-from p (suc n) h = and-from (allBelow p n) (p n) (all-from p n (λ i l. h i (omega arith))) (h n (omega arith))
+
+-- Tests that agree below n are passed alike.
+pub all-below-same : (p q : ℕ → Bool) (n : ℕ) → ((j : ℕ) → j < n → p j ≡ q j) → allBelow p n ≡ allBelow q n
+unfolding allBelow
+all-below-same p q zero h = refl
+all-below-same p q (suc n) h = rw (all-below-same p q n (λ j l. h j (omega arith)), h n (omega arith)) refl
+
+-- ---------------------------------------------------------------- how many numbers below n
+
+one-if-most : (b : Bool) → oneIf b ≤ 1
+one-if-most true = omega arith
+one-if-most false = omega arith
+
+one-if-mono : (a b : Bool) → (a ≡ true → b ≡ true) → oneIf a ≤ oneIf b
+one-if-mono true b h = rw (h refl) (omega arith)
+one-if-mono false b h = omega arith
+
+-- One number more, that passes or does not.
+module _ (p : ℕ → Bool) (n : ℕ) where
+  pub count-step : countBelow p (suc n) ≡ countBelow p n + oneIf (p n)
+  unfolding countBelow
+  count-step = refl
+
+  pub count-yes : p n ≡ true → countBelow p (n + 1) ≡ countBelow p n + 1
+  unfolding countBelow
+  count-yes e = rw (add-one, e)
+
+  pub count-no : p n ≡ false → countBelow p (n + 1) ≡ countBelow p n
+  unfolding countBelow
+  count-no e = rw (add-one, e) (omega arith)
+
+-- No more pass than there are.
+pub count-le : (p : ℕ → Bool) (n : ℕ) → countBelow p n ≤ n
+unfolding countBelow
+count-le p zero = omega arith
+count-le p (suc n) = omega (arith, one-if-most (p n), count-le p n)
+
+-- Of more numbers at least as many pass.
+pub count-longer : (p : ℕ → Bool) (i n : ℕ) → i ≤ n → countBelow p i ≤ countBelow p n
+unfolding countBelow
+count-longer p i zero h = let e : i ≡ 0 = omega arith in rw e (omega arith)
+count-longer p i (suc n) h =
+    dite (decLt i (suc n))
+    (λ (l : i < suc n). let below = count-longer p i n (omega arith) in omega (arith, below))
+    (λ (l : i < suc n → ⊥). let e : i ≡ suc n = omega arith in rw e (omega arith))
+
+-- By a test that more numbers pass, at least as many do.
+pub count-mono : {p q : ℕ → Bool} → ((i : ℕ) → p i ≡ true → q i ≡ true) → (n : ℕ) → countBelow p n ≤ countBelow q n
+unfolding countBelow
+count-mono h zero = omega arith
+count-mono {p} {q} h (suc n) = omega (arith, one-if-mono (p n) (q n) (h n), count-mono h n)
+
+-- Where no number passes two of four tests, no more pass than there are.
+pub count-four : (p q r s : ℕ → Bool) (n : ℕ) → ((i : ℕ) → oneIf (p i) + oneIf (q i) + oneIf (r i) + oneIf (s i) ≤ 1)
+    → countBelow p n + countBelow q n + countBelow r n + countBelow s n ≤ n
+unfolding countBelow
+count-four p q r s zero h = omega arith
+count-four p q r s (suc n) h = omega (arith, count-four p q r s n h, h n)

@@ -1,0 +1,139 @@
+-- Tests over a list: by its elements, by its places, and from the front of its first n, where what is left decides.
+use mathlib.Core.Path.{_≡_, refl, ap, sym, _∙_}
+use mathlib.Core.Bool.{Bool, true, false, _&&_, _||_, or-false, or-assoc, true≢false}
+use mathlib.Core.List.{List, [], _∷_, _++_, map}
+use Prim.Native.Nat.{ℕ, zero, suc, _+_, _≤_, _<_}
+use native.Mathlib.Numerals.{add-one}
+use native.Mathlib.Omega.{arith}
+use lib.ListN.{length, getD, take, drop, drop-of-length-le}
+use lib.Seq.{drop-cons, getD-take, length-take-le, take-suc}
+use Rattle.quantifiers.specs.Quantifiers.{all, any, anyBelow}
+use Rattle.quantifiers.specs.Inner.Lists.{Each}
+use Rattle.quantifiers.proofs.BoolLaws.{and-both, or-right}
+use Rattle.quantifiers.proofs.BelowLaws.{any-zero, any-step}
+
+-- ---------------------------------------------------------------- by the elements
+
+module _ {A : Type 0} where
+  -- All of a list pass where the first does and all others do; of an empty list all pass.
+  pub all-nil : (p : A → Bool) → all p [] ≡ true
+  unfolding all
+  all-nil p = refl
+
+  pub all-cons : (p : A → Bool) (x : A) (xs : List A) → all p (x ∷ xs) ≡ p x && all p xs
+  unfolding all
+  all-cons p x xs = refl
+
+  -- All pass a test that each of them passes; of each is known that it passes two others, and that what it passes some one passes.
+  pub all-in : (p q r : A → Bool) (xs : List A) → all p xs ≡ true → all q xs ≡ true
+      → ((x : A) → p x ≡ true → q x ≡ true → ((t : A → Bool) → t x ≡ true → any t xs ≡ true) → r x ≡ true) → all r xs ≡ true
+  unfolding all any
+  all-in p q r [] e f h = refl
+  all-in p q r (x ∷ xs) e f h =
+      let one = and-both (p x) (all p xs) e in
+      let two = and-both (q x) (all q xs) f in
+      let rest : all r xs ≡ true = all-in p q r xs (one .1) (two .1) (λ y i j found. h y i j (λ t k. or-right (t x) (any t xs) (found t k))) in
+      rw (h x (one .0) (two .0) (λ t i. rw i refl), rest) refl
+
+  -- Where all pass one test and some passes another, some one passes both.
+  pub all-any : (p q : A → Bool) (xs : List A) → all p xs ≡ true → any q xs ≡ true → (x : A) × ((p x ≡ true) × (q x ≡ true))
+  unfolding all any
+  all-any p q [] e f = absurd (true≢false (sym f))
+  all-any p q (x ∷ xs) e f = by-head (q x) refl f (λ g. all-any p q xs (and-both (p x) (all p xs) e .1) g)
+    where
+      by-head : (h : Bool) → q x ≡ h → (h || any q xs) ≡ true → (any q xs ≡ true → (y : A) × ((p y ≡ true) × (q y ≡ true))) → (y : A) × ((p y ≡ true) × (q y ≡ true))
+      by-head true i g next = (x, (and-both (p x) (all p xs) e .0, i))
+      by-head false i g next = next g
+
+  -- By a test that more pass, all pass where all did, and some one where some one did.
+  pub all-mono : (p q : A → Bool) (xs : List A) → ((x : A) → p x ≡ true → q x ≡ true) → all p xs ≡ true → all q xs ≡ true
+  all-mono p q xs h e = all-in p p q xs e e (λ x i j found. h x i)
+
+  pub any-mono : (p q : A → Bool) (xs : List A) → ((x : A) → p x ≡ true → q x ≡ true) → any p xs ≡ true → any q xs ≡ true
+  unfolding any
+  any-mono p q [] h e = e
+  any-mono p q (x ∷ xs) h e = by-head (p x) refl e (any-mono p q xs h)
+    where
+      by-head : (b : Bool) → p x ≡ b → (b || any p xs) ≡ true → (any p xs ≡ true → any q xs ≡ true) → (q x || any q xs) ≡ true
+      by-head true i f rest = rw (h x i) refl
+      by-head false i f rest = or-right (q x) (any q xs) (rest f)
+
+  -- By tests that agree, all pass alike, and some one alike.
+  pub all-agree : (p q : A → Bool) → ((x : A) → p x ≡ q x) → (xs : List A) → all p xs ≡ all q xs
+  unfolding all
+  all-agree p q h [] = refl
+  all-agree p q h (x ∷ xs) = rw (h x, all-agree p q h xs) refl
+
+  pub any-agree : (p q : A → Bool) → ((x : A) → p x ≡ q x) → (xs : List A) → any p xs ≡ any q xs
+  unfolding any
+  any-agree p q h [] = refl
+  any-agree p q h (x ∷ xs) = rw (h x, any-agree p q h xs) refl
+
+  -- The same of tests that agree at each place of the list.
+  pub all-same-at : (p q : A → Bool) (d : A) (xs : List A) → ((j : ℕ) → j < length xs → p (getD xs j d) ≡ q (getD xs j d)) → all p xs ≡ all q xs
+  unfolding all
+  all-same-at p q d [] h = refl
+  all-same-at p q d (x ∷ xs) h = rw (h 0 (omega arith), all-same-at p q d xs (λ j i. h (suc j) (omega arith)))
+
+  -- ---------------------------------------------------------------- by the places
+
+  -- The first n of a list pass a test where each place below n has one that does.
+  pub all-front : (p : A → Bool) (d : A) (xs : List A) (n : ℕ) → ((j : ℕ) → j < n → p (getD xs j d) ≡ true) → all p (take n xs) ≡ true
+  unfolding all
+  all-front p d [] zero h = refl
+  all-front p d [] (suc n) h = refl
+  all-front p d (x ∷ xs) zero h = refl
+  all-front p d (x ∷ xs) (suc n) h = rw (h 0 (omega arith), all-front p d xs n (λ j l. h (suc j) (omega arith))) refl
+
+  any-last : (p : A → Bool) (xs : List A) (y : A) → any p (xs ++ (y ∷ [])) ≡ any p xs || p y
+  unfolding any
+  any-last p [] y = or-false (p y)
+  any-last p (x ∷ xs) y = ap (λ u. p x || u) (any-last p xs y) ∙ sym (or-assoc (p x) (any p xs) (p y))
+
+  -- Some one of the first n of a list passes where some place below n has one that does.
+  pub any-front : (p : A → Bool) (d : A) (xs : List A) (n : ℕ) → n ≤ length xs → any p (take n xs) ≡ anyBelow (λ j. p (getD xs j d)) n
+  unfolding any
+  any-front p d xs zero h = sym (any-zero (λ j. p (getD xs j d)))
+  any-front p d xs (suc n) h =
+      ap (any p) (take-suc xs n d (omega arith)) ∙ any-last p (take n xs) (getD xs n d)
+      ∙ ap (λ u. u || p (getD xs n d)) (any-front p d xs n (omega arith)) ∙ sym (any-step (λ j. p (getD xs j d)) n)
+
+-- ---------------------------------------------------------------- from the front
+
+module _ {A : Type 0} (xs : List A) (n : ℕ) (fits : n ≤ length xs) where
+  pub front-length : length (take n xs) ≡ n
+  front-length = length-take-le n xs fits
+
+  -- The next one, in front of what is left behind it.
+  pub front-drop : (i : ℕ) (d : A) → i < n → drop i (take n xs) ≡ getD xs i d ∷ drop (i + 1) (take n xs)
+  front-drop i d h = rw (add-one, drop-cons (take n xs) i d (omega (arith, front-length)), getD-take n xs i d h)
+
+module _ {A : Type 0} (p : A → Bool) (xs : List A) (n : ℕ) (fits : n ≤ length xs) where
+  -- Nothing is left.
+  pub all-out : (i : ℕ) → n ≤ i → all p (drop i (take n xs)) ≡ true
+  unfolding all
+  all-out i h = rw (drop-of-length-le (take n xs) {i = i} (omega (arith, front-length xs n fits)))
+
+  -- The next one passes.
+  pub all-pass : (i : ℕ) (d : A) → i < n → p (getD xs i d) ≡ true → all p (drop i (take n xs)) ≡ all p (drop (i + 1) (take n xs))
+  unfolding all
+  all-pass i d h e = ap (all p) (front-drop xs n fits i d h) ∙ rw e
+
+  -- The next one fails.
+  pub all-fail : (i : ℕ) (d : A) → i < n → p (getD xs i d) ≡ false → all p (drop i (take n xs)) ≡ false
+  unfolding all
+  all-fail i d h e = rw (front-drop xs n fits i d h, e)
+
+-- What each of the first n has, the one at i has.
+pub each-at : {A : Type 0} (P : A → Type 0) (xs : List A) (n i : ℕ) (d : A) → i < n → n ≤ length xs → Each P (take n xs) → P (getD xs i d)
+unfolding Each
+each-at P [] n i d h f e = absurd (omega arith)
+each-at P (x ∷ xs) zero i d h f e = absurd (omega arith)
+each-at P (x ∷ xs) (suc n) zero d h f e = e .0
+each-at P (x ∷ xs) (suc n) (suc i) d h f e = each-at P xs n i d (omega arith) (omega arith) (e .1)
+
+-- ---------------------------------------------------------------- two lists, one behind the other
+
+pub map-append : {A B : Type 0} (f : A → B) (xs ys : List A) → map f (xs ++ ys) ≡ map f xs ++ map f ys
+map-append f [] ys = refl
+map-append {A} {B} f (x ∷ xs) ys = ap (λ (r : List B). f x ∷ r) (map-append f xs ys)

@@ -1,0 +1,3 @@
+pub mod Tracked
+pub mod Goal
+pub mod Depot

@@ -1,0 +1,60 @@
+-- What the planner's steps over the levels promise. No part of what plan promises.
+use mathlib.Core.Path.{_≡_}
+use mathlib.Core.Bool.{Bool, true, false}
+use mathlib.Core.List.{List, map}
+use Prim.Native.Nat.{ℕ, _-_, _<_, _≤_}
+use lib.ListN.{length, getD}
+use Rattle.frames.specs.declared.Book.{Book}
+use Rattle.frames.specs.Book.{Contents}
+use Rattle.theory.specs.Inner.Facts.{Clear}
+use Rattle.theory.specs.Inner.Plan.{Ask, Req, Runs, end, Best}
+use Rattle.level.specs.Inner.Moves.{Moves, Sound}
+use Rattle.level.specs.Inner.Chosen.{MovesOf}
+use Rattle.level.specs.Inner.Notes.{asks}
+use Rattle.reach.specs.Inner.Tracked.{bytesOf}
+use Rattle.reach.specs.Inner.Goal.{bad}
+use Rattle.reach.specs.Inner.Depot.{depot}
+use Rattle.search.specs.Inner.Drive.{starts, Driving}
+
+-- The moves of a level's two sides, out of the rules with the query's roles.
+pub record SideMoves (b : Book) (add₁ add₂ del₁ del₂ : ℕ) (adds dels : Moves) : Type 0 where
+  pub room : length (b .rules .rules) ≡ 512
+  pub more : MovesOf (b .rules) add₁ add₂ (b .query .roles) adds (b .rules .count)
+  pub less : MovesOf (b .rules) del₁ del₂ (b .query .roles) dels (b .rules .count)
+  pub sound-adds : Sound adds
+  pub sound-dels : Sound dels
+
+-- No run of the depot from the starting facts ends clear of the forbidden.
+pub record NoRun (b : Contents) : Type 0 where
+  pub never : (rs : List Req) → Runs (depot b .May) (starts b) rs → Clear (bad b) (end (starts b) rs) → ⊥
+
+-- Every fact of a level may be added.
+pub record AllAllowed (u : List Bool) : Type 0 where
+  pub size : length u ≡ 160
+  pub at : (f : ℕ) → f < 160 → getD u f false ≡ true
+
+-- Every flag of a table is false, but those of its last row.
+pub record BlankTable (table : List Bool) : Type 0 where
+  pub size : length table ≡ 5280
+  pub blank : (j : ℕ) → j < 5120 → getD table j false ≡ false
+
+-- The levels below k are settled, or no run ends clear.
+pub record Scanned (b : Contents) (k : ℕ) (rows : List Bool) (up down : List ℕ) (found : Bool) (ups at : ℕ) : Type 0 where
+  pub settled : found ≡ true → Driving b k rows ups up at down
+  pub stuck : found ≡ false → NoRun b
+
+-- All levels are settled: the requests written are the best plan's.
+pub record BestWritten (b : Contents) (up down : List ℕ) (ups at : ℕ) : Type 0 where
+  pub us : List Ask
+  pub ds : List Ask
+  pub best : Best (depot b) (bad b) (starts b) us ds
+  pub bytes-up : map bytesOf us ≡ map bytesOf (asks up 0 ups)
+  pub bytes-down : map bytesOf ds ≡ map bytesOf (asks down at (5280 - at))
+  pub few-up : ups ≤ 5280
+  pub most-down : at ≤ 5280
+  pub size-up : length up ≡ 26400
+  pub size-down : length down ≡ 26400
+
+pub record Searched (b : Contents) (up down : List ℕ) (found : Bool) (ups at : ℕ) : Type 0 where
+  pub written : found ≡ true → BestWritten b up down ups at
+  pub stuck : found ≡ false → NoRun b
