@@ -5,6 +5,16 @@ use borrow.Author.Needs.{needs}
 use Rattle.bixorgun.proofs.bixorgun_show.Statement.{statement}
 use Rattle.bixorgun.proofs.bixorgun_show.Tie as tie
 
+-- The places that the answers name: the start, after `ledger::show`, and where the buffer has room for the view.
+abbrev entry : tie.After-enum-told → tie.Start
+entry c = c .before .before .before .before .before .before
+
+abbrev after-show : tie.After-enum-told → tie.After-show
+after-show c = c .before .before
+
+abbrev roomy : tie.After-code-of3 → tie.Else1
+roomy c = c .before .before .before .before .before .before
+
 show-requires : tie.Need-show-requires
 show-requires c κs = search needs
 
@@ -22,10 +32,11 @@ code-of-requires c κs = search needs
 
 returns : tie.Need-returns
 returns c =
-    let start = c .before .before .before .before .before .before .before .before .before .before in
-    let s = c .before .before .before .before .before .before .show in
-    let r = c .before .before .before .before .outcome .given .0 .0 in
-    hidden-coded _ (start .args .view .now) _ r (view-hidden (s .result) _ (s .ensures) r (c .before .before .before .before .outcome .given .1))
+    let at-outcome = c .before .before .before .before in
+    let start = at-outcome .before .before .before .before .before .before in
+    let s = at-outcome .before .before .show in
+    let r = at-outcome .outcome .given .0 .0 in
+    hidden-coded _ (start .args .view .now) _ r (view-hidden (s .result) _ (s .ensures) r (at-outcome .outcome .given .1))
     (c .code-of .ensures ∙ rw (c .before .before .refusal-number .ensures, c .before .refusal-line .ensures) refl)
 
 enum-told : tie.Need-enum-told
@@ -36,9 +47,11 @@ code-of-requires-2 c κs = search needs
 
 returns-2 : tie.Need-returns-2
 returns-2 c =
-    let start = c .before .before .before .before .before .before .before .before in
-    let s = c .before .before .before .before .show in
-    no-room-coded _ (start .args .view .now) _ (s .result .sets) (s .result .crews) (view-shown (s .result) _ (s .ensures) (c .before .before .enum-told .given .1)) (c .before .if1 .taken) (c .code-of2 .ensures)
+    let start = entry (c .before .before) in
+    let s = after-show (c .before .before) .show in
+    no-room-coded _ (start .args .view .now) _ (s .result .sets) (s .result .crews)
+    (view-shown (s .result) _ (s .ensures) (c .before .before .enum-told .given .1)) (c .before .if1 .taken)
+    (c .code-of2 .ensures)
 
 write-view-requires : tie.Need-write-view-requires
 write-view-requires c κs = search needs
@@ -51,9 +64,11 @@ same-length c = search needs
 
 returns-3 : tie.Need-returns-3
 returns-3 c =
-    let start = c .before .before .before .before .before .before .before .before .before .before .before .before .before in
-    let s = c .before .before .before .before .before .before .before .before .before .show in
-    shown-coded _ (start .args .view .now) _ (s .result .sets) (s .result .crews) _ (view-shown (s .result) _ (s .ensures) (c .before .before .before .before .before .before .before .enum-told .given .1)) (c .before .before .before .before .before .before .if1 .left) (c .code-of3 .ensures) (c .before .before .before .write-view .ensures)
+    let start = entry (roomy c .before) in
+    let s = after-show (roomy c .before) .show in
+    shown-coded _ (start .args .view .now) _ (s .result .sets) (s .result .crews) _
+    (view-shown (s .result) _ (s .ensures) (roomy c .before .enum-told .given .1)) (roomy c .if1 .left)
+    (c .code-of3 .ensures) (c .before .before .before .write-view .ensures)
 
 pub bixorgun-show-spec : {M : Type 1} → statement M
 bixorgun-show-spec =

@@ -16,6 +16,19 @@ Inv-loop crews view₀ sets i₀ view i = SetsWritten sets view₀ i view
 abbrev μ-loop : tie.MeasureT-loop
 μ-loop crews view₀ sets i₀ view i = 8 - i
 
+-- The places that the answers name: the start, a turn of the loop, after the first call behind the loop, and the loop as it is left.
+abbrev entry : tie.At-loop Inv-loop μ-loop → tie.Start Inv-loop μ-loop
+entry c = c .before .before
+
+abbrev in-loop : tie.After-view Inv-loop μ-loop → tie.In-loop Inv-loop μ-loop
+in-loop c = c .before .before .before
+
+abbrev after-put-two2 : tie.After-slice-known4 Inv-loop μ-loop → tie.After-put-two2 Inv-loop μ-loop
+after-put-two2 c = c .before .before .before .before .before .before
+
+abbrev after-loop : tie.After-slice-known4 Inv-loop μ-loop → tie.After-loop Inv-loop μ-loop
+after-loop c = after-put-two2 c .before .before
+
 loop-holds : tie.Need-loop-holds Inv-loop μ-loop
 loop-holds c = sets-none _ _
 
@@ -30,10 +43,12 @@ array-read-put-two c = search needs
 
 put-two-requires : tie.Need-put-two-requires Inv-loop μ-loop
 put-two-requires c κs =
-    let start = c .before .before .before .before in
+    let start = entry (c .before .before) in
     let eight = start .good .0 .1 .0 .1 in
-    let written = c .before .before .loop .inv in
-    (omega (arith, c .before .loop-test .taken), omega (arith, view-length eight (start .pre) written, start .pre, c .before .loop-test .taken))
+    let written = c .before .before .loop .inv in (
+      omega (arith, c .before .loop-test .taken),
+      omega (arith, view-length eight (start .pre) written, start .pre, c .before .loop-test .taken),
+    )
 
 add-i : tie.Need-add-i Inv-loop μ-loop
 add-i c = search needs
@@ -43,38 +58,46 @@ loop-less c = search needs
 
 loop-again : tie.Need-loop-again Inv-loop μ-loop
 loop-again c =
-    let start = c .before .before .before .before .before .before .before in
+    let turn = in-loop (c .before) in
+    let start = entry (turn .before) in
     let eight = start .good .0 .1 .0 .1 in
-    let written = c .before .before .before .before .before .loop .inv in
-    sets-more eight (start .pre) written (c .before .before .before .before .loop-test .taken) (c .before .before .put-two .ensures)
+    let written = turn .before .loop .inv in
+    sets-more eight (start .pre) written (turn .loop-test .taken) (c .before .before .put-two .ensures)
 
 put-two-requires-2 : tie.Need-put-two-requires-2 Inv-loop μ-loop
 put-two-requires-2 c κs =
-    let start = c .before .before .before .before in
+    let start = entry (c .before .before) in
     let eight = start .good .0 .1 .0 .1 in
     let written = c .before .before .loop .inv in
     (omega arith, omega (arith, view-length eight (start .pre) written, start .pre))
 
 put-two-requires-3 : tie.Need-put-two-requires-3 Inv-loop μ-loop
 put-two-requires-3 c κs =
-    let start = c .before .before .before .before .before .before .before .before in
+    let at-loop = c .before .before .before .before .before .before in
+    let start = at-loop .before .before in
     let eight = start .good .0 .1 .0 .1 in
-    let written = c .before .before .before .before .before .before .loop .inv in
-    (omega arith, rw (c .before .before .before .put-two2 .ensures) (simp length-set (omega (arith, view-length eight (start .pre) written, start .pre))))
+    let written = at-loop .loop .inv in (
+      omega arith,
+      rw (c .before .before .before .put-two2 .ensures)
+          (simp length-set (omega (arith, view-length eight (start .pre) written, start .pre))),
+    )
 
 same-length : tie.Need-same-length Inv-loop μ-loop
 same-length c =
-    let start = c .before .before .before .before .before .before .before .before .before .before .before in
+    let start = entry (after-loop c .before) in
     let eight = start .good .0 .1 .0 .1 in
-    let written = c .before .before .before .before .before .before .before .before .before .loop .inv in
-    ap length (c .before .before .put-two3 .ensures) ∙ simp length-set (ap length (c .before .before .before .before .before .before .put-two2 .ensures) ∙ simp length-set (view-length eight (start .pre) written))
+    let written = after-loop c .before .loop .inv in
+    ap length (c .before .before .put-two3 .ensures) ∙ simp length-set
+    (ap length (after-put-two2 c .put-two2 .ensures) ∙ simp length-set (view-length eight (start .pre) written))
 
 returns : tie.Need-returns Inv-loop μ-loop
 returns c =
-    let start = c .before .before .before .before .before .before .before .before .before .before .before in
+    let start = entry (after-loop c .before) in
     let eight = start .good .0 .1 .0 .1 in
-    let written = c .before .before .before .before .before .before .before .before .before .loop .inv in
-    c .before .before .put-two3 .ensures ∙ ap (λ (v : List ℕ). putTwo v 18 (start .args .crews)) (c .before .before .before .before .before .before .put-two2 .ensures) ∙ view-all eight (start .pre) written (c .before .before .before .before .before .before .before .before .loop-test .left) (start .args .crews)
+    let written = after-loop c .before .loop .inv in
+    c .before .before .put-two3 .ensures
+    ∙ ap (λ (v : List ℕ). putTwo v 18 (start .args .crews)) (after-put-two2 c .put-two2 .ensures)
+    ∙ view-all eight (start .pre) written (after-loop c .loop-test .left) (start .args .crews)
 
 pub write-view-spec : {M : Type 1} → statement M
 write-view-spec =
