@@ -10,6 +10,10 @@ use borrow.Author.Needs.{needs}
 use Rattle.sets.proofs.has_at.Statement.{statement}
 use Rattle.sets.proofs.has_at.Tie as tie
 
+-- The places that the answers name, each seen from a later one.
+abbrev start : tie.After-has → tie.Start
+start c = c .before .before .before .before .before
+
 byte-of-requires : tie.Need-byte-of-requires
 byte-of-requires c κs = search needs
 
@@ -30,7 +34,7 @@ has-requires c κs = search needs
 returns-2 : tie.Need-returns-2
 unfolding memberAt
 returns-2 c =
-    let args = c .before .before .before .before .before .args in
+    let args = start c .args in
     c .has .ensures ∙ ap (λ (i : ℕ). member (getD (args .s .now) i 0) (args .v % 8)) (c .before .before .before .byte-of .ensures)
 
 pub has-at-spec : {M : Type 1} → statement M

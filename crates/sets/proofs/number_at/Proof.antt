@@ -1,7 +1,7 @@
 -- `sets::number_at` meets its contract. The invariant: `number` is what the first `j` bytes write. The measure is the bytes left.
 -- Assumes nothing.
 use mathlib.Core.Path.{_≡_, refl, ap, _∙_}
-use Prim.Native.Nat.{_+_, _-_, _≤_}
+use Prim.Native.Nat.{_+_, _-_, _≤_, _<_, _^_}
 use native.Mathlib.Numerals.{add-one}
 use native.Mathlib.Omega.{arith}
 use Rattle.sets.specs.Sets.{numberAt}
@@ -29,11 +29,21 @@ shared-slice-read-byte c = search needs
 cast-byte : tie.Need-cast-byte Inv-loop μ-loop
 cast-byte c = omega (arith, c .shared-slice-known .given (c .before .before .before .args .at + c .before .before .loop .j))
 
+-- In the loop at most three bytes are read.
+front-small : (c : tie.After-shared-slice-known Inv-loop μ-loop)
+    → numberAt (c .before .before .before .args .s .now) (c .before .before .before .args .at) (c .before .before .loop .j) < 2 ^ 24
+front-small c =
+    let args = c .before .before .before .args in
+    number-front-lt (args .s .now) (λ i. omega (arith, c .shared-slice-known .given i)) (args .at) (c .before .before .loop .j) 3
+    (omega arith)
+
 mul-number : tie.Need-mul-number Inv-loop μ-loop
-mul-number c = omega (arith, number-front-lt (c .before .before .before .args .s .now) (λ i. omega (arith, c .shared-slice-known .given i)) (c .before .before .before .args .at) (c .before .before .loop .j) 3 (omega arith))
+mul-number c = omega (arith, front-small c)
 
 add-number : tie.Need-add-number Inv-loop μ-loop
-add-number c = omega (arith, number-front-lt (c .before .before .before .args .s .now) (λ i. omega (arith, c .shared-slice-known .given i)) (c .before .before .before .args .at) (c .before .before .loop .j) 3 (omega arith), c .shared-slice-known .given (c .before .before .before .args .at + c .before .before .loop .j))
+add-number c =
+    let args = c .before .before .before .args in
+    omega (arith, front-small c, c .shared-slice-known .given (args .at + c .before .before .loop .j))
 
 add-j : tie.Need-add-j Inv-loop μ-loop
 add-j c = search needs

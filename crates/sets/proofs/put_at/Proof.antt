@@ -10,6 +10,10 @@ use borrow.Author.Needs.{needs}
 use Rattle.sets.proofs.put_at.Statement.{statement}
 use Rattle.sets.proofs.put_at.Tie as tie
 
+-- The places that the answers name, each seen from a later one.
+abbrev start : tie.After-with → tie.Start
+start c = c .before .before .before .before .before
+
 byte-of-requires : tie.Need-byte-of-requires
 byte-of-requires c κs = search needs
 
@@ -29,9 +33,10 @@ with-requires c κs = search needs
 
 cast-s : tie.Need-cast-s
 cast-s c =
-    let args = c .before .before .before .before .before .args in
+    let args = start c .args in
     let i = c .before .before .before .byte-of .result in
-    let small : put (getD (args .s .now) i 0) (args .v % 8) (args .on) < 256 = put-lt (getD (args .s .now) i 0) (args .v % 8) 8 (args .on) (omega (arith, c .before .slice-known2 .given i)) (omega arith) in
+    let small : put (getD (args .s .now) i 0) (args .v % 8) (args .on) < 256 =
+    put-lt (getD (args .s .now) i 0) (args .v % 8) 8 (args .on) (omega (arith, c .before .slice-known2 .given i)) (omega arith) in
     omega (arith, c .with .ensures)
 
 slice-write-s : tie.Need-slice-write-s

@@ -20,7 +20,9 @@ add-result c =
     let start = c .before .before .before in
     let x = start .args .x in
     let v = start .args .v in
-    let small : x + 2 ^ v < 2 ^ 32 = rw (put-in-new x v (sym (c .before .before .has .ensures) ∙ c .if2 .left)) (put-lt x v 32 true (start .fits .x .fits) (start .pre)) in
+    let small : x + 2 ^ v < 2 ^ 32 =
+    rw (put-in-new x v (sym (c .before .before .has .ensures) ∙ c .if2 .left))
+    (put-lt x v 32 true (start .fits .x .fits) (start .pre)) in
     record { fits = rw (weight 32 v (start .pre)) small }
 
 sub-result : tie.Need-sub-result
