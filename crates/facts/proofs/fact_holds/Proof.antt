@@ -9,6 +9,10 @@ use borrow.Author.Needs.{needs}
 use Rattle.facts.proofs.fact_holds.Statement.{statement}
 use Rattle.facts.proofs.fact_holds.Tie as tie
 
+-- The places that the answers name, each seen from a later one.
+abbrev entry : tie.After-place-of → tie.Start
+entry c = c .before .before .before .before
+
 fact-fits-requires : tie.Need-fact-fits-requires
 fact-fits-requires c κs = search needs
 
@@ -23,7 +27,7 @@ place-of-requires c κs = search needs
 
 has-at-requires : tie.Need-has-at-requires
 has-at-requires c κs =
-    let f = c .before .before .before .before .args .f in
+    let f = entry c .args .f in
     let fit : fits f ≡ true = sym (c .before .before .fact-fits .ensures) ∙ not-false _ (c .before .if1 .left) in
     let room = place-fits f fit in
     let place = c .place-of .ensures in

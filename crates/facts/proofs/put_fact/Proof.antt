@@ -9,6 +9,10 @@ use borrow.Author.Needs.{needs}
 use Rattle.facts.proofs.put_fact.Statement.{statement}
 use Rattle.facts.proofs.put_fact.Tie as tie
 
+-- The places that the answers name, each seen from a later one.
+abbrev entry : tie.After-place-of → tie.Start
+entry c = c .before .before .before .before
+
 fact-fits-requires : tie.Need-fact-fits-requires
 fact-fits-requires c κs = search needs
 
@@ -23,7 +27,7 @@ place-of-requires c κs = search needs
 
 put-at-requires : tie.Need-put-at-requires
 put-at-requires c κs =
-    let f = c .before .before .before .before .before .args .f in
+    let f = entry (c .before) .args .f in
     let fit : fits f ≡ true = sym (c .before .before .before .fact-fits .ensures) ∙ not-false _ (c .before .before .if1 .left) in
     let room = place-fits f fit in
     let place = c .before .place-of .ensures in
@@ -35,11 +39,13 @@ same-length c = search needs
 returns-2 : tie.Need-returns-2
 returns-2 c =
     let at-put = c .before .before in
-    let start = at-put .before .before .before .before .before .before in
+    let fitting = at-put .before .before .before in
+    let start = fitting .before .before .before in
     let f = start .args .f in
-    let fit : fits f ≡ true = sym (at-put .before .before .before .before .fact-fits .ensures) ∙ not-false _ (at-put .before .before .before .if1 .left) in
+    let fit : fits f ≡ true = sym (fitting .before .fact-fits .ensures) ∙ not-false _ (fitting .if1 .left) in
     let place = at-put .before .before .place-of .ensures in
-    at-put .put-at .ensures ∙ rw (place .0, place .1 .0, place .1 .1) (sym (put-place (start .args .ledger .now) f (start .args .on) fit))
+    at-put .put-at .ensures
+    ∙ rw (place .0, place .1 .0, place .1 .1) (sym (put-place (start .args .ledger .now) f (start .args .on) fit))
 
 pub put-fact-spec : {M : Type 1} → statement M
 put-fact-spec =
