@@ -46,7 +46,12 @@ loop-less : tie.Need-loop-less Inv-loop μ-loop
 loop-less c = search needs
 
 loop-again : tie.Need-loop-again Inv-loop μ-loop
-loop-again c = (omega arith, all-more (risesAt (c .before .before .before .before .before .args .x .now)) (c .before .before .before .loop .j) _ _ (c .before .before .before .loop .inv .1) (rw (c .before .byte-at .ensures, c .byte-at2 .ensures)))
+loop-again c =
+    let at-start = c .before .before .before .before .before in (
+      omega arith,
+      all-more (risesAt (at-start .args .x .now)) (c .before .before .before .loop .j) _ _
+          (c .before .before .before .loop .inv .1) (rw (c .before .byte-at .ensures, c .byte-at2 .ensures)),
+    )
 
 returns : tie.Need-returns Inv-loop μ-loop
 returns c = c .before .loop .inv .1 ∙ ap (allBelow _) (omega arith)

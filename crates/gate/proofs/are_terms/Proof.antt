@@ -15,6 +15,10 @@ Inv-loop z x n m good₀ j₀ good j = (j ≤ m) × (good ≡ allBelow (termGood
 abbrev μ-loop : tie.MeasureT-loop
 μ-loop z x n m good₀ j₀ good j = m - j
 
+-- The places that the answers name, each seen from a later one.
+abbrev start : tie.After-is-term-at Inv-loop μ-loop → tie.Start Inv-loop μ-loop
+start c = c .before .before .before .before
+
 loop-holds : tie.Need-loop-holds Inv-loop μ-loop
 loop-holds c = (omega arith, all-none _)
 
@@ -28,7 +32,11 @@ loop-less : tie.Need-loop-less Inv-loop μ-loop
 loop-less c = search needs
 
 loop-again : tie.Need-loop-again Inv-loop μ-loop
-loop-again c = (omega arith, all-more (termGoodAt (c .before .before .before .before .args .z) (c .before .before .before .before .args .x .now)) (c .before .before .loop .j) _ _ (c .before .before .loop .inv .1) (c .is-term-at .ensures))
+loop-again c = (
+  omega arith,
+  all-more (termGoodAt (start c .args .z) (start c .args .x .now)) (c .before .before .loop .j) _ _
+      (c .before .before .loop .inv .1) (c .is-term-at .ensures),
+)
 
 returns : tie.Need-returns Inv-loop μ-loop
 returns c = c .before .loop .inv .1 ∙ ap (allBelow _) (omega arith)

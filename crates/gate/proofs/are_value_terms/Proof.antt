@@ -1,4 +1,5 @@
--- `gate::are_value_terms` meets its contract: the invariant says that `good` is the test of the terms below j; the measure is what is left of n. Assumes nothing.
+-- `gate::are_value_terms` meets its contract: the invariant says that `good` is the test of the terms below j; the measure is what is left of n.
+-- Assumes nothing.
 use mathlib.Core.Path.{_≡_, ap, _∙_}
 use Prim.Native.Nat.{ℕ, _≤_, _-_}
 use lib.Dec.{leb}
@@ -15,6 +16,10 @@ Inv-loop x n m good₀ j₀ good j = (j ≤ m) × (good ≡ allBelow (valueTermA
 
 abbrev μ-loop : tie.MeasureT-loop
 μ-loop x n m good₀ j₀ good j = m - j
+
+-- The places that the answers name, each seen from a later one.
+abbrev start : tie.After-byte-at Inv-loop μ-loop → tie.Start Inv-loop μ-loop
+start c = c .before .before .before .before
 
 loop-holds : tie.Need-loop-holds Inv-loop μ-loop
 loop-holds c = (omega arith, all-none _)
@@ -35,7 +40,11 @@ loop-less : tie.Need-loop-less Inv-loop μ-loop
 loop-less c = search needs
 
 loop-again : tie.Need-loop-again Inv-loop μ-loop
-loop-again c = (omega arith, all-more (valueTermAt (c .before .before .before .before .args .x .now)) (c .before .before .loop .j) _ _ (c .before .before .loop .inv .1) (ap (λ (b : ℕ). leb b 2) (c .byte-at .ensures)))
+loop-again c = (
+  omega arith,
+  all-more (valueTermAt (start c .args .x .now)) (c .before .before .loop .j) _ _
+      (c .before .before .loop .inv .1) (ap (λ (b : ℕ). leb b 2) (c .byte-at .ensures)),
+)
 
 returns : tie.Need-returns Inv-loop μ-loop
 returns c = c .before .loop .inv .1 ∙ ap (allBelow _) (omega arith)

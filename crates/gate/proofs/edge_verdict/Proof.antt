@@ -17,15 +17,34 @@ are-crews-requires c κs = search needs
 
 returns : tie.Need-returns
 unfolding edgeVerdict
-returns c = rw (← c .before .before .before .byte-at .ensures, ← c .before .before .byte-at2 .ensures, sym (c .before .are-crews .ensures) ∙ not-true _ (c .if1 .taken))
+returns c =
+    rw (
+      ← c .before .before .before .byte-at .ensures,
+      ← c .before .before .byte-at2 .ensures,
+      sym (c .before .are-crews .ensures) ∙ not-true _ (c .if1 .taken),
+    )
 
 returns-2 : tie.Need-returns-2
 unfolding edgeVerdict
-returns-2 c = rw (← c .before .before .before .before .byte-at .ensures, ← c .before .before .before .byte-at2 .ensures, sym (c .before .before .are-crews .ensures) ∙ not-false _ (c .before .if1 .left), lt-ltb _ _ (c .if2 .taken))
+returns-2 c =
+    let at-byte-at = c .before .before .before .before in
+    rw (
+      ← at-byte-at .byte-at .ensures,
+      ← c .before .before .before .byte-at2 .ensures,
+      sym (c .before .before .are-crews .ensures) ∙ not-false _ (c .before .if1 .left),
+      lt-ltb _ _ (c .if2 .taken),
+    )
 
 returns-3 : tie.Need-returns-3
 unfolding edgeVerdict
-returns-3 c = rw (← c .before .before .before .before .byte-at .ensures, ← c .before .before .before .byte-at2 .ensures, sym (c .before .before .are-crews .ensures) ∙ not-false _ (c .before .if1 .left), le-ltb _ _ (c .if2 .left))
+returns-3 c =
+    let at-byte-at = c .before .before .before .before in
+    rw (
+      ← at-byte-at .byte-at .ensures,
+      ← c .before .before .before .byte-at2 .ensures,
+      sym (c .before .before .are-crews .ensures) ∙ not-false _ (c .before .if1 .left),
+      le-ltb _ _ (c .if2 .left),
+    )
 
 pub edge-verdict-spec : {M : Type 1} → statement M
 edge-verdict-spec =

@@ -24,7 +24,16 @@ is-between-requires c κs = search needs
 
 returns : tie.Need-returns
 unfolding queryGood
-returns c = rw (c .before .is-between .ensures, c .before .before .before .before .are-listed-crews .ensures, c .before .before .before .before .before .are-wants .ensures, c .before .before .before .before .before .before .byte-at .ensures, c .before .before .before .byte-at2 .ensures, c .before .before .byte-at3 .ensures)
+returns c =
+    let at-are-listed-crews = c .before .before .before .before in
+    rw (
+      c .before .is-between .ensures,
+      at-are-listed-crews .are-listed-crews .ensures,
+      at-are-listed-crews .before .are-wants .ensures,
+      at-are-listed-crews .before .before .byte-at .ensures,
+      c .before .before .before .byte-at2 .ensures,
+      c .before .before .byte-at3 .ensures,
+    )
 
 pub is-query-spec : {M : Type 1} → statement M
 is-query-spec =

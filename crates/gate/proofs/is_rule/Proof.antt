@@ -27,7 +27,17 @@ is-head-requires c κs = search needs
 
 returns : tie.Need-returns
 unfolding ruleGood
-returns c = rw (c .is-head .ensures, c .before .before .before .before .before .are-terms .ensures, c .before .before .before .before .before .before .byte-at .ensures, c .before .before .before .before .byte-at2 .ensures, c .before .before .before .byte-at3 .ensures, c .before .before .byte-at4 .ensures, c .before .byte-at5 .ensures)
+returns c =
+    let at-byte-at2 = c .before .before .before .before in
+    rw (
+      c .is-head .ensures,
+      at-byte-at2 .before .are-terms .ensures,
+      at-byte-at2 .before .before .byte-at .ensures,
+      at-byte-at2 .byte-at2 .ensures,
+      c .before .before .before .byte-at3 .ensures,
+      c .before .before .byte-at4 .ensures,
+      c .before .byte-at5 .ensures,
+    )
 
 pub is-rule-spec : {M : Type 1} → statement M
 is-rule-spec =

@@ -16,7 +16,13 @@ is-crew-field-requires : tie.Need-is-crew-field-requires
 is-crew-field-requires c κs = search needs
 
 returns : tie.Need-returns
-returns c = rw (c .before .before .before .is-between .ensures, c .before .before .is-between2 .ensures, c .before .is-value .ensures, c .is-crew-field .ensures)
+returns c =
+    rw (
+      c .before .before .before .is-between .ensures,
+      c .before .before .is-between2 .ensures,
+      c .before .is-value .ensures,
+      c .is-crew-field .ensures,
+    )
 
 pub is-term-spec : {M : Type 1} → statement M
 is-term-spec =

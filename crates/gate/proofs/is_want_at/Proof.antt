@@ -28,7 +28,14 @@ is-within-requires : tie.Need-is-within-requires
 is-within-requires c κs = search needs
 
 returns : tie.Need-returns
-returns c = rw (c .before .is-within .ensures, c .before .before .values-of .ensures, c .before .before .before .pair-at .ensures, c .before .before .before .before .byte-at .ensures)
+returns c =
+    let at-byte-at = c .before .before .before .before in
+    rw (
+      c .before .is-within .ensures,
+      c .before .before .values-of .ensures,
+      c .before .before .before .pair-at .ensures,
+      at-byte-at .byte-at .ensures,
+    )
 
 pub is-want-at-spec : {M : Type 1} → statement M
 is-want-at-spec =

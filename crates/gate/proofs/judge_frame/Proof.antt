@@ -20,14 +20,26 @@ is-mislengthed-requires c κs = search needs
 
 returns-2 : tie.Need-returns-2
 unfolding verdict
-returns-2 c = rw (← c .before .before .before .before .byte-at .ensures, sym (c .before .before .before .is-misplaced .ensures) ∙ c .before .before .if1 .left, sym (c .before .is-mislengthed .ensures) ∙ c .if2 .taken)
+returns-2 c =
+    let at-byte-at = c .before .before .before .before in
+    rw (
+      ← at-byte-at .byte-at .ensures,
+      sym (c .before .before .before .is-misplaced .ensures) ∙ c .before .before .if1 .left,
+      sym (c .before .is-mislengthed .ensures) ∙ c .if2 .taken,
+    )
 
 fields-verdict-requires : tie.Need-fields-verdict-requires
 fields-verdict-requires c κs = search needs
 
 returns-3 : tie.Need-returns-3
 unfolding verdict
-returns-3 c = rw (← c .before .before .before .before .before .byte-at .ensures, sym (c .before .before .before .before .is-misplaced .ensures) ∙ c .before .before .before .if1 .left, sym (c .before .before .is-mislengthed .ensures) ∙ c .before .if2 .left) (c .fields-verdict .ensures)
+returns-3 c =
+    let at-is-misplaced = c .before .before .before .before in
+    rw (
+      ← at-is-misplaced .before .byte-at .ensures,
+      sym (at-is-misplaced .is-misplaced .ensures) ∙ c .before .before .before .if1 .left,
+      sym (c .before .before .is-mislengthed .ensures) ∙ c .before .if2 .left,
+    ) (c .fields-verdict .ensures)
 
 pub judge-frame-spec : {M : Type 1} → statement M
 judge-frame-spec =

@@ -5,6 +5,10 @@ use borrow.Author.Needs.{needs}
 use Rattle.gate.proofs.length_of.Statement.{statement}
 use Rattle.gate.proofs.length_of.Tie as tie
 
+-- The places that the answers name, each seen from a later one.
+abbrev not-sizes : tie.Else4 → tie.Else1
+not-sizes c = c .before .before .before
+
 returns : tie.Need-returns
 unfolding lengthOf
 returns c = simp (eq-eqb _ _ (c .if1 .taken))
@@ -25,7 +29,13 @@ returns-3 c = simp (ne-eqb _ _ (c .before .before .if1 .left), ne-eqb _ _ (c .be
 
 returns-4 : tie.Need-returns-4
 unfolding lengthOf
-returns-4 c = simp (ne-eqb _ _ (c .before .before .before .if1 .left), ne-eqb _ _ (c .before .before .if2 .left), ne-eqb _ _ (c .before .if3 .left), eq-eqb _ _ (c .if4 .taken))
+returns-4 c =
+    simp (
+      ne-eqb _ _ (c .before .before .before .if1 .left),
+      ne-eqb _ _ (c .before .before .if2 .left),
+      ne-eqb _ _ (c .before .if3 .left),
+      eq-eqb _ _ (c .if4 .taken),
+    )
 
 mul-result-2 : tie.Need-mul-result-2
 mul-result-2 c = search needs
@@ -38,7 +48,14 @@ add-result-3 c = search needs
 
 returns-5 : tie.Need-returns-5
 unfolding lengthOf
-returns-5 c = simp (ne-eqb _ _ (c .before .before .before .before .if1 .left), ne-eqb _ _ (c .before .before .before .if2 .left), ne-eqb _ _ (c .before .before .if3 .left), ne-eqb _ _ (c .before .if4 .left), eq-eqb _ _ (c .if5 .taken))
+returns-5 c =
+    simp (
+      ne-eqb _ _ (not-sizes (c .before) .if1 .left),
+      ne-eqb _ _ (c .before .before .before .if2 .left),
+      ne-eqb _ _ (c .before .before .if3 .left),
+      ne-eqb _ _ (c .before .if4 .left),
+      eq-eqb _ _ (c .if5 .taken),
+    )
 
 mul-result-3 : tie.Need-mul-result-3
 mul-result-3 c = search needs
@@ -51,7 +68,14 @@ add-result-5 c = search needs
 
 returns-6 : tie.Need-returns-6
 unfolding lengthOf
-returns-6 c = simp (ne-eqb _ _ (c .before .before .before .before .if1 .left), ne-eqb _ _ (c .before .before .before .if2 .left), ne-eqb _ _ (c .before .before .if3 .left), ne-eqb _ _ (c .before .if4 .left), ne-eqb _ _ (c .if5 .left))
+returns-6 c =
+    simp (
+      ne-eqb _ _ (not-sizes (c .before) .if1 .left),
+      ne-eqb _ _ (c .before .before .before .if2 .left),
+      ne-eqb _ _ (c .before .before .if3 .left),
+      ne-eqb _ _ (c .before .if4 .left),
+      ne-eqb _ _ (c .if5 .left),
+    )
 
 pub length-of-spec : {M : Type 1} → statement M
 length-of-spec =

@@ -21,11 +21,23 @@ are-rising-requires c κs = search needs
 
 returns-2 : tie.Need-returns-2
 unfolding queryVerdict
-returns-2 c = rw (sym (c .before .before .before .before .is-query .ensures) ∙ not-false _ (c .before .before .before .if1 .left), ← c .before .before .byte-at .ensures, sym (c .before .are-rising .ensures) ∙ not-true _ (c .if2 .taken))
+returns-2 c =
+    let at-is-query = c .before .before .before .before in
+    rw (
+      sym (at-is-query .is-query .ensures) ∙ not-false _ (c .before .before .before .if1 .left),
+      ← c .before .before .byte-at .ensures,
+      sym (c .before .are-rising .ensures) ∙ not-true _ (c .if2 .taken),
+    )
 
 returns-3 : tie.Need-returns-3
 unfolding queryVerdict
-returns-3 c = rw (sym (c .before .before .before .before .is-query .ensures) ∙ not-false _ (c .before .before .before .if1 .left), ← c .before .before .byte-at .ensures, sym (c .before .are-rising .ensures) ∙ not-false _ (c .if2 .left))
+returns-3 c =
+    let at-is-query = c .before .before .before .before in
+    rw (
+      sym (at-is-query .is-query .ensures) ∙ not-false _ (c .before .before .before .if1 .left),
+      ← c .before .before .byte-at .ensures,
+      sym (c .before .are-rising .ensures) ∙ not-false _ (c .if2 .left),
+    )
 
 pub query-verdict-spec : {M : Type 1} → statement M
 query-verdict-spec =

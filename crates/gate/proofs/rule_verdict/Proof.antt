@@ -18,15 +18,31 @@ is-foreign-requires c κs = search needs
 
 returns-2 : tie.Need-returns-2
 unfolding ruleVerdict
-returns-2 c = rw (sym (c .before .before .before .is-rule .ensures) ∙ not-false _ (c .before .before .if1 .left), sym (c .before .is-foreign .ensures) ∙ c .if2 .taken)
+returns-2 c =
+    rw (
+      sym (c .before .before .before .is-rule .ensures) ∙ not-false _ (c .before .before .if1 .left),
+      sym (c .before .is-foreign .ensures) ∙ c .if2 .taken,
+    )
 
 returns-3 : tie.Need-returns-3
 unfolding ruleVerdict
-returns-3 c = rw (sym (c .before .before .before .before .before .is-rule .ensures) ∙ not-false _ (c .before .before .before .before .if1 .left), sym (c .before .before .before .is-foreign .ensures) ∙ c .before .before .if2 .left, le-leb _ _ (c .if3 .taken))
+returns-3 c =
+    let rule-good = c .before .before .before .before in
+    rw (
+      sym (rule-good .before .is-rule .ensures) ∙ not-false _ (rule-good .if1 .left),
+      sym (c .before .before .before .is-foreign .ensures) ∙ c .before .before .if2 .left,
+      le-leb _ _ (c .if3 .taken),
+    )
 
 returns-4 : tie.Need-returns-4
 unfolding ruleVerdict
-returns-4 c = rw (sym (c .before .before .before .before .before .is-rule .ensures) ∙ not-false _ (c .before .before .before .before .if1 .left), sym (c .before .before .before .is-foreign .ensures) ∙ c .before .before .if2 .left, lt-leb _ _ (c .if3 .left))
+returns-4 c =
+    let rule-good = c .before .before .before .before in
+    rw (
+      sym (rule-good .before .is-rule .ensures) ∙ not-false _ (rule-good .if1 .left),
+      sym (c .before .before .before .is-foreign .ensures) ∙ c .before .before .if2 .left,
+      lt-leb _ _ (c .if3 .left),
+    )
 
 pub rule-verdict-spec : {M : Type 1} → statement M
 rule-verdict-spec =
