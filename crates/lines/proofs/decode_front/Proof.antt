@@ -15,8 +15,8 @@ abbrev μ-loop : tie.MeasureT-loop
 μ-loop x digits frame₀ most k₀ frame k = most - k
 
 -- The places of a turn before the second look-up: the start, the most, the loop, its test, the first look-up.
-abbrev started : tie.After-wide2 Inv-loop μ-loop → tie.Start Inv-loop μ-loop
-started w = w .before .before .before .before .before .before .before .before .before .before .before
+abbrev start : tie.After-wide Inv-loop μ-loop → tie.Start Inv-loop μ-loop
+start f = f .before .before .before .before .before .before .before .before
 
 abbrev bounded : tie.After-wide2 Inv-loop μ-loop → tie.After-least Inv-loop μ-loop
 bounded w = w .before .before .before .before .before .before .before
@@ -30,8 +30,8 @@ tested w = w .before .before .before .before .before
 abbrev first : tie.After-wide2 Inv-loop μ-loop → tie.After-wide Inv-loop μ-loop
 first w = w .before .before .before
 
-abbrev started-from-wide : tie.After-wide Inv-loop μ-loop → tie.Start Inv-loop μ-loop
-started-from-wide c = c .before .before .before .before .before .before .before .before
+abbrev started : tie.After-wide2 Inv-loop μ-loop → tie.Start Inv-loop μ-loop
+started w = start (first w)
 
 least-requires : tie.Need-least-requires Inv-loop μ-loop
 least-requires c κs = search needs
@@ -49,7 +49,7 @@ wide-requires : tie.Need-wide-requires Inv-loop μ-loop
 wide-requires c κs = search needs
 
 shared-slice-read-high : tie.Need-shared-slice-read-high Inv-loop μ-loop
-shared-slice-read-high c = omega (arith, c .before .wide .ensures .1, started-from-wide (c .before) .pre .0 .size)
+shared-slice-read-high c = omega (arith, c .before .wide .ensures .1, start (c .before) .pre .0 .size)
 
 mul-wide-2 : tie.Need-mul-wide-2 Inv-loop μ-loop
 mul-wide-2 c = omega arith

@@ -68,9 +68,31 @@ returns-16 : tie.Need-returns-16
 unfolding digit
 returns-16 c = rw (c .match .keys16)
 
+-- Behind the arms of 0 to 9 and A to F the byte is none of the sixteen.
 returns-17 : tie.Need-returns-17
 unfolding digit
-returns-17 c = simp (ne-eqb _ _ (c .match .rest .0 .0 .0 .0 .0 .0 .0 .0 .0 .0 .0 .0 .0 .0 .0 .1), ne-eqb _ _ (c .match .rest .0 .0 .0 .0 .0 .0 .0 .0 .0 .0 .0 .0 .0 .0 .1), ne-eqb _ _ (c .match .rest .0 .0 .0 .0 .0 .0 .0 .0 .0 .0 .0 .0 .0 .1), ne-eqb _ _ (c .match .rest .0 .0 .0 .0 .0 .0 .0 .0 .0 .0 .0 .0 .1), ne-eqb _ _ (c .match .rest .0 .0 .0 .0 .0 .0 .0 .0 .0 .0 .0 .1), ne-eqb _ _ (c .match .rest .0 .0 .0 .0 .0 .0 .0 .0 .0 .0 .1), ne-eqb _ _ (c .match .rest .0 .0 .0 .0 .0 .0 .0 .0 .0 .1), ne-eqb _ _ (c .match .rest .0 .0 .0 .0 .0 .0 .0 .0 .1), ne-eqb _ _ (c .match .rest .0 .0 .0 .0 .0 .0 .0 .1), ne-eqb _ _ (c .match .rest .0 .0 .0 .0 .0 .0 .1), ne-eqb _ _ (c .match .rest .0 .0 .0 .0 .0 .1), ne-eqb _ _ (c .match .rest .0 .0 .0 .0 .1), ne-eqb _ _ (c .match .rest .0 .0 .0 .1), ne-eqb _ _ (c .match .rest .0 .0 .1), ne-eqb _ _ (c .match .rest .0 .1), ne-eqb _ _ (c .match .rest .1))
+returns-17 c =
+    let to-F = c .match .rest in
+    let to-9 = to-F .0 .0 .0 .0 .0 .0 in
+    let to-4 = to-9 .0 .0 .0 .0 .0 in
+    simp (
+      ne-eqb _ _ (to-4 .0 .0 .0 .0 .1),
+      ne-eqb _ _ (to-4 .0 .0 .0 .1),
+      ne-eqb _ _ (to-4 .0 .0 .1),
+      ne-eqb _ _ (to-4 .0 .1),
+      ne-eqb _ _ (to-4 .1),
+      ne-eqb _ _ (to-9 .0 .0 .0 .0 .1),
+      ne-eqb _ _ (to-9 .0 .0 .0 .1),
+      ne-eqb _ _ (to-9 .0 .0 .1),
+      ne-eqb _ _ (to-9 .0 .1),
+      ne-eqb _ _ (to-9 .1),
+      ne-eqb _ _ (to-F .0 .0 .0 .0 .0 .1),
+      ne-eqb _ _ (to-F .0 .0 .0 .0 .1),
+      ne-eqb _ _ (to-F .0 .0 .0 .1),
+      ne-eqb _ _ (to-F .0 .0 .1),
+      ne-eqb _ _ (to-F .0 .1),
+      ne-eqb _ _ (to-F .1),
+    )
 
 pub digit-of-spec : {M : Type 1} → statement M
 digit-of-spec =
