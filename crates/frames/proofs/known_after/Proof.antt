@@ -22,22 +22,42 @@ byte-at-requires-5 c κs = search needs
 
 returns : tie.Need-returns
 unfolding knownAfter
-returns c = rw (← c .before .before .before .before .before .byte-at .ensures, ← c .before .before .before .byte-at2 .ensures, ← c .before .before .byte-at3 .ensures, ← c .before .byte-at4 .ensures, ← c .byte-at5 .ensures, c .before .before .before .before .if1 .taken)
+returns c =
+    let is-sizes = c .before .before .before .before in
+    rw (
+      ← is-sizes .before .byte-at .ensures,
+      ← c .before .before .before .byte-at2 .ensures,
+      ← c .before .before .byte-at3 .ensures,
+      ← c .before .byte-at4 .ensures,
+      ← c .byte-at5 .ensures,
+      is-sizes .if1 .taken,
+    )
 
 add-t11 : tie.Need-add-t11
 add-t11 c = search needs
 
 returns-2 : tie.Need-returns-2
 unfolding knownAfter
-returns-2 c = rw (← c .before .before .before .before .byte-at .ensures, c .before .if2 .taken)
+returns-2 c =
+    let at-byte-at = c .before .before .before .before in
+    rw (← at-byte-at .byte-at .ensures, c .before .if2 .taken)
 
 returns-3 : tie.Need-returns-3
 unfolding knownAfter
-returns-3 c = rw (← c .before .before .before .before .byte-at .ensures, c .if3 .taken)
+returns-3 c =
+    let at-byte-at = c .before .before .before .before in
+    rw (← at-byte-at .byte-at .ensures, c .if3 .taken)
 
 returns-4 : tie.Need-returns-4
 unfolding knownAfter
-returns-4 c = rw (← c .before .before .before .before .byte-at .ensures, ne-eqb _ _ (c .before .before .before .if1 .left), ne-eqb _ _ (c .before .if2 .left), ne-eqb _ _ (c .if3 .left))
+returns-4 c =
+    let at-byte-at = c .before .before .before .before in
+    rw (
+      ← at-byte-at .byte-at .ensures,
+      ne-eqb _ _ (c .before .before .before .if1 .left),
+      ne-eqb _ _ (c .before .if2 .left),
+      ne-eqb _ _ (c .if3 .left),
+    )
 
 pub known-after-spec : {M : Type 1} → statement M
 known-after-spec =

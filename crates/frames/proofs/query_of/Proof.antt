@@ -33,7 +33,16 @@ wants-of-requires c κs = search needs
 
 returns : tie.Need-returns
 unfolding queryOf
-returns c = rw (c .before .quad-at .ensures, c .before .before .before .before .before .byte-at .ensures, c .before .before .before .before .byte-at2 .ensures, c .before .before .before .byte-at3 .ensures, c .before .before .pair-at .ensures, c .wants-of .ensures)
+returns c =
+    let at-byte-at2 = c .before .before .before .before in
+    rw (
+      c .before .quad-at .ensures,
+      at-byte-at2 .before .byte-at .ensures,
+      at-byte-at2 .byte-at2 .ensures,
+      c .before .before .before .byte-at3 .ensures,
+      c .before .before .pair-at .ensures,
+      c .wants-of .ensures,
+    )
 
 pub query-of-spec : {M : Type 1} → statement M
 query-of-spec =

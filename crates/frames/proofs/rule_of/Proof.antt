@@ -24,7 +24,16 @@ terms-of-requires c κs = search needs
 
 returns : tie.Need-returns
 unfolding ruleOf
-returns c = rw (c .before .before .before .before .before .byte-at .ensures, c .before .before .before .before .byte-at2 .ensures, c .before .before .before .byte-at3 .ensures, c .before .before .byte-at4 .ensures, c .before .byte-at5 .ensures, c .terms-of .ensures)
+returns c =
+    let at-byte-at2 = c .before .before .before .before in
+    rw (
+      at-byte-at2 .before .byte-at .ensures,
+      at-byte-at2 .byte-at2 .ensures,
+      c .before .before .before .byte-at3 .ensures,
+      c .before .before .byte-at4 .ensures,
+      c .before .byte-at5 .ensures,
+      c .terms-of .ensures,
+    )
 
 pub rule-of-spec : {M : Type 1} → statement M
 rule-of-spec =

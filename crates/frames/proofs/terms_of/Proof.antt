@@ -30,7 +30,18 @@ term-at-requires-8 c κs = search needs
 
 returns : tie.Need-returns
 unfolding termsOf
-returns c = rw (c .before .before .before .before .before .before .before .term-at .ensures, c .before .before .before .before .before .before .term-at2 .ensures, c .before .before .before .before .before .term-at3 .ensures, c .before .before .before .before .term-at4 .ensures, c .before .before .before .term-at5 .ensures, c .before .before .term-at6 .ensures, c .before .term-at7 .ensures, c .term-at8 .ensures)
+returns c =
+    let at-term-at4 = c .before .before .before .before in
+    rw (
+      at-term-at4 .before .before .before .term-at .ensures,
+      at-term-at4 .before .before .term-at2 .ensures,
+      at-term-at4 .before .term-at3 .ensures,
+      at-term-at4 .term-at4 .ensures,
+      c .before .before .before .term-at5 .ensures,
+      c .before .before .term-at6 .ensures,
+      c .before .term-at7 .ensures,
+      c .term-at8 .ensures,
+    )
 
 pub terms-of-spec : {M : Type 1} → statement M
 terms-of-spec =

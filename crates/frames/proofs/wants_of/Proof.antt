@@ -30,7 +30,18 @@ want-at-requires-8 c κs = search needs
 
 returns : tie.Need-returns
 unfolding wantsOf
-returns c = rw (c .before .before .before .before .before .before .before .want-at .ensures, c .before .before .before .before .before .before .want-at2 .ensures, c .before .before .before .before .before .want-at3 .ensures, c .before .before .before .before .want-at4 .ensures, c .before .before .before .want-at5 .ensures, c .before .before .want-at6 .ensures, c .before .want-at7 .ensures, c .want-at8 .ensures)
+returns c =
+    let at-want-at4 = c .before .before .before .before in
+    rw (
+      at-want-at4 .before .before .before .want-at .ensures,
+      at-want-at4 .before .before .want-at2 .ensures,
+      at-want-at4 .before .want-at3 .ensures,
+      at-want-at4 .want-at4 .ensures,
+      c .before .before .before .want-at5 .ensures,
+      c .before .before .want-at6 .ensures,
+      c .before .want-at7 .ensures,
+      c .want-at8 .ensures,
+    )
 
 pub wants-of-spec : {M : Type 1} → statement M
 wants-of-spec =
