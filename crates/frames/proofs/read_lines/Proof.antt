@@ -3,7 +3,7 @@
 use mathlib.Core.Path.{_≡_, refl, sym, ap, _∙_}
 use borrow.Author.Tests.{not-true, not-false}
 use borrow.Author.Needs.{needs}
-use Prim.Native.Nat.{_-_}
+use Prim.Native.Nat.{_-_, _<_}
 use native.Mathlib.Omega.{arith}
 use lib.ListN.{length, set}
 use lib.Seq.{length-take-le}
@@ -48,12 +48,25 @@ good-at b = b .before .before
 abbrev kind-at : tie.Else3 Inv-loop μ-loop → tie.After-byte-at Inv-loop μ-loop
 kind-at c = c .before .before
 
+abbrev frame-of : tie.After-byte-at Inv-loop μ-loop → tie.After-decoded2 Inv-loop μ-loop
+frame-of b = framed-at (judged-at b)
+
+abbrev turn-of : tie.After-byte-at Inv-loop μ-loop → tie.At-loop Inv-loop μ-loop
+turn-of b = at-loop (read-at (frame-of b))
+
 -- The loop and the start, before a line is read.
 abbrev loop-before : tie.After-frame Inv-loop μ-loop → tie.At-loop Inv-loop μ-loop
 loop-before c = c .before .before .before .before
 
 abbrev start-before : tie.After-fill-digits Inv-loop μ-loop → tie.Start Inv-loop μ-loop
 start-before c = c .before .before .before .before .before
+
+-- Behind a line that has a frame less of the book is left.
+line-behind : (d : tie.After-decoded2 Inv-loop μ-loop) → let book = start-before (at-loop (read-at d) .before .before) .args .book .now in
+    length book - read-at d .read-frame .result .next .at < length book - at-loop (read-at d) .loop .cursor .at
+line-behind d =
+    let r = read-at d in
+    line-less (at-loop r .loop .inv .0) (r .read-frame .ensures) (d .decoded2 .given .1) (tested-at r .if1 .taken)
 
 no-query-requires : tie.Need-no-query-requires Inv-loop μ-loop
 no-query-requires c κs = search needs
@@ -177,23 +190,20 @@ byte-at-requires c κs = search needs
 enter-edge-requires : tie.Need-enter-edge-requires Inv-loop μ-loop
 enter-edge-requires c κs =
     let b = c .before .before in
-    let at = at-loop (read-at (framed-at (judged-at b))) .loop in
+    let at = turn-of b .loop in
     let good = sym (judged-at b .judge-frame .ensures) ∙ good-at b .enum-told2 .given .1 in
     let kind = sym (b .byte-at .ensures) ∙ c .before .if2 .taken in
     ((kind, edge-small (at .known) _ good (at .inv .0 .crewed) kind), at .inv .0 .edged)
 
 loop-less : tie.Need-loop-less Inv-loop μ-loop
-loop-less c =
-    let d = framed-at (judged-at (c .before .before .before)) in
-    let r = read-at d in
-    line-less (at-loop r .loop .inv .0) (r .read-frame .ensures) (d .decoded2 .given .1) (tested-at r .if1 .taken)
+loop-less c = line-behind (frame-of (c .before .before .before))
 
 loop-again : tie.Need-loop-again Inv-loop μ-loop
 loop-again c =
     let b = c .before .before .before in
-    let d = framed-at (judged-at b) in
+    let d = frame-of b in
     let read = read-at d .read-frame .ensures in
-    let at = at-loop (read-at d) .loop in
+    let at = turn-of b .loop in
     let good = sym (judged-at b .judge-frame .ensures) ∙ good-at b .enum-told2 .given .1 in
     let kind = b .byte-at .ensures in
     let turn = edge-good (at .inv .0) (line-framed (at .inv .0) read (d .decoded2 .given .1)) good in
@@ -205,17 +215,15 @@ enter-fact-requires c κs = let b = c .before .before .before in sym (b .byte-at
 loop-less-2 : tie.Need-loop-less-2 Inv-loop μ-loop
 loop-less-2 c =
     let other = c .before .before .before in
-    let d = framed-at (judged-at (other .before)) in
-    let r = read-at d in
-    line-less (at-loop r .loop .inv .0) (r .read-frame .ensures) (d .decoded2 .given .1) (tested-at r .if1 .taken)
+    line-behind (frame-of (other .before))
 
 loop-again-2 : tie.Need-loop-again-2 Inv-loop μ-loop
 loop-again-2 c =
     let other = c .before .before .before in
     let b = other .before in
-    let d = framed-at (judged-at b) in
+    let d = frame-of b in
     let read = read-at d .read-frame .ensures in
-    let at = at-loop (read-at d) .loop in
+    let at = turn-of b .loop in
     let good = sym (judged-at b .judge-frame .ensures) ∙ good-at b .enum-told2 .given .1 in
     let kind = b .byte-at .ensures in
     let turn = fact-good (at .inv .0) (line-framed (at .inv .0) read (d .decoded2 .given .1)) good in
@@ -228,31 +236,28 @@ mul-rules : tie.Need-mul-rules Inv-loop μ-loop
 mul-rules c =
     let b = kind-at (c .before .before) in
     let good = sym (judged-at b .judge-frame .ensures) ∙ good-at b .enum-told2 .given .1 in
-    let known = at-loop (read-at (framed-at (judged-at b))) .loop .known in
+    let known = turn-of b .loop .known in
     omega (arith, rule-passed known _ good (sym (b .byte-at .ensures) ∙ c .before .if4 .taken) .1 .1)
 
 array-set-from-rules : tie.Need-array-set-from-rules Inv-loop μ-loop
 array-set-from-rules c =
     let b = kind-at (c .before .before) in
     let good = sym (judged-at b .judge-frame .ensures) ∙ good-at b .enum-told2 .given .1 in
-    let known = at-loop (read-at (framed-at (judged-at b))) .loop .known in
+    let known = turn-of b .loop .known in
     rule-passed known _ good (sym (b .byte-at .ensures) ∙ c .before .if4 .taken) .1 .1
 
 known-after-requires : tie.Need-known-after-requires Inv-loop μ-loop
-known-after-requires c κs = at-loop (read-at (framed-at (judged-at (kind-at (c .before .before))))) .loop .inv .0 .counted
+known-after-requires c κs = turn-of (kind-at (c .before .before)) .loop .inv .0 .counted
 
 loop-less-3 : tie.Need-loop-less-3 Inv-loop μ-loop
-loop-less-3 c =
-    let d = framed-at (judged-at (kind-at (c .before .before .before))) in
-    let r = read-at d in
-    line-less (at-loop r .loop .inv .0) (r .read-frame .ensures) (d .decoded2 .given .1) (tested-at r .if1 .taken)
+loop-less-3 c = line-behind (frame-of (kind-at (c .before .before .before)))
 
 loop-again-3 : tie.Need-loop-again-3 Inv-loop μ-loop
 loop-again-3 c =
     let b = kind-at (c .before .before .before) in
-    let d = framed-at (judged-at b) in
+    let d = frame-of b in
     let read = read-at d .read-frame .ensures in
-    let at = at-loop (read-at d) .loop in
+    let at = turn-of b .loop in
     let good = sym (judged-at b .judge-frame .ensures) ∙ good-at b .enum-told2 .given .1 in
     let kind = b .byte-at .ensures in
     let turn = rule-good (at .inv .0) (line-framed (at .inv .0) read (d .decoded2 .given .1)) good in
@@ -266,21 +271,18 @@ query-after-requires : tie.Need-query-after-requires Inv-loop μ-loop
 query-after-requires c κs = search needs
 
 known-after-requires-2 : tie.Need-known-after-requires-2 Inv-loop μ-loop
-known-after-requires-2 c κs = at-loop (read-at (framed-at (judged-at (kind-at (c .before .before))))) .loop .inv .0 .counted
+known-after-requires-2 c κs = turn-of (kind-at (c .before .before)) .loop .inv .0 .counted
 
 loop-less-4 : tie.Need-loop-less-4 Inv-loop μ-loop
-loop-less-4 c =
-    let d = framed-at (judged-at (kind-at (c .before .before .before))) in
-    let r = read-at d in
-    line-less (at-loop r .loop .inv .0) (r .read-frame .ensures) (d .decoded2 .given .1) (tested-at r .if1 .taken)
+loop-less-4 c = line-behind (frame-of (kind-at (c .before .before .before)))
 
 loop-again-4 : tie.Need-loop-again-4 Inv-loop μ-loop
 loop-again-4 c =
     let other = c .before .before .before in
     let b = kind-at other in
-    let d = framed-at (judged-at b) in
+    let d = frame-of b in
     let read = read-at d .read-frame .ensures in
-    let at = at-loop (read-at d) .loop in
+    let at = turn-of b .loop in
     let good = sym (judged-at b .judge-frame .ensures) ∙ good-at b .enum-told2 .given .1 in
     let kind = b .byte-at .ensures in
     let turn = other-good (at .inv .0) (line-framed (at .inv .0) read (d .decoded2 .given .1)) good in
