@@ -12,7 +12,9 @@ is-crew-field-requires c κs = search needs
 
 returns : tie.Need-returns
 unfolding fieldsGood
-returns c = rw (c .before .before .before .before .is-value .ensures, c .before .before .before .is-crew-field .ensures)
+returns c =
+    let at-is-value = c .before .before .before .before in
+    rw (at-is-value .is-value .ensures, c .before .before .before .is-crew-field .ensures)
 
 pub are-fields-spec : {M : Type 1} → statement M
 are-fields-spec = tie.close (tie.spec is-value-requires is-crew-field-requires returns)

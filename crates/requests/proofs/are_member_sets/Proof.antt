@@ -16,6 +16,10 @@ Inv-loop z ledger good₀ p₀ good p = (p ≤ 64) × (good ≡ allBelow (member
 abbrev μ-loop : tie.MeasureT-loop
 μ-loop z ledger good₀ p₀ good p = 64 - p
 
+-- The places that the answers name, each seen from a later one.
+abbrev start : tie.After-is-member-set Inv-loop μ-loop → tie.Start Inv-loop μ-loop
+start c = c .before .before .before .before
+
 loop-holds : tie.Need-loop-holds Inv-loop μ-loop
 loop-holds c = (omega arith, all-none _)
 
@@ -29,7 +33,11 @@ loop-less : tie.Need-loop-less Inv-loop μ-loop
 loop-less c = search needs
 
 loop-again : tie.Need-loop-again Inv-loop μ-loop
-loop-again c = (omega arith, all-more (memberSetGood (c .before .before .before .before .args .z) (c .before .before .before .before .args .ledger .now)) (c .before .before .loop .p) _ _ (c .before .before .loop .inv .1) (c .is-member-set .ensures))
+loop-again c = (
+  omega arith,
+  all-more (memberSetGood (start c .args .z) (start c .args .ledger .now)) (c .before .before .loop .p) _ _
+      (c .before .before .loop .inv .1) (c .is-member-set .ensures),
+)
 
 returns : tie.Need-returns Inv-loop μ-loop
 returns c = c .before .loop .inv .1 ∙ ap (allBelow _) (omega arith)

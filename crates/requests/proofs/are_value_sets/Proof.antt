@@ -16,6 +16,10 @@ Inv-loop z ledger start subjects count good₀ i₀ good i = (i ≤ count) × (g
 abbrev μ-loop : tie.MeasureT-loop
 μ-loop z ledger start subjects count good₀ i₀ good i = count - i
 
+-- The places that the answers name, each seen from a later one.
+abbrev entry : tie.After-is-value-set Inv-loop μ-loop → tie.Start Inv-loop μ-loop
+entry c = c .before .before .before .before
+
 loop-holds : tie.Need-loop-holds Inv-loop μ-loop
 loop-holds c = (omega arith, all-none _)
 
@@ -29,7 +33,11 @@ loop-less : tie.Need-loop-less Inv-loop μ-loop
 loop-less c = search needs
 
 loop-again : tie.Need-loop-again Inv-loop μ-loop
-loop-again c = (omega arith, all-more (valueSetGood (c .before .before .before .before .args .z) (c .before .before .before .before .args .ledger .now) (c .before .before .before .before .args .start) (c .before .before .before .before .args .subjects)) (c .before .before .loop .i) _ _ (c .before .before .loop .inv .1) (c .is-value-set .ensures))
+loop-again c = (
+  omega arith,
+  all-more (valueSetGood (entry c .args .z) (entry c .args .ledger .now) (entry c .args .start) (entry c .args .subjects))
+      (c .before .before .loop .i) _ _ (c .before .before .loop .inv .1) (c .is-value-set .ensures),
+)
 
 returns : tie.Need-returns Inv-loop μ-loop
 returns c = c .before .loop .inv .1 ∙ ap (allBelow _) (omega arith)

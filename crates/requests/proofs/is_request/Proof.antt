@@ -24,7 +24,16 @@ are-fields-requires c κs = search needs
 
 returns : tie.Need-returns
 unfolding wellFormed
-returns c = rw (c .are-fields .ensures, c .before .before .before .before .before .byte-of .ensures, c .before .before .before .before .byte-of2 .ensures, c .before .before .before .byte-of3 .ensures, c .before .before .byte-of4 .ensures, c .before .byte-of5 .ensures)
+returns c =
+    let at-byte-of2 = c .before .before .before .before in
+    rw (
+      c .are-fields .ensures,
+      at-byte-of2 .before .byte-of .ensures,
+      at-byte-of2 .byte-of2 .ensures,
+      c .before .before .before .byte-of3 .ensures,
+      c .before .before .byte-of4 .ensures,
+      c .before .byte-of5 .ensures,
+    )
 
 pub is-request-spec : {M : Type 1} → statement M
 is-request-spec =

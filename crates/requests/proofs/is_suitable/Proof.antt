@@ -20,7 +20,13 @@ are-member-sets-requires c κs = search needs
 
 returns-2 : tie.Need-returns-2
 unfolding suitable
-returns-2 c = rw (eq-eqb _ _ (c .before .before .before .if1 .left), c .before .before .are-value-sets .ensures, c .before .are-value-sets2 .ensures, c .are-member-sets .ensures)
+returns-2 c =
+    rw (
+      eq-eqb _ _ (c .before .before .before .if1 .left),
+      c .before .before .are-value-sets .ensures,
+      c .before .are-value-sets2 .ensures,
+      c .are-member-sets .ensures,
+    )
 
 pub is-suitable-spec : {M : Type 1} → statement M
 is-suitable-spec =
