@@ -30,13 +30,23 @@ loop-less : tie.Need-loop-less Inv-loop μ-loop
 loop-less c = search needs
 
 loop-again : tie.Need-loop-again Inv-loop μ-loop
-loop-again c = let start = c .before .before in (omega arith, (simp length-set (c .before .loop .inv .1 .0), copied-more (c .before .loop .ledger) (start .args .t1) (c .before .loop .i) (omega (arith, c .before .loop .inv .1 .0)) (omega (arith, start .good .0 .1 .0 .1)) (c .before .loop .inv .1 .1)))
+loop-again c =
+    let start = c .before .before in
+    let turn = c .before .loop in
+    let long = turn .inv .1 .0 in
+    let eq = copied-more (turn .ledger) (start .args .t1) (turn .i) (omega (arith, long)) (omega (arith, start .good .0 .1 .0 .1))
+    (turn .inv .1 .1) in
+    (omega arith, (simp length-set long, eq))
 
 same-length : tie.Need-same-length Inv-loop μ-loop
 same-length c = c .before .loop .inv .1 .0 ∙ sym (c .before .before .pre)
 
 returns : tie.Need-returns Inv-loop μ-loop
-returns c = let start = c .before .before in copied-all (c .before .loop .ledger) (start .args .t1) (c .before .loop .i) (omega (arith, c .before .loop .inv .1 .0, c .loop-test .left)) (omega (arith, start .good .0 .1 .0 .1, c .loop-test .left)) (c .before .loop .inv .1 .1)
+returns c =
+    let start = c .before .before in
+    let turn = c .before .loop in
+    copied-all (turn .ledger) (start .args .t1) (turn .i) (omega (arith, turn .inv .1 .0, c .loop-test .left))
+    (omega (arith, start .good .0 .1 .0 .1, c .loop-test .left)) (turn .inv .1 .1)
 
 pub copy-facts-spec : {M : Type 1} → statement M
 copy-facts-spec =

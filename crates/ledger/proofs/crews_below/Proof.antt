@@ -16,6 +16,10 @@ Inv-loop ledger juniors p n set₀ c₀ set c = (c ≤ n) × (set ≡ setBelow (
 abbrev μ-loop : tie.MeasureT-loop
 μ-loop ledger juniors p n set₀ c₀ set c = n - c
 
+-- The places that the answers name, each seen from a later one.
+abbrev start : tie.After-person-in Inv-loop μ-loop → tie.Start Inv-loop μ-loop
+start c = c .before .before .before .before .before
+
 loop-holds : tie.Need-loop-holds Inv-loop μ-loop
 loop-holds c = (omega arith, set-none _)
 
@@ -23,7 +27,7 @@ person-in-requires : tie.Need-person-in-requires Inv-loop μ-loop
 person-in-requires c κs = search needs
 
 with-requires : tie.Need-with-requires Inv-loop μ-loop
-with-requires c κs = omega (arith, c .before .loop-test .taken, c .before .before .before .before .before .pre .0)
+with-requires c κs = omega (arith, c .before .loop-test .taken, start c .pre .0)
 
 add-c : tie.Need-add-c Inv-loop μ-loop
 add-c c = search needs
@@ -32,7 +36,13 @@ loop-less : tie.Need-loop-less Inv-loop μ-loop
 loop-less c = search needs
 
 loop-again : tie.Need-loop-again Inv-loop μ-loop
-loop-again c = (omega arith, set-more (personIn (c .before .before .before .before .before .before .args .juniors .now) (holds (c .before .before .before .before .before .before .args .ledger .now)) (c .before .before .before .before .before .before .args .p)) (c .before .before .before .loop .c) _ _ _ (c .before .before .before .loop .inv .1) (c .before .person-in .ensures) (c .with .ensures))
+loop-again c =
+    let at-start = start (c .before) in (
+      omega arith,
+      set-more (personIn (at-start .args .juniors .now) (holds (at-start .args .ledger .now)) (at-start .args .p))
+          (c .before .before .before .loop .c) _ _ _ (c .before .before .before .loop .inv .1) (c .before .person-in .ensures)
+          (c .with .ensures),
+    )
 
 returns : tie.Need-returns Inv-loop μ-loop
 returns c = c .before .loop .inv .1 ∙ ap (setBelow _) (omega arith)

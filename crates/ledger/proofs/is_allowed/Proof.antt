@@ -10,16 +10,26 @@ use borrow.Author.Needs.{needs}
 use Rattle.ledger.proofs.is_allowed.Statement.{statement}
 use Rattle.ledger.proofs.is_allowed.Tie as tie
 
+-- The places that the answers name, each seen from a later one.
+abbrev entry : tie.After-juniors2 → tie.Start
+entry c = c .before .before .before .before
+
 slice-aggregate-first-listed : tie.Need-slice-aggregate-first-listed
 slice-aggregate-first-listed c = search needs
 
 first-listed-requires : tie.Need-first-listed-requires
 unfolding contentsOf
-first-listed-requires c κs = let book = c .before .before .before .before .pre in ((book .rules-few, book .rules-short), book .edge-room)
+first-listed-requires c κs =
+    let book = entry c .pre in
+    ((book .rules-few, book .rules-short), book .edge-room)
 
 returns : tie.Need-returns
 unfolding allowed permitted contentsOf
-returns c = let start = c .before .before .before .before .before in rw (c .first-listed .ensures) (sym (any-first (permits (start .args .b .juniors) (holds (start .args .ledger .now)) (start .args .q)) (listed (start .args .b .rules)) ∙ ap (ltb _) (start .pre .rules-counted)))
+returns c =
+    let start = c .before .before .before .before .before in
+    rw (c .first-listed .ensures)
+    (sym (any-first (permits (start .args .b .juniors) (holds (start .args .ledger .now)) (start .args .q))
+    (listed (start .args .b .rules)) ∙ ap (ltb _) (start .pre .rules-counted)))
 
 pub is-allowed-spec : {M : Type 1} → statement M
 is-allowed-spec =

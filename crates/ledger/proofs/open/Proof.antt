@@ -13,7 +13,10 @@ enum-known-outcome c = search needs
 
 returns : tie.Need-returns
 unfolding openReply
-returns c = rw (read-refused (c .before .before .before .before .before .before .args .book .now) (c .before .before .before .read .result) (c .before .before .before .read .ensures) (c .before .outcome .given .0 .0) (c .before .outcome .given .1))
+returns c =
+    let at-start = c .before .before .before .before .before .before in
+    rw (read-refused (at-start .args .book .now) (c .before .before .before .read .result)
+    (c .before .before .before .read .ensures) (c .before .outcome .given .0 .0) (c .before .outcome .given .1))
 
 enum-told : tie.Need-enum-told
 enum-told c = search needs
@@ -26,7 +29,11 @@ same-length c = search needs
 
 returns-2 : tie.Need-returns-2
 unfolding openReply
-returns-2 c = rw (read-accepted (c .before .before .before .before .before .before .before .before .before .before .args .book .now) (c .before .before .before .before .before .before .before .read .result) (c .before .before .before .before .before .before .before .read .ensures) (c .before .before .before .before .before .enum-told .given .1)) (c .before .before .open-in .ensures)
+returns-2 c =
+    let accepted = c .before .before .before .before .before in
+    let at-read = accepted .before .before in
+    rw (read-accepted (at-read .before .before .before .args .book .now) (at-read .read .result) (at-read .read .ensures)
+    (accepted .enum-told .given .1)) (c .before .before .open-in .ensures)
 
 pub open-spec : {M : Type 1} → statement M
 open-spec =

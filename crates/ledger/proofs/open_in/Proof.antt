@@ -20,7 +20,9 @@ same-length c = search needs
 
 returns-2 : tie.Need-returns-2
 unfolding openIn contentsOf
-returns-2 c = rw (eq-eqb _ _ (c .before .before .before .before .before .if1 .left)) (ap (reply Done) (c .before .before .copy-facts .ensures))
+returns-2 c =
+    let sized = c .before .before .before .before .before in
+    rw (eq-eqb _ _ (sized .if1 .left)) (ap (reply Done) (c .before .before .copy-facts .ensures))
 
 pub open-in-spec : {M : Type 1} → statement M
 open-in-spec = tie.close (tie.spec returns copy-facts-requires same-length returns-2)

@@ -26,7 +26,11 @@ same-length-2 c = search needs
 
 returns-2 : tie.Need-returns-2
 unfolding requestIn contentsOf after
-returns-2 c = rw (sym (c .before .before .before .is-suitable .ensures) ∙ not-false _ (c .before .before .if1 .left), sym (c .before .is-request .ensures) ∙ not-true _ (c .if2 .taken))
+returns-2 c =
+    rw (
+      sym (c .before .before .before .is-suitable .ensures) ∙ not-false _ (c .before .before .if1 .left),
+      sym (c .before .is-request .ensures) ∙ not-true _ (c .if2 .taken),
+    )
 
 request-of-requires : tie.Need-request-of-requires
 request-of-requires c κs = search needs

@@ -7,6 +7,10 @@ use borrow.Author.Needs.{needs}
 use Rattle.ledger.proofs.show_in.Statement.{statement}
 use Rattle.ledger.proofs.show_in.Tie as tie
 
+-- The places that the answers name, each seen from a later one.
+abbrev start : tie.After-juniors2 → tie.Start
+start c = c .before .before .before .before .before .before .before .before .before
+
 is-suitable-requires : tie.Need-is-suitable-requires
 is-suitable-requires c κs = search needs
 
@@ -22,25 +26,40 @@ not-shown-requires-2 c κs = search needs
 
 returns-2 : tie.Need-returns-2
 unfolding showIn contentsOf
-returns-2 c = c .not-shown2 .ensures ∙ sym (rw (sym (c .before .before .before .before .before .is-suitable .ensures) ∙ not-false _ (c .before .before .before .before .if1 .left), le-ltb _ _ (c .before .if2 .taken)) refl)
+returns-2 c =
+    let suited = c .before .before .before .before in
+    c .not-shown2 .ensures ∙ sym (rw (
+      sym (suited .before .is-suitable .ensures) ∙ not-false _ (suited .if1 .left),
+      le-ltb _ _ (c .before .if2 .taken),
+    ) refl)
 
 slice-aggregate-value-sets : tie.Need-slice-aggregate-value-sets
 slice-aggregate-value-sets c = search needs
 
 value-sets-requires : tie.Need-value-sets-requires
 unfolding contentsOf
-value-sets-requires c κs = (c .before .before .before .before .before .before .before .before .before .pre .sized, c .before .before .before .before .before .before .before .before .before .pre .edge-room)
+value-sets-requires c κs = (start c .pre .sized, start c .pre .edge-room)
 
 slice-aggregate-crews-below : tie.Need-slice-aggregate-crews-below
 slice-aggregate-crews-below c = search needs
 
 crews-below-requires : tie.Need-crews-below-requires
 unfolding contentsOf
-crews-below-requires c κs = (c .before .before .before .before .before .before .before .before .before .before .before .pre .sized .crews-most, c .before .before .before .before .before .before .before .before .before .before .before .pre .edge-room)
+crews-below-requires c κs =
+    let at-start = start (c .before .before) in
+    (at-start .pre .sized .crews-most, at-start .pre .edge-room)
 
 returns-3 : tie.Need-returns-3
 unfolding showIn contentsOf crewSet viewOf
-returns-3 c = rw (sym (c .before .before .before .before .before .before .before .before .before .is-suitable .ensures) ∙ not-false _ (c .before .before .before .before .before .before .before .before .if1 .left), lt-ltb _ _ (c .before .before .before .before .before .if2 .left), ← c .before .before .value-sets .ensures, ← c .crews-below .ensures)
+returns-3 c =
+    let known-person = c .before .before .before .before .before in
+    let at-is-suitable = known-person .before .before .before .before in
+    rw (
+      sym (at-is-suitable .is-suitable .ensures) ∙ not-false _ (known-person .before .before .before .if1 .left),
+      lt-ltb _ _ (known-person .if2 .left),
+      ← c .before .before .value-sets .ensures,
+      ← c .crews-below .ensures,
+    )
 
 pub show-in-spec : {M : Type 1} → statement M
 show-in-spec =

@@ -16,7 +16,9 @@ values-of-requires c κs = search needs
 
 values-below-requires : tie.Need-values-below-requires
 unfolding valuesOf
-values-below-requires c κs = (rw (c .values-of .ensures) (omega (arith, c .before .before .before .before .before .pre .0 .values-most)), c .before .before .before .before .before .pre .1)
+values-below-requires c κs =
+    let at-start = c .before .before .before .before .before in
+    (rw (c .values-of .ensures) (omega (arith, at-start .pre .0 .values-most)), at-start .pre .1)
 
 returns-2 : tie.Need-returns-2
 unfolding valueSet

@@ -30,7 +30,18 @@ value-set-requires-8 c κs = search needs
 
 returns : tie.Need-returns
 unfolding valueSets
-returns c = rw (c .before .before .before .before .before .before .before .value-set .ensures, c .before .before .before .before .before .before .value-set2 .ensures, c .before .before .before .before .before .value-set3 .ensures, c .before .before .before .before .value-set4 .ensures, c .before .before .before .value-set5 .ensures, c .before .before .value-set6 .ensures, c .before .value-set7 .ensures, c .value-set8 .ensures)
+returns c =
+    let at-value-set4 = c .before .before .before .before in
+    rw (
+      at-value-set4 .before .before .before .value-set .ensures,
+      at-value-set4 .before .before .value-set2 .ensures,
+      at-value-set4 .before .value-set3 .ensures,
+      at-value-set4 .value-set4 .ensures,
+      c .before .before .before .value-set5 .ensures,
+      c .before .before .value-set6 .ensures,
+      c .before .value-set7 .ensures,
+      c .value-set8 .ensures,
+    )
 
 pub value-sets-spec : {M : Type 1} → statement M
 value-sets-spec =

@@ -1,4 +1,5 @@
--- `ledger::values_below` meets its contract: the invariant says that `set` has the numbers below v that pass; the measure is what is left of n. Assumes nothing.
+-- `ledger::values_below` meets its contract: the invariant says that `set` has the numbers below v that pass; the measure is what is left of n.
+-- Assumes nothing.
 use mathlib.Core.Path.{_≡_, ap, _∙_}
 use Prim.Native.Nat.{_≤_, _-_}
 use Rattle.facts.specs.Facts.{holds}
@@ -16,6 +17,10 @@ Inv-loop ledger juniors p a n set₀ v₀ set v = (v ≤ n) × (set ≡ setBelow
 abbrev μ-loop : tie.MeasureT-loop
 μ-loop ledger juniors p a n set₀ v₀ set v = n - v
 
+-- The places that the answers name, each seen from a later one.
+abbrev start : tie.After-person-holds Inv-loop μ-loop → tie.Start Inv-loop μ-loop
+start c = c .before .before .before .before .before
+
 loop-holds : tie.Need-loop-holds Inv-loop μ-loop
 loop-holds c = (omega arith, set-none _)
 
@@ -23,7 +28,7 @@ person-holds-requires : tie.Need-person-holds-requires Inv-loop μ-loop
 person-holds-requires c κs = search needs
 
 with-requires : tie.Need-with-requires Inv-loop μ-loop
-with-requires c κs = omega (arith, c .before .loop-test .taken, c .before .before .before .before .before .pre .0)
+with-requires c κs = omega (arith, c .before .loop-test .taken, start c .pre .0)
 
 add-v : tie.Need-add-v Inv-loop μ-loop
 add-v c = search needs
@@ -32,7 +37,13 @@ loop-less : tie.Need-loop-less Inv-loop μ-loop
 loop-less c = search needs
 
 loop-again : tie.Need-loop-again Inv-loop μ-loop
-loop-again c = (omega arith, set-more (personHolds (c .before .before .before .before .before .before .args .juniors .now) (holds (c .before .before .before .before .before .before .args .ledger .now)) (c .before .before .before .before .before .before .args .p) (c .before .before .before .before .before .before .args .a)) (c .before .before .before .loop .v) _ _ _ (c .before .before .before .loop .inv .1) (c .before .person-holds .ensures) (c .with .ensures))
+loop-again c =
+    let at-start = start (c .before) in (
+      omega arith,
+      set-more (personHolds (at-start .args .juniors .now) (holds (at-start .args .ledger .now)) (at-start .args .p)
+          (at-start .args .a)) (c .before .before .before .loop .v) _ _ _ (c .before .before .before .loop .inv .1)
+          (c .before .person-holds .ensures) (c .with .ensures),
+    )
 
 returns : tie.Need-returns Inv-loop μ-loop
 returns c = c .before .loop .inv .1 ∙ ap (setBelow _) (omega arith)
