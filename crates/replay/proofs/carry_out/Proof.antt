@@ -31,9 +31,13 @@ same-length c = search needs
 returns-3 : tie.Need-returns-3
 unfolding after
 returns-3 c =
-    let args = c .before .before .before .before .before .before .before .before .args in
-    let is-ready : args .ready ≡ true = not-false _ (c .before .before .before .before .before .before .if1 .left) in
-    (rw (is-ready, lt-ltb (args .found) (args .n) (c .before .before .before .before .before .if2 .left)) refl, rw (← c .before .before .before .before .is-adding .ensures) (c .before .before .put-fact .ensures))
+    let at-is-adding = c .before .before .before .before in
+    let at-start = at-is-adding .before .before .before .before in
+    let args = at-start .args in
+    let is-ready : args .ready ≡ true = not-false _ (at-is-adding .before .before .if1 .left) in (
+      rw (is-ready, lt-ltb (args .found) (args .n) (at-is-adding .before .if2 .left)) refl,
+      rw (← at-is-adding .is-adding .ensures) (c .before .before .put-fact .ensures),
+    )
 
 pub carry-out-spec : {M : Type 1} → statement M
 carry-out-spec =

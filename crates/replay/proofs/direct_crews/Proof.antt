@@ -17,6 +17,10 @@ Inv-loop ledger p n set₀ c₀ set c = (c ≤ n) × (set ≡ setBelow (λ d. ho
 abbrev μ-loop : tie.MeasureT-loop
 μ-loop ledger p n set₀ c₀ set c = n - c
 
+-- The places that the answers name, each seen from a later one.
+abbrev entry : tie.After-fact-holds Inv-loop μ-loop → tie.Start Inv-loop μ-loop
+entry c = c .before .before .before .before
+
 loop-holds : tie.Need-loop-holds Inv-loop μ-loop
 loop-holds c = (omega arith, set-none _)
 
@@ -24,7 +28,7 @@ fact-holds-requires : tie.Need-fact-holds-requires Inv-loop μ-loop
 fact-holds-requires c κs = search needs
 
 with-requires : tie.Need-with-requires Inv-loop μ-loop
-with-requires c κs = omega (arith, c .before .loop-test .taken, c .before .before .before .before .pre)
+with-requires c κs = omega (arith, c .before .loop-test .taken, entry c .pre)
 
 add-c : tie.Need-add-c Inv-loop μ-loop
 add-c c = search needs
@@ -34,9 +38,12 @@ loop-less c = search needs
 
 loop-again : tie.Need-loop-again Inv-loop μ-loop
 loop-again c =
-    let start = c .before .before .before .before .before in
-    let at-loop = c .before .before .before .loop in
-    (omega arith, set-more (λ (d : ℕ). holds (start .args .ledger .now) (Member (start .args .p) (record { 0 = d }))) (at-loop .c) _ _ _ (at-loop .inv .1) (c .before .fact-holds .ensures) (c .with .ensures))
+    let start = entry (c .before) in
+    let at-loop = c .before .before .before .loop in (
+      omega arith,
+      set-more (λ (d : ℕ). holds (start .args .ledger .now) (Member (start .args .p) (record { 0 = d })))
+          (at-loop .c) _ _ _ (at-loop .inv .1) (c .before .fact-holds .ensures) (c .with .ensures),
+    )
 
 returns : tie.Need-returns Inv-loop μ-loop
 returns c = c .before .loop .inv .1 ∙ ap (setBelow _) (omega arith)

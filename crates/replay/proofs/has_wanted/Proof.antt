@@ -38,6 +38,13 @@ Inv-loop exactly ledger z juniors query n j₀ j =
 abbrev μ-loop : tie.MeasureT-loop
 μ-loop exactly ledger z juniors query n j₀ j = n - j
 
+-- The places that the answers name, each seen from a later one.
+abbrev entry : tie.After-loop Inv-loop μ-loop → tie.Start Inv-loop μ-loop
+entry c = c .before .before .before .before .before .before
+
+abbrev entry-from-in-loop : tie.In-loop Inv-loop μ-loop → tie.Start Inv-loop μ-loop
+entry-from-in-loop c = c .before .before .before .before .before .before
+
 cast-n : tie.Need-cast-n Inv-loop μ-loop
 cast-n c = search needs
 
@@ -46,18 +53,20 @@ loop-holds c = (omega arith, refl)
 
 mul-w : tie.Need-mul-w Inv-loop μ-loop
 unfolding contentsOf
-mul-w c = omega (arith, c .loop-test .taken, c .before .before .before .before .before .before .pre .query-in .few)
+mul-w c = omega (arith, c .loop-test .taken, entry-from-in-loop c .pre .query-in .few)
 
 element-copy-out-w : tie.Need-element-copy-out-w Inv-loop μ-loop
 unfolding contentsOf
-element-copy-out-w c = omega (arith, c .loop-test .taken, c .before .before .before .before .before .before .pre .query-in .few)
+element-copy-out-w c = omega (arith, c .loop-test .taken, entry-from-in-loop c .pre .query-in .few)
 
 slice-aggregate-value-set : tie.Need-slice-aggregate-value-set Inv-loop μ-loop
 slice-aggregate-value-set c = search needs
 
 value-set-requires : tie.Need-value-set-requires Inv-loop μ-loop
 unfolding contentsOf
-value-set-requires c κs = (c .before .before .before .before .before .before .before .before .before .pre .sized, c .before .before .before .before .before .before .before .before .before .pre .edge-room)
+value-set-requires c κs =
+    let at-start = entry-from-in-loop (c .before .before .before) in
+    (at-start .pre .sized, at-start .pre .edge-room)
 
 is-wanted-requires : tie.Need-is-wanted-requires Inv-loop μ-loop
 is-wanted-requires c κs = search needs
@@ -65,15 +74,18 @@ is-wanted-requires c κs = search needs
 returns : tie.Need-returns Inv-loop μ-loop
 unfolding wants contentsOf
 returns c =
-    let start = c .before .before .before .before .before .before .before .before .before .before .before .before in
+    let at-loop-turn = c .before .before .before .before .before .before in
+    let at-loop = at-loop-turn .before in
+    let start = at-loop .before .before .before .before .before in
     let b = start .args .b in
     let P = test (start .args .exactly) (start .args .ledger .now) (b .sizes) (b .juniors) (b .query) in
     let n = b .query .q in
-    let j = c .before .before .before .before .before .before .before .loop .j in
-    let inv = c .before .before .before .before .before .before .before .loop .inv .1 in
+    let j = at-loop .loop .j in
+    let inv = at-loop .loop .inv .1 in
     let room : n ≤ length (b .query .wants) = omega (arith, start .pre .query-in .few, start .pre .query-in .room) in
-    let failed : P (getD (b .query .wants) j none) ≡ false = rw (← c .before .before .value-set .ensures) (sym (c .before .is-wanted .ensures) ∙ not-true _ (c .if1 .taken)) in
-    sym (inv ∙ all-fail P (b .query .wants) n room j none (c .before .before .before .before .before .before .loop-test .taken) failed)
+    let failed : P (getD (b .query .wants) j none) ≡ false = rw (← c .before .before .value-set .ensures)
+    (sym (c .before .is-wanted .ensures) ∙ not-true _ (c .if1 .taken)) in
+    sym (inv ∙ all-fail P (b .query .wants) n room j none (at-loop-turn .loop-test .taken) failed)
 
 add-j : tie.Need-add-j Inv-loop μ-loop
 add-j c = search needs
@@ -84,20 +96,26 @@ loop-less c = search needs
 loop-again : tie.Need-loop-again Inv-loop μ-loop
 unfolding contentsOf
 loop-again c =
-    let start = c .before .before .before .before .before .before .before .before .before .before .before .before in
+    let at-loop-turn = c .before .before .before .before .before .before in
+    let at-loop = at-loop-turn .before in
+    let start = at-loop .before .before .before .before .before in
     let b = start .args .b in
     let P = test (start .args .exactly) (start .args .ledger .now) (b .sizes) (b .juniors) (b .query) in
     let n = b .query .q in
-    let j = c .before .before .before .before .before .before .before .loop .j in
-    let inv = c .before .before .before .before .before .before .before .loop .inv .1 in
+    let j = at-loop .loop .j in
+    let inv = at-loop .loop .inv .1 in
     let room : n ≤ length (b .query .wants) = omega (arith, start .pre .query-in .few, start .pre .query-in .room) in
-    let passed : P (getD (b .query .wants) j none) ≡ true = rw (← c .before .before .value-set .ensures) (sym (c .before .is-wanted .ensures) ∙ not-false _ (c .if1 .left)) in
-    (omega (arith, c .before .before .before .before .before .before .loop-test .taken), inv ∙ all-pass P (b .query .wants) n room j none (c .before .before .before .before .before .before .loop-test .taken) passed)
+    let passed : P (getD (b .query .wants) j none) ≡ true = rw (← c .before .before .value-set .ensures)
+    (sym (c .before .is-wanted .ensures) ∙ not-false _ (c .if1 .left)) in (
+      omega (arith, at-loop-turn .loop-test .taken),
+      inv ∙ all-pass P (b .query .wants) n room j none
+          (at-loop-turn .loop-test .taken) passed,
+    )
 
 returns-2 : tie.Need-returns-2 Inv-loop μ-loop
 unfolding wants contentsOf
 returns-2 c =
-    let start = c .before .before .before .before .before .before in
+    let start = entry c in
     let b = start .args .b in
     let P = test (start .args .exactly) (start .args .ledger .now) (b .sizes) (b .juniors) (b .query) in
     let n = b .query .q in

@@ -13,6 +13,13 @@ use native.Mathlib.Omega.{arith}
 use Rattle.replay.proofs.is_due.Statement.{statement}
 use Rattle.replay.proofs.is_due.Tie as tie
 
+-- The places that the answers name, each seen from a later one.
+abbrev entry : tie.After-is-request → tie.Start
+entry c = c .before .before .before
+
+abbrev after-is-request : tie.After-has → tie.After-is-request
+after-is-request c = c .before .before .before .before
+
 mul-at : tie.Need-mul-at
 mul-at c = search needs
 
@@ -33,11 +40,13 @@ is-request-requires c κs = search needs
 
 returns : tie.Need-returns
 returns c =
-    let start = c .before .before .before .before in
+    let start = entry (c .before) in
     let i = start .args .i in
     let five : 5 * i + 5 - 5 * i ≡ 5 = omega arith in
-    let told = c .before .is-request .ensures ∙ ap (λ (k : ℕ). wellFormed (start .args .z) (take k (drop (5 * i) (start .args .plan .now)))) five in
-    sym (due-not (start .args .z) (start .args .roles) (fiveAt (start .args .plan .now) i) (sym told ∙ not-true _ (c .if1 .taken)))
+    let told = c .before .is-request .ensures ∙ ap (λ (k : ℕ). wellFormed (start .args .z)
+    (take k (drop (5 * i) (start .args .plan .now)))) five in
+    sym (due-not (start .args .z) (start .args .roles) (fiveAt (start .args .plan .now) i)
+    (sym told ∙ not-true _ (c .if1 .taken)))
 
 request-of-requires : tie.Need-request-of-requires
 request-of-requires c κs = search needs
@@ -47,13 +56,16 @@ has-requires c κs = search needs
 
 returns-2 : tie.Need-returns-2
 returns-2 c =
-    let start = c .before .before .before .before .before .before .before in
+    let start = entry (after-is-request c) in
     let i = start .args .i in
     let five : 5 * i + 5 - 5 * i ≡ 5 = omega arith in
-    let told = c .before .before .before .before .is-request .ensures ∙ ap (λ (k : ℕ). wellFormed (start .args .z) (take k (drop (5 * i) (start .args .plan .now)))) five in
-    let made = c .before .before .request-of .ensures ∙ ap (λ (k : ℕ). requestOf (take k (drop (5 * i) (start .args .plan .now)))) five in
+    let told = after-is-request c .is-request .ensures ∙ ap (λ (k : ℕ). wellFormed (start .args .z)
+    (take k (drop (5 * i) (start .args .plan .now)))) five in
+    let made = c .before .before .request-of .ensures ∙ ap (λ (k : ℕ). requestOf (take k
+    (drop (5 * i) (start .args .plan .now)))) five in
     c .has .ensures ∙ ap (λ (r : Request). member (start .args .roles) (r .role .0)) made
-    ∙ sym (due-by-role (start .args .z) (start .args .roles) (fiveAt (start .args .plan .now) i) (sym told ∙ not-false _ (c .before .before .before .if1 .left)))
+    ∙ sym (due-by-role (start .args .z) (start .args .roles) (fiveAt (start .args .plan .now) i)
+    (sym told ∙ not-false _ (c .before .before .before .if1 .left)))
 
 pub is-due-spec : {M : Type 1} → statement M
 is-due-spec =

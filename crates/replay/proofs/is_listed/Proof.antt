@@ -13,7 +13,10 @@ direct-crews-requires : tie.Need-direct-crews-requires
 direct-crews-requires c κs = search needs
 
 returns-2 : tie.Need-returns-2
-returns-2 c = let on : c .before .before .before .before .args .exactly ≡ true = not-false _ (c .before .before .if1 .left) in rw (on, ← c .before .direct-crews .ensures)
+returns-2 c =
+    let at-start = c .before .before .before .before in
+    let on : at-start .args .exactly ≡ true = not-false _ (c .before .before .if1 .left) in
+    rw (on, ← c .before .direct-crews .ensures)
 
 pub is-listed-spec : {M : Type 1} → statement M
 is-listed-spec = tie.close (tie.spec returns direct-crews-requires returns-2)

@@ -39,17 +39,22 @@ by-mode true d f g ws _ = refl
 by-mode false true f g ws _ = refl
 by-mode false false f g ws z = absurd (true≢false (sym z))
 
+-- The places that the answers name, each seen from a later one.
+abbrev entry : tie.After-struct-known → tie.Start
+entry c = c .before .before .before .before
+
 is-listed-requires : tie.Need-is-listed-requires
 unfolding contentsOf
-is-listed-requires c κs = c .before .before .before .before .pre .sized .crews-most
+is-listed-requires c κs = entry c .pre .sized .crews-most
 
 returns : tie.Need-returns
 unfolding met metExactly directCrews contentsOf
 returns c =
-    let start = c .before .before .before .before .before .before in
+    let start = entry (c .before .before) in
     let b = contentsOf (start .args .b) in
     let S = holds (start .args .ledger .now) in
-    unlisted (one b) (crewed b S) (metAtLeast b S) (all (exact b S) (wants b)) (sym (c .before .is-listed .ensures) ∙ not-true _ (c .if1 .taken))
+    unlisted (one b) (crewed b S) (metAtLeast b S) (all (exact b S) (wants b))
+    (sym (c .before .is-listed .ensures) ∙ not-true _ (c .if1 .taken))
 
 has-wanted-requires : tie.Need-has-wanted-requires
 has-wanted-requires c κs = search needs
@@ -57,10 +62,11 @@ has-wanted-requires c κs = search needs
 returns-2 : tie.Need-returns-2
 unfolding met metAtLeast metExactly directCrews contentsOf
 returns-2 c =
-    let start = c .before .before .before .before .before .before .before in
+    let start = entry (c .before .before .before) in
     let b = contentsOf (start .args .b) in
     let S = holds (start .args .ledger .now) in
-    c .has-wanted .ensures ∙ by-mode (one b) (crewed b S) (exact b S) (enough b S) (wants b) (sym (c .before .before .is-listed .ensures) ∙ not-false _ (c .before .if1 .left))
+    c .has-wanted .ensures ∙ by-mode (one b) (crewed b S) (exact b S) (enough b S) (wants b)
+    (sym (c .before .before .is-listed .ensures) ∙ not-false _ (c .before .if1 .left))
 
 pub is-met-spec : {M : Type 1} → statement M
 is-met-spec = tie.close (tie.spec is-listed-requires returns has-wanted-requires returns-2)

@@ -6,6 +6,10 @@ use borrow.Author.Needs.{needs}
 use Rattle.replay.proofs.replay.Statement.{statement}
 use Rattle.replay.proofs.replay.Tie as tie
 
+-- The places that the answers name, each seen from a later one.
+abbrev start : tie.After-b → tie.Start
+start c = c .before .before .before .before .before .before
+
 read-requires : tie.Need-read-requires
 read-requires c κs = search needs
 
@@ -14,17 +18,25 @@ enum-known-outcome c = search needs
 
 returns : tie.Need-returns
 unfolding replayed
-returns c = rw (read-refused (c .before .before .before .before .before .before .args .book .now) (c .before .before .before .read .result) (c .before .before .before .read .ensures) (c .before .outcome .given .0 .0) (c .before .outcome .given .1))
+returns c =
+    let at-start = c .before .before .before .before .before .before in
+    rw (read-refused (at-start .args .book .now) (c .before .before .before .read .result)
+    (c .before .before .before .read .ensures) (c .before .outcome .given .0 .0) (c .before .outcome .given .1))
 
 enum-told : tie.Need-enum-told
 enum-told c = search needs
 
 replay-in-requires : tie.Need-replay-in-requires
-replay-in-requires c κs = read-sound (c .before .before .before .before .before .before .args .book .now) (c .before .before .before .read .result) (c .before .before .before .read .ensures) (c .before .enum-told .given .1)
+replay-in-requires c κs =
+    read-sound (start c .args .book .now) (c .before .before .before .read .result) (c .before .before .before .read .ensures)
+    (c .before .enum-told .given .1)
 
 returns-2 : tie.Need-returns-2
 unfolding replayed
-returns-2 c = rw (read-accepted (c .before .before .before .before .before .before .before .args .book .now) (c .before .before .before .before .read .result) (c .before .before .before .before .read .ensures) (c .before .before .enum-told .given .1)) (c .replay-in .ensures)
+returns-2 c =
+    let at-read = c .before .before .before .before in
+    rw (read-accepted (at-read .before .before .before .args .book .now) (at-read .read .result) (at-read .read .ensures)
+    (c .before .before .enum-told .given .1)) (c .replay-in .ensures)
 
 pub replay-spec : {M : Type 1} → statement M
 replay-spec =
