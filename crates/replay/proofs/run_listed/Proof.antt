@@ -1,4 +1,7 @@
--- `replay::run_listed` meets its contract: a walk of its MIR, by hand. The array of rules is copied to a local, its front is lent to `run_plan` for a lifetime of the call, and the room is back after it. The juniors and the requests are lent on, and the ledger goes to `run_plan` at its own lifetime. All that the proof knows of `run_plan` is that it meets its contract.
+-- `replay::run_listed` meets its contract: a walk of its MIR, by hand. The array of rules is copied to a local, its front is lent to
+-- `run_plan` for a lifetime of the call, and the room is back after it. The juniors and the requests are lent on, and the ledger goes to
+-- `run_plan` at its own lifetime. All that the proof knows of `run_plan` is that it meets its contract.
+-- There is no loop. A comment in brackets lists the head of the context at that point of the walk.
 -- Assumes nothing.
 use mathlib.Core.Path.{_≡_, refl, sym, ap, _∙_, subst}
 use Prim.Native.Nat.{ℕ, _<_, _≤_, _^_}
@@ -84,16 +87,24 @@ abbrev plan-slot : Slot 3
 plan-slot = shrSliceOf (2 ∷ []) tt (plain (λ _. u8))
 
 abbrev stayed : Stays (run-listed.ended .signature .params) (run-listed.ended .kept)
-stayed = (stay-dropped list-slot yes, (stay-dropped sizes-slot yes, (stay-dropped juniors-slot yes, (stay-dropped roles-slot yes, (gave-slice (1 ∷ []) tt (plain (λ _. u8)), (stay-dropped plan-slot yes, tt))))))
+stayed = (
+  stay-dropped list-slot yes,
+  (
+    stay-dropped sizes-slot yes,
+    (stay-dropped juniors-slot yes, (stay-dropped roles-slot yes, (gave-slice (1 ∷ []) tt (plain (λ _. u8)), (stay-dropped plan-slot yes, tt)))),
+  ),
+)
 
 module _ {M : Type 1} (𝓤 : URA M) (H : Heap 𝓤) (A : Atoms 𝓤) (mem : Memory → SProp 𝓤) (run : Routine → Fun 𝓤) where
   -- the contract that the proof cites
   abbrev RunPlan : Contract 𝓤
   RunPlan = tripleOf 𝓤 H A run-plan.signature (run-plan.spec 𝓤 H A mem run)
 
-module _ {M : Type 1} (𝓤 : URA M) (H : Heap 𝓤) (A : Atoms 𝓤) (W : Given 𝓤 H A) (mem : Memory → SProp 𝓤) (run : Routine → Fun 𝓤) (κ₁ κ₂ κ₃ : Lft) (q₁ q₂ q₃ : Share)
+module _ {M : Type 1} (𝓤 : URA M) (H : Heap 𝓤) (A : Atoms 𝓤) (W : Given 𝓤 H A) (mem : Memory → SProp 𝓤) (run : Routine → Fun 𝓤) (κ₁ κ₂ κ₃ : Lft)
+    (q₁ q₂ q₃ : Share)
     (rs : Rules) (z : Sizes) (s₁ : RefT (List ℕ)) (ρ : ℕ) (s₂ : RefT (List ℕ)) (s₃ : RefT (List ℕ))
-    (is-rs : list.IsList rs) (gz : Is Z.the-row z (LL.vals Z.the-type Z′.the-laws z)) (g₁ : Room u32 (length (s₁ .now))) (gρ : ρ < 2 ^ 32) (g₂ : Room u8 (length (s₂ .now))) (g₃ : Room u8 (length (s₃ .now)))
+    (is-rs : list.IsList rs) (gz : Is Z.the-row z (LL.vals Z.the-type Z′.the-laws z)) (g₁ : Room u32 (length (s₁ .now))) (gρ : ρ < 2 ^ 32)
+    (g₂ : Room u8 (length (s₂ .now))) (g₃ : Room u8 (length (s₃ .now)))
     (few : rs .count ≤ 512) (short : Each Short (listed rs)) (edges : length (now s₁) ≡ 32) where
   abbrev n : ℕ
   n = rs .count
@@ -129,6 +140,10 @@ module _ {M : Type 1} (𝓤 : URA M) (H : Heap 𝓤) (A : Atoms 𝓤) (W : Given
   abbrev qs : Shares 3
   qs = (q₁, (q₂, (q₃, tt)))
 
+  -- the arguments as the machine has them
+  abbrev passed : List Val
+  passed = by-value ∷ mz ∷ v₁ ∷ vint w32 ρ ∷ v₂ ∷ v₃ ∷ []
+
   abbrev a : Rules × (Sizes × (RefT (List ℕ) × (ℕ × (RefT (List ℕ) × (RefT (List ℕ) × Unit {0})))))
   a = (rs, (z, (s₁, (ρ, (s₂, (s₃, tt))))))
 
@@ -158,11 +173,17 @@ module _ {M : Type 1} (𝓤 : URA M) (H : Heap 𝓤) (A : Atoms 𝓤) (W : Given
   abbrev ran : List Rule → Run
   ran ts = runs-to (standing z (now s₁) ts) ρ (now s₂) 1 (fives (now s₃))
 
-  exits : (r : ℕ) (u : Val) (m : List ℕ) → ranTo r m ≡ ran front → length m ≡ length (now s₂) → ent 𝓤 (⋆ 𝓤 H A (Tok ∷ ‵ (finally u8 (s₂ .name) m) ∷ ‵ (usize .own r (u ∷ [])) ∷ [])) (Post u)
+  -- what is left at exit with the result r, at the machine value u, and the last list m of the ledger
+  abbrev Left : ℕ → Val → List ℕ → List (Item 𝓤)
+  Left r u m = Tok ∷ ‵ (finally u8 (s₂ .name) m) ∷ ‵ (usize .own r (u ∷ [])) ∷ []
+
+  exits : (r : ℕ) (u : Val) (m : List ℕ) → ranTo r m ≡ ran front → length m ≡ length (now s₂) → ent 𝓤 (⋆ 𝓤 H A (Left r u m)) (Post u)
   exits r u m e len =
-      qed W (Tok ∷ ‵ (finally u8 (s₂ .name) m) ∷ ‵ (usize .own r (u ∷ [])) ∷ []) ∵
-      suffices ! _ (ends-at 𝓤 H A run-listed.ended stayed (run-listed.clauses 𝓤 H A mem run) W y u r (tt, (tt, (tt, (tt, (m, (tt, tt)))))) (tt, (tt, (tt, (tt, (len, (tt, tt))))))) $ says ! (e ∙ ap ran (sym (list.front-is rs))) $ frame ! $
-      nothing ! $ nothing ! $ fjoin ! $ move ! (1 ∷ 0 ∷ []) $ fjoin ! $ nothing ! $ fjoin ! $ nothing ! $ fjoin ! $ nothing ! $ fjoin ! $ nothing ! $ fjoin ! $ done !
+      qed W (Left r u m) ∵
+      suffices ! _ (ends-at 𝓤 H A run-listed.ended stayed (run-listed.clauses 𝓤 H A mem run) W y u r (tt, (tt, (tt, (tt, (m, (tt, tt))))))
+      (tt, (tt, (tt, (tt, (len, (tt, tt))))))) $ says ! (e ∙ ap ran (sym (list.front-is rs))) $ frame ! $
+      nothing ! $ nothing ! $ fjoin ! $ move ! (1 ∷ 0 ∷ []) $ fjoin ! $ nothing ! $ fjoin ! $ nothing ! $ fjoin ! $ nothing ! $ fjoin ! $ nothing ! $
+      fjoin ! $ done !
 
   -- the call of `run_plan`, for the lifetime κ, of the front that lies at b under the name γ
   abbrev s₀ : ℕ → GName → RefT (List Rule)
@@ -175,63 +196,125 @@ module _ {M : Type 1} (𝓤 : URA M) (H : Heap 𝓤) (A : Atoms 𝓤) (W : Given
   Toks κ = ‵ (flft κ fullShare) ⊛ Tok
 
   abbrev to : Lft → ℕ → GName → RunPlan 𝓤 H A mem run .Ghost
-  to κ b γ = (((κ, κs), (fullShare, qs), tt, (s₀ b γ, (z, (s₁, (ρ, (s₂, (s₃, tt)))))), (sliceVal (b, 0) (length front) ∷ [], (mz ∷ [], (v₁ ∷ [], (vint w32 ρ ∷ [], (v₂ ∷ [], (v₃ ∷ [], tt))))))), tt)
+  to κ b γ = (
+    (
+      (κ, κs),
+      (fullShare, qs),
+      tt,
+      (s₀ b γ, (z, (s₁, (ρ, (s₂, (s₃, tt)))))),
+      (sliceVal (b, 0) (length front) ∷ [], (mz ∷ [], (v₁ ∷ [], (vint w32 ρ ∷ [], (v₂ ∷ [], (v₃ ∷ [], tt)))))),
+    ),
+    tt,
+  )
 
-  sent : (κ : Lft) (b : ℕ) (γ : GName) → ent 𝓤 (⋆ 𝓤 H A (Toks κ ∷ ‵ (O₀ κ b γ) ∷ ‵ O₁ ∷ ‵ O₂ ∷ ‵ O₃ ∷ [])) (RunPlan 𝓤 H A mem run .pre (to κ b γ))
+  abbrev Given-run : Lft → ℕ → GName → List (Item 𝓤)
+  Given-run κ b γ = Toks κ ∷ ‵ (O₀ κ b γ) ∷ ‵ O₁ ∷ ‵ O₂ ∷ ‵ O₃ ∷ []
+
+  sent : (κ : Lft) (b : ℕ) (γ : GName) → ent 𝓤 (⋆ 𝓤 H A (Given-run κ b γ)) (RunPlan 𝓤 H A mem run .pre (to κ b γ))
   sent κ b γ =
-      qed W (Toks κ ∷ ‵ (O₀ κ b γ) ∷ ‵ O₁ ∷ ‵ O₂ ∷ ‵ O₃ ∷ []) ∵ says ! (subst (Each Short) (list.front-is rs) short, edges) $ frame ! $
-      nothing ! $ move ! (4 ∷ 0 ∷ []) $ fjoin ! $ move ! (3 ∷ 0 ∷ []) $ fjoin ! $ owned ! u32 (Is u32) (uint-makes 𝓤 H A W w32) ρ _ (refl, gρ) $ fjoin ! $ move ! (2 ∷ 0 ∷ []) $ fjoin ! $
+      qed W (Given-run κ b γ) ∵ says ! (subst (Each Short) (list.front-is rs) short, edges) $ frame ! $
+      nothing ! $ move ! (4 ∷ 0 ∷ []) $ fjoin ! $ move ! (3 ∷ 0 ∷ []) $ fjoin ! $ owned ! u32 (Is u32) (uint-makes 𝓤 H A W w32) ρ _ (refl, gρ) $
+      fjoin ! $ move ! (2 ∷ 0 ∷ []) $ fjoin ! $
       owned ! Z.the-row (Is Z.the-row) (LL.makes Z.the-type Z′.the-plain 𝓤 H A) z _ gz $ fjoin ! $ move ! (1 ∷ 0 ∷ []) $ fjoin ! $ done !
 
+  -- what the lender of the front keeps, and the rest of the array
+  abbrev Kept-front : Lft → ℕ → Item 𝓤
+  Kept-front κ b = ‵ (flent κ (lent.Front R.the-row tt 512 n xs b)) ⊛ ‵ (lent.Rest R.the-row tt 512 n xs b)
+
   -- what is owned at entry, without what is made anew
-  parts : ent 𝓤 (onEntry 𝓤 H A run-listed.signature κs qs a at) (⋆ 𝓤 H A (Tok ∷ ‵ O₁ ∷ ‵ O₂ ∷ ‵ O₃ ∷ []))
+  abbrev At-entry : List (Item 𝓤)
+  At-entry = Tok ∷ ‵ O₁ ∷ ‵ O₂ ∷ ‵ O₃ ∷ []
+
+  parts : ent 𝓤 (onEntry 𝓤 H A run-listed.signature κs qs a at) (⋆ 𝓤 H A At-entry)
   parts =
       qed W (Tok ∷ ‵ (owns (L.the-row ∷ Z.the-row ∷ ShrSlice (named 0) κ₁ u32 ∷ u32 ∷ MutSlice (named 1) κ₂ u8 ∷ ShrSlice (named 2) κ₃ u8 ∷ []) a at) ∷ []) ∵
-      move ! (1 ∷ []) $ fsplit ! $ move ! (1 ∷ []) $ fsplit ! $ move ! (1 ∷ []) $ fsplit ! $ move ! (1 ∷ []) $ fsplit ! $ move ! (1 ∷ []) $ fsplit ! $ move ! (1 ∷ []) $ fsplit ! $ keep ! (7 ∷ 4 ∷ 2 ∷ 0 ∷ []) $ done !
+      move ! (1 ∷ []) $ fsplit ! $ move ! (1 ∷ []) $ fsplit ! $ move ! (1 ∷ []) $ fsplit ! $ move ! (1 ∷ []) $ fsplit ! $ move ! (1 ∷ []) $
+      fsplit ! $ move ! (1 ∷ []) $ fsplit ! $ keep ! (7 ∷ 4 ∷ 2 ∷ 0 ∷ []) $ done !
 
   module _ (C : Calls 𝓤 H) (Λ : Loops 𝓤 H) (fm : FmC 𝓤 H (W .laws) C) (known : Triple 𝓤 (C #replay·run-plan) (RunPlan 𝓤 H A mem run)) where
-    walk : ent 𝓤 (⋆ 𝓤 H A (Tok ∷ ‵ O₁ ∷ ‵ O₂ ∷ ‵ O₃ ∷ [])) (WpFn 𝓤 H C Λ code.function (by-value ∷ mz ∷ v₁ ∷ vint w32 ρ ∷ v₂ ∷ v₃ ∷ []) Post)
+    walk : ent 𝓤 (⋆ 𝓤 H A At-entry) (WpFn 𝓤 H C Λ code.function passed Post)
     walk =
-        qed W (Tok ∷ ‵ O₁ ∷ ‵ O₂ ∷ ‵ O₃ ∷ []) ∵ enter ! C Λ code.function (by-value ∷ mz ∷ v₁ ∷ vint w32 ρ ∷ v₂ ∷ v₃ ∷ []) _ $
-        alloc1 ! (λ l₀. alloc1 ! (λ l₁. alloc1 ! (λ l₂. alloc1 ! (λ l₃. alloc1 ! (λ l₄. alloc1 ! (λ l₅. alloc1 ! (λ l₆. alloc1 ! (λ l₇. alloc1 ! (λ l₈. alloc1 ! (λ l₉. alloc1 ! (λ l₁₀. alloc1 ! (λ l₁₁. alloc1 ! (λ l₁₂. alloc0 ! $ params1 ! $
-        pass1 ! (init ! 22 refl (LL.lawful L.the-type L′.the-laws 𝓤 H A W .typed rs _ is-rs .0)) $ pass1 ! (init ! 20 refl (LL.lawful Z.the-type Z′.the-laws 𝓤 H A W .typed z _ gz .0)) $ pass1 ! (init ! 18 refl (tt, (tt, (record { fits = g₁ .0 }, tt)))) $
-        pass1 ! (init ! 16 refl (tt, record { fits = gρ })) $ pass1 ! (init ! 14 refl (tt, (tt, (record { fits = g₂ .0 }, tt)))) $ pass1 ! (init ! 12 refl (tt, (tt, (record { fits = g₃ .0 }, tt)))) $ pass0 ! $ move ! (26 ∷ 27 ∷ 28 ∷ 29 ∷ []) $
+        qed W At-entry ∵ enter ! C Λ code.function passed _ $
+        alloc1 ! (λ l₀. alloc1 ! (λ l₁. alloc1 ! (λ l₂. alloc1 ! (λ l₃. alloc1 ! (λ l₄. alloc1 ! (λ l₅. alloc1 ! (λ l₆. alloc1 ! (λ l₇.
+        alloc1 ! (λ l₈. alloc1 ! (λ l₉. alloc1 ! (λ l₁₀. alloc1 ! (λ l₁₁. alloc1 ! (λ l₁₂. alloc0 ! $ params1 ! $
+        pass1 ! (init ! 22 refl (LL.lawful L.the-type L′.the-laws 𝓤 H A W .typed rs _ is-rs .0)) $
+        pass1 ! (init ! 20 refl (LL.lawful Z.the-type Z′.the-laws 𝓤 H A W .typed z _ gz .0)) $
+        pass1 ! (init ! 18 refl (tt, (tt, (record { fits = g₁ .0 }, tt)))) $
+        pass1 ! (init ! 16 refl (tt, record { fits = gρ })) $ pass1 ! (init ! 14 refl (tt, (tt, (record { fits = g₂ .0 }, tt)))) $
+        pass1 ! (init ! 12 refl (tt, (tt, (record { fits = g₃ .0 }, tt)))) $ pass0 ! $ move ! (26 ∷ 27 ∷ 28 ∷ 29 ∷ []) $
         -- [the tokens; the juniors; the ledger; the requests; room for _12; …; _1; …; room for _0; …]
-        assigns ! (of-opd ! (load ! (from ! (fld ! refl (stop !))) (look-in ! 26 (sub ! 1 refl (whole !))))) (from ! (stop !)) (init ! 14 refl (list.typed rs 𝓤 H A W is-rs)) $
-        assigns ! (of-opd ! (load ! (from ! (fld ! refl (stop !))) (look-in ! 26 (sub ! 0 refl (whole !))))) (from ! (stop !)) (init ! 12 refl (tt, record { fits = list.counted rs is-rs })) $
+        assigns ! (of-opd ! (load ! (from ! (fld ! refl (stop !))) (look-in ! 26 (sub ! 1 refl (whole !))))) (from ! (stop !))
+        (init ! 14 refl (list.typed rs 𝓤 H A W is-rs)) $
+        assigns ! (of-opd ! (load ! (from ! (fld ! refl (stop !))) (look-in ! 26 (sub ! 0 refl (whole !))))) (from ! (stop !))
+        (init ! 12 refl (tt, record { fits = list.counted rs is-rs })) $
         -- the local's front is lent for a lifetime of the call
-        lft-new ! tt (λ α. owned ! (Array R.the-row 512) (Is (Array R.the-row 512)) (array-makes 𝓤 H A W R.the-row (LL.makes R.the-type R′.the-plain 𝓤 H A) 512) xs (array ∷ []) (list.is-array rs is-rs) $ move ! (16 ∷ 0 ∷ []) $
-        use2 W (later (some (λ (γ : GName). ‵ (O₀ (α ∷ []) l₇ γ) ⊛ (‵ (flent (α ∷ []) (lent.Front R.the-row tt 512 n xs l₇)) ⊛ ‵ (lent.Rest R.the-row tt 512 n xs l₇))))) (lent.lends R.the-row tt 512 n xs l₇ 𝓤 H A W (α ∷ []) array list.fits-512 (list.filled rs is-rs)) $ await ! tt $ pick ! (λ γ. split ! $ move ! (1 ∷ []) $ split ! $
+        lft-new ! tt (λ α. owned ! (Array R.the-row 512) (Is (Array R.the-row 512))
+        (array-makes 𝓤 H A W R.the-row (LL.makes R.the-type R′.the-plain 𝓤 H A) 512) xs (array ∷ []) (list.is-array rs is-rs) $
+        move ! (16 ∷ 0 ∷ []) $
+        use2 W (later (some (λ (γ : GName). ‵ (O₀ (α ∷ []) l₇ γ) ⊛ Kept-front (α ∷ []) l₇)))
+        (lent.lends R.the-row tt 512 n xs l₇ 𝓤 H A W (α ∷ []) array list.fits-512 (list.filled rs is-rs)) $ await ! tt $ pick ! (λ γ. split ! $
+        move ! (1 ∷ []) $ split ! $
         -- [the lender's part; the rest; the rules; the call's token; the tokens; the juniors; the ledger; the requests; room for _12; …; …of _7; _6; …]
         assigns ! (addr ! (from ! (stop !))) (from ! (stop !)) (init ! 14 refl (tt, tt)) $
-        assigns ! (agg ! (and-then ! (load ! (from ! (stop !)) (look ! 14 refl)) (and-then ! (load ! (from ! (stop !)) (look ! 16 refl)) (no-more !)))) (from ! (stop !)) (init ! 12 refl (tt, (tt, (record { fits = list.counted rs is-rs }, tt)))) $
+        assigns ! (agg ! (and-then ! (load ! (from ! (stop !)) (look ! 14 refl))
+        (and-then ! (load ! (from ! (stop !)) (look ! 16 refl)) (no-more !)))) (from ! (stop !))
+        (init ! 12 refl (tt, (tt, (record { fits = list.counted rs is-rs }, tt)))) $
         rewrite ! 12 (λ (m : ℕ). ‵ (fat fullShare list.rule-slice l₁₀ 0 (sliceVal (l₇, 0) m))) (sym (list.all-there rs is-rs few)) refl $
         assigns ! (addr ! (from ! (fld ! refl (hop ! (look-in ! 21 (sub ! 0 refl (whole !))) (stop !))))) (from ! (stop !)) (init ! 10 refl (tt, tt)) $
-        assigns ! (agg ! (and-then ! (load ! (from ! (stop !)) (look ! 10 refl)) (and-then ! (load ! (from ! (fld ! refl (stop !))) (look-in ! 21 (sub ! 1 refl (whole !)))) (no-more !)))) (from ! (stop !)) (init ! 8 refl (tt, (tt, (record { fits = g₂ .0 }, tt)))) $
-        move ! (3 ∷ 4 ∷ []) $ join ! $ move ! (0 ∷ 3 ∷ 4 ∷ 5 ∷ 6 ∷ []) $ group ! 5 $ use1 W (raw (RunPlan 𝓤 H A mem run .pre (to (α ∷ []) l₇ γ))) (sent (α ∷ []) l₇ γ) $
-        calls-at ! fm (RunPlan 𝓤 H A mem run) known (to (α ∷ []) l₇ γ) (and-then ! (load ! (from ! (stop !)) (look ! 7 refl)) (and-then ! (load ! (from ! (stop !)) (look ! 22 refl)) (and-then ! (load ! (from ! (stop !)) (look ! 20 refl)) (and-then ! (load ! (from ! (stop !)) (look ! 18 refl)) (and-then ! (load ! (from ! (stop !)) (look ! 3 refl)) (and-then ! (load ! (from ! (stop !)) (look ! 14 refl)) (no-more !))))))) (λ u.
-        returned-last ! tt run-plan.ended (run-plan.clauses 𝓤 H A mem run) (to (α ∷ []) l₇ γ) u (Toks (α ∷ [])) (id⊢ 𝓤 _) (λ r ws. ranTo r (ws .1 .1 .1 .1 .0) ≡ ran front) (λ r ws. id⊢ 𝓤 _) (λ r ws said.
+        assigns ! (agg ! (and-then ! (load ! (from ! (stop !)) (look ! 10 refl))
+        (and-then ! (load ! (from ! (fld ! refl (stop !))) (look-in ! 21 (sub ! 1 refl (whole !)))) (no-more !)))) (from ! (stop !))
+        (init ! 8 refl (tt, (tt, (record { fits = g₂ .0 }, tt)))) $
+        move ! (3 ∷ 4 ∷ []) $ join ! $ move ! (0 ∷ 3 ∷ 4 ∷ 5 ∷ 6 ∷ []) $ group ! 5 $
+        use1 W (raw (RunPlan 𝓤 H A mem run .pre (to (α ∷ []) l₇ γ))) (sent (α ∷ []) l₇ γ) $
+        calls-at ! fm (RunPlan 𝓤 H A mem run) known (to (α ∷ []) l₇ γ)
+        (and-then ! (load ! (from ! (stop !)) (look ! 7 refl))
+        (and-then ! (load ! (from ! (stop !)) (look ! 22 refl))
+        (and-then ! (load ! (from ! (stop !)) (look ! 20 refl))
+        (and-then ! (load ! (from ! (stop !)) (look ! 18 refl))
+        (and-then ! (load ! (from ! (stop !)) (look ! 3 refl)) (and-then ! (load ! (from ! (stop !)) (look ! 14 refl)) (no-more !))))))) (λ u.
+        returned-last ! tt run-plan.ended (run-plan.clauses 𝓤 H A mem run) (to (α ∷ []) l₇ γ) u (Toks (α ∷ [])) (id⊢ 𝓤 _)
+        (λ r ws. ranTo r (ws .1 .1 .1 .1 .0) ≡ ran front) (λ r ws. id⊢ 𝓤 _) (λ r ws said.
         -- [the tokens; the result; what is said of the last values; the lender's part; the rest; _12; …]
-        move ! (2 ∷ []) $ fsplit ! $ drop ! $ fsplit ! $ drop ! $ fsplit ! $ drop ! $ fsplit ! $ drop ! $ fsplit ! $ fsplit ! $ move ! (1 ∷ []) $ feqL ! (λ same.
+        move ! (2 ∷ []) $ fsplit ! $ drop ! $ fsplit ! $ drop ! $ fsplit ! $ drop ! $ fsplit ! $ drop ! $ fsplit ! $ fsplit ! $ move ! (1 ∷ []) $
+        feqL ! (λ same.
         move ! (3 ∷ []) $ peeks ! usize (Is usize) (shows 𝓤 H A usize) r (u ∷ []) (λ is.
         -- [the result; the last list; true; the tokens; the lender's part; the rest; _12; …]
         land ! (from ! (stop !)) (init ! 29 refl (uint-lawful 𝓤 H A W w64 .typed r _ is .0)) $
         -- the lifetime ends, and the room of _7 is back
-        move ! (3 ∷ []) $ split ! $ lft-end ! tt $ move ! (0 ∷ 5 ∷ 6 ∷ []) $ use3 W (later (‵ (froom (lent.τ R.the-row tt 512 n xs l₇) l₇ 0))) (lent.room-back R.the-row tt 512 n xs l₇ 𝓤 H A W (α ∷ []) (list.filled rs is-rs)) $ await ! tt $
+        move ! (3 ∷ []) $ split ! $ lft-end ! tt $ move ! (0 ∷ 5 ∷ 6 ∷ []) $
+        use3 W (later (‵ (froom (lent.τ R.the-row tt 512 n xs l₇) l₇ 0)))
+        (lent.room-back R.the-row tt 512 n xs l₇ 𝓤 H A W (α ∷ []) (list.filled rs is-rs)) $ await ! tt $
         -- [room for _7; the tokens; the result; the last list; true; _12; …]
-        returns ! (look ! 28 refl) $ forget ! 5 refl $ forget ! 7 refl $ forget ! 9 refl $ forget ! 11 refl $ forget ! 13 refl $ forget ! 16 refl $ forget ! 18 refl $ forget ! 20 refl $ forget ! 22 refl $ forget ! 24 refl $ forget ! 26 refl $ forget ! 28 refl $
-        move ! (28 ∷ 29 ∷ 26 ∷ 27 ∷ 24 ∷ 25 ∷ 22 ∷ 23 ∷ 20 ∷ 21 ∷ 18 ∷ 19 ∷ 16 ∷ 17 ∷ 0 ∷ 15 ∷ 13 ∷ 14 ∷ 11 ∷ 12 ∷ 9 ∷ 10 ∷ 7 ∷ 8 ∷ 5 ∷ 6 ∷ []) $ free1 ! $ free1 ! $ free1 ! $ free1 ! $ free1 ! $ free1 ! $ free1 ! $ free1 ! $ free1 ! $ free1 ! $ free1 ! $ free1 ! $ free1 ! $ free0 ! $ keep ! (0 ∷ 2 ∷ 1 ∷ []) $ by ! (exits r u (ws .1 .1 .1 .1 .0) said same))))))))))))))))))))
+        returns ! (look ! 28 refl) $ forget ! 5 refl $ forget ! 7 refl $ forget ! 9 refl $ forget ! 11 refl $ forget ! 13 refl $ forget ! 16 refl $
+        forget ! 18 refl $ forget ! 20 refl $ forget ! 22 refl $ forget ! 24 refl $ forget ! 26 refl $ forget ! 28 refl $
+        move ! (28 ∷ 29 ∷ 26 ∷ 27 ∷ 24 ∷ 25 ∷ 22 ∷ 23 ∷ 20 ∷ 21 ∷ 18 ∷ 19 ∷ 16 ∷ 17 ∷ 0 ∷ 15 ∷ 13 ∷ 14 ∷ 11 ∷ 12 ∷ 9 ∷ 10 ∷ 7 ∷ 8 ∷ 5 ∷ 6 ∷ []) $
+        free1 ! $ free1 ! $ free1 ! $ free1 ! $ free1 ! $ free1 ! $ free1 ! $ free1 ! $ free1 ! $ free1 ! $ free1 ! $ free1 ! $ free1 ! $ free0 ! $
+        keep ! (0 ∷ 2 ∷ 1 ∷ []) $ by ! (exits r u (ws .1 .1 .1 .1 .0) said same))))))))))))))))))))
 
-module _ {M : Type 1} (𝓤 : URA M) (H : Heap 𝓤) (A : Atoms 𝓤) (W : Given 𝓤 H A) (mem : Memory → SProp 𝓤) (run : Routine → Fun 𝓤) (𝓣 : Tables 𝓤 H) (known : Triple 𝓤 (𝓣 .C #replay·run-plan) (RunPlan 𝓤 H A mem run)) where
+module _ {M : Type 1} (𝓤 : URA M) (H : Heap 𝓤) (A : Atoms 𝓤) (W : Given 𝓤 H A) (mem : Memory → SProp 𝓤) (run : Routine → Fun 𝓤) (𝓣 : Tables 𝓤 H)
+    (known : Triple 𝓤 (𝓣 .C #replay·run-plan) (RunPlan 𝓤 H A mem run)) where
   run-listed-walks : Walks 𝓤 H A run-listed.ended stayed (WpFn 𝓤 H (𝓣 .C) (𝓣 .Λ) code.function) (run-listed.clauses 𝓤 H A mem run)
   run-listed-walks = walked 𝓤 H A run-listed.ended stayed (run-listed.clauses 𝓤 H A mem run) (WpFn 𝓤 H (𝓣 .C) (𝓣 .Λ) code.function)
       (λ κs. (LL.vals L.the-type L′.the-laws, (LL.vals Z.the-type Z′.the-laws, (slice-vals, (uint-vals w32, (slice-vals, (slice-vals, tt)))))))
-      (λ κs. (LL.tells L.the-type L′.the-laws, (LL.tells Z.the-type Z′.the-laws, (shr-slice-tells (named 0) (κs .0) u32, (uint-tells w32, (mut-slice-tells (named 1) (κs .1 .0) u8, (shr-slice-tells (named 2) (κs .1 .1 .0) u8, tt)))))))
+      (λ κs. (
+        LL.tells L.the-type L′.the-laws,
+        (
+          LL.tells Z.the-type Z′.the-laws,
+          (
+            shr-slice-tells (named 0) (κs .0) u32,
+            (uint-tells w32, (mut-slice-tells (named 1) (κs .1 .0) u8, (shr-slice-tells (named 2) (κs .1 .1 .0) u8, tt))),
+          ),
+        ),
+      ))
       (λ κs qs bounds a g are. needs 𝓤 _ _ (λ pre. via 𝓤 _
-      (parts 𝓤 H A W mem run (κs .0) (κs .1 .0) (κs .1 .1 .0) (qs .0) (qs .1 .0) (qs .1 .1 .0) (a .0) (a .1 .0) (a .1 .1 .0) (a .1 .1 .1 .0) (a .1 .1 .1 .1 .0) (a .1 .1 .1 .1 .1 .0)
+      -- what is owned at entry, then the walk, both at the same arguments
+      (parts 𝓤 H A W mem run (κs .0) (κs .1 .0) (κs .1 .1 .0) (qs .0) (qs .1 .0) (qs .1 .1 .0) (a .0) (a .1 .0) (a .1 .1 .0) (a .1 .1 .1 .0)
+      (a .1 .1 .1 .1 .0) (a .1 .1 .1 .1 .1 .0)
       (are .0) (are .1 .0) (are .1 .1 .0 .0 .1) (are .1 .1 .1 .0 .1) (are .1 .1 .1 .1 .0 .0 .1) (are .1 .1 .1 .1 .1 .0 .0 .1) (pre .0 .0) (pre .0 .1) (pre .1))
-      (walk 𝓤 H A W mem run (κs .0) (κs .1 .0) (κs .1 .1 .0) (qs .0) (qs .1 .0) (qs .1 .1 .0) (a .0) (a .1 .0) (a .1 .1 .0) (a .1 .1 .1 .0) (a .1 .1 .1 .1 .0) (a .1 .1 .1 .1 .1 .0)
-      (are .0) (are .1 .0) (are .1 .1 .0 .0 .1) (are .1 .1 .1 .0 .1) (are .1 .1 .1 .1 .0 .0 .1) (are .1 .1 .1 .1 .1 .0 .0 .1) (pre .0 .0) (pre .0 .1) (pre .1) (𝓣 .C) (𝓣 .Λ) (fmOf 𝓤 H (W .laws) 𝓣) known)))
+      (walk 𝓤 H A W mem run (κs .0) (κs .1 .0) (κs .1 .1 .0) (qs .0) (qs .1 .0) (qs .1 .1 .0) (a .0) (a .1 .0) (a .1 .1 .0) (a .1 .1 .1 .0)
+      (a .1 .1 .1 .1 .0) (a .1 .1 .1 .1 .1 .0)
+      (are .0) (are .1 .0) (are .1 .1 .0 .0 .1) (are .1 .1 .1 .0 .1) (are .1 .1 .1 .1 .0 .0 .1) (are .1 .1 .1 .1 .1 .0 .0 .1) (pre .0 .0) (pre .0 .1)
+      (pre .1) (𝓣 .C) (𝓣 .Λ) (fmOf 𝓤 H (W .laws) 𝓣) known)))
 
   run-listed-meets : Meets 𝓤 H A run-listed.signature (WpFn 𝓤 H (𝓣 .C) (𝓣 .Λ) code.function) (run-listed.spec 𝓤 H A mem run)
   run-listed-meets = walk-meets 𝓤 H A run-listed.ended stayed W (
@@ -240,7 +323,10 @@ module _ {M : Type 1} (𝓤 : URA M) (H : Heap 𝓤) (A : Atoms 𝓤) (W : Given
       goes-dropped 𝓤 H A W 3 sizes-slot yes (λ κs x f. refl),
       (
         goes-dropped 𝓤 H A W 3 juniors-slot yes (λ κs x f. refl),
-        (goes-dropped 𝓤 H A W 3 roles-slot yes (λ κs x f. refl), (goes-gave-slice 𝓤 H A W 3 1 tt (plain (λ _. u8)), (goes-dropped 𝓤 H A W 3 plan-slot yes (λ κs x f. refl), tt))),
+        (
+          goes-dropped 𝓤 H A W 3 roles-slot yes (λ κs x f. refl),
+          (goes-gave-slice 𝓤 H A W 3 1 tt (plain (λ _. u8)), (goes-dropped 𝓤 H A W 3 plan-slot yes (λ κs x f. refl), tt)),
+        ),
       ),
     ),
   ) (run-listed.clauses 𝓤 H A mem run) (WpFn 𝓤 H (𝓣 .C) (𝓣 .Λ) code.function) (WpFn-mono 𝓤 H (W .laws) 𝓣 code.function) run-listed-walks
@@ -251,4 +337,5 @@ run-listed-spec 𝓤 H 𝓜 𝓖 𝓡 =
     entered 𝓤 H (tripleOf 𝓤 H (𝓖 .A) run-listed.signature (run-listed.spec 𝓤 H (𝓖 .A) (𝓜 .mem) (𝓡 .run)))
     (tables 𝓤 H 𝓜 𝓡 code.env .C) (tables 𝓤 H 𝓜 𝓡 code.env .Λ) #replay·run-listed code.function (code.unfolded 𝓤 H 𝓜 𝓡)
     (run-listed-meets 𝓤 H (𝓖 .A) (givenOf 𝓤 H 𝓜 𝓖) (𝓜 .mem) (𝓡 .run) (tablesOf 𝓤 H 𝓜 (tables 𝓤 H 𝓜 𝓡 code.env))
-    (cited 𝓤 H (RunPlan 𝓤 H (𝓖 .A) (𝓜 .mem) (𝓡 .run)) 𝓜 𝓡 code.env #replay·run-plan run-plan-def.routine code.calls-replay·run-plan (run-plan-thm.met 𝓤 H 𝓜 𝓖 𝓡)))
+    (cited 𝓤 H (RunPlan 𝓤 H (𝓖 .A) (𝓜 .mem) (𝓡 .run)) 𝓜 𝓡 code.env #replay·run-plan run-plan-def.routine code.calls-replay·run-plan
+    (run-plan-thm.met 𝓤 H 𝓜 𝓖 𝓡)))
