@@ -29,7 +29,8 @@ none = record { attr = record { 0 = 0 }; set = 0 }
 -- The test of one named set.
 abbrev test : Bool → List ℕ → Sizes → List ℕ → Query → Want → Bool
 test exactly ledger z juniors query w =
-    cond exactly (eqb (valueSet z juniors (holds ledger) (query .person) (w .attr .0)) (w .set)) (subset (w .set) (valueSet z juniors (holds ledger) (query .person) (w .attr .0)))
+    let held = valueSet z juniors (holds ledger) (query .person) (w .attr .0) in
+    cond exactly (eqb held (w .set)) (subset (w .set) held)
 
 abbrev Inv-loop : tie.InvT-loop
 Inv-loop exactly ledger z juniors query n j₀ j =
@@ -38,12 +39,17 @@ Inv-loop exactly ledger z juniors query n j₀ j =
 abbrev μ-loop : tie.MeasureT-loop
 μ-loop exactly ledger z juniors query n j₀ j = n - j
 
--- The places that the answers name, each seen from a later one.
+-- The places that the answers name, each seen from a later one: the start, from a turn of the loop and from after it.
+abbrev entry-of-turn : tie.In-loop Inv-loop μ-loop → tie.Start Inv-loop μ-loop
+entry-of-turn c = c .before .before .before .before .before .before
+
 abbrev entry : tie.After-loop Inv-loop μ-loop → tie.Start Inv-loop μ-loop
 entry c = c .before .before .before .before .before .before
 
-abbrev entry-from-in-loop : tie.In-loop Inv-loop μ-loop → tie.Start Inv-loop μ-loop
-entry-from-in-loop c = c .before .before .before .before .before .before
+-- The test under the arguments of the function.
+abbrev tested : tie.Start Inv-loop μ-loop → Want → Bool
+tested start =
+    test (start .args .exactly) (start .args .ledger .now) (start .args .b .sizes) (start .args .b .juniors) (start .args .b .query)
 
 cast-n : tie.Need-cast-n Inv-loop μ-loop
 cast-n c = search needs
@@ -53,11 +59,11 @@ loop-holds c = (omega arith, refl)
 
 mul-w : tie.Need-mul-w Inv-loop μ-loop
 unfolding contentsOf
-mul-w c = omega (arith, c .loop-test .taken, entry-from-in-loop c .pre .query-in .few)
+mul-w c = omega (arith, c .loop-test .taken, entry-of-turn c .pre .query-in .few)
 
 element-copy-out-w : tie.Need-element-copy-out-w Inv-loop μ-loop
 unfolding contentsOf
-element-copy-out-w c = omega (arith, c .loop-test .taken, entry-from-in-loop c .pre .query-in .few)
+element-copy-out-w c = omega (arith, c .loop-test .taken, entry-of-turn c .pre .query-in .few)
 
 slice-aggregate-value-set : tie.Need-slice-aggregate-value-set Inv-loop μ-loop
 slice-aggregate-value-set c = search needs
@@ -65,8 +71,8 @@ slice-aggregate-value-set c = search needs
 value-set-requires : tie.Need-value-set-requires Inv-loop μ-loop
 unfolding contentsOf
 value-set-requires c κs =
-    let at-start = entry-from-in-loop (c .before .before .before) in
-    (at-start .pre .sized, at-start .pre .edge-room)
+    let start = entry-of-turn (c .before .before .before) in
+    (start .pre .sized, start .pre .edge-room)
 
 is-wanted-requires : tie.Need-is-wanted-requires Inv-loop μ-loop
 is-wanted-requires c κs = search needs
@@ -74,18 +80,18 @@ is-wanted-requires c κs = search needs
 returns : tie.Need-returns Inv-loop μ-loop
 unfolding wants contentsOf
 returns c =
-    let at-loop-turn = c .before .before .before .before .before .before in
-    let at-loop = at-loop-turn .before in
+    let in-turn = c .before .before .before .before .before .before in
+    let at-loop = in-turn .before in
     let start = at-loop .before .before .before .before .before in
     let b = start .args .b in
-    let P = test (start .args .exactly) (start .args .ledger .now) (b .sizes) (b .juniors) (b .query) in
+    let P = tested start in
     let n = b .query .q in
     let j = at-loop .loop .j in
     let inv = at-loop .loop .inv .1 in
     let room : n ≤ length (b .query .wants) = omega (arith, start .pre .query-in .few, start .pre .query-in .room) in
-    let failed : P (getD (b .query .wants) j none) ≡ false = rw (← c .before .before .value-set .ensures)
-    (sym (c .before .is-wanted .ensures) ∙ not-true _ (c .if1 .taken)) in
-    sym (inv ∙ all-fail P (b .query .wants) n room j none (at-loop-turn .loop-test .taken) failed)
+    let wrong = sym (c .before .is-wanted .ensures) ∙ not-true _ (c .if1 .taken) in
+    let failed : P (getD (b .query .wants) j none) ≡ false = rw (← c .before .before .value-set .ensures) wrong in
+    sym (inv ∙ all-fail P (b .query .wants) n room j none (in-turn .loop-test .taken) failed)
 
 add-j : tie.Need-add-j Inv-loop μ-loop
 add-j c = search needs
@@ -96,28 +102,26 @@ loop-less c = search needs
 loop-again : tie.Need-loop-again Inv-loop μ-loop
 unfolding contentsOf
 loop-again c =
-    let at-loop-turn = c .before .before .before .before .before .before in
-    let at-loop = at-loop-turn .before in
+    let in-turn = c .before .before .before .before .before .before in
+    let at-loop = in-turn .before in
     let start = at-loop .before .before .before .before .before in
     let b = start .args .b in
-    let P = test (start .args .exactly) (start .args .ledger .now) (b .sizes) (b .juniors) (b .query) in
+    let P = tested start in
     let n = b .query .q in
     let j = at-loop .loop .j in
     let inv = at-loop .loop .inv .1 in
     let room : n ≤ length (b .query .wants) = omega (arith, start .pre .query-in .few, start .pre .query-in .room) in
-    let passed : P (getD (b .query .wants) j none) ≡ true = rw (← c .before .before .value-set .ensures)
-    (sym (c .before .is-wanted .ensures) ∙ not-false _ (c .if1 .left)) in (
-      omega (arith, at-loop-turn .loop-test .taken),
-      inv ∙ all-pass P (b .query .wants) n room j none
-          (at-loop-turn .loop-test .taken) passed,
-    )
+    let right = sym (c .before .is-wanted .ensures) ∙ not-false _ (c .if1 .left) in
+    let passed : P (getD (b .query .wants) j none) ≡ true = rw (← c .before .before .value-set .ensures) right in
+    let more = in-turn .loop-test .taken in
+    (omega (arith, more), inv ∙ all-pass P (b .query .wants) n room j none more passed)
 
 returns-2 : tie.Need-returns-2 Inv-loop μ-loop
 unfolding wants contentsOf
 returns-2 c =
     let start = entry c in
     let b = start .args .b in
-    let P = test (start .args .exactly) (start .args .ledger .now) (b .sizes) (b .juniors) (b .query) in
+    let P = tested start in
     let n = b .query .q in
     let j = c .before .loop .j in
     let inv = c .before .loop .inv .1 in

@@ -1,5 +1,6 @@
 -- `replay::is_due` meets its contract: the five bytes are cut out and tested. Assumes nothing.
 use mathlib.Core.Path.{_≡_, sym, ap, _∙_}
+use mathlib.Core.List.{List}
 use Prim.Native.Nat.{ℕ, _+_, _*_, _-_}
 use lib.ListN.{take, drop}
 use borrow.Author.Tests.{not-true, not-false}
@@ -12,6 +13,12 @@ use borrow.Author.Needs.{needs}
 use native.Mathlib.Omega.{arith}
 use Rattle.replay.proofs.is_due.Statement.{statement}
 use Rattle.replay.proofs.is_due.Tie as tie
+
+-- The five bytes that the code cuts out of the plan.
+cut : (plan : List ℕ) (i : ℕ) → take (5 * i + 5 - 5 * i) (drop (5 * i) plan) ≡ fiveAt plan i
+cut plan i =
+    let five : 5 * i + 5 - 5 * i ≡ 5 = omega arith in
+    ap (λ (k : ℕ). take k (drop (5 * i) plan)) five
 
 -- The places that the answers name, each seen from a later one.
 abbrev entry : tie.After-is-request → tie.Start
@@ -41,12 +48,9 @@ is-request-requires c κs = search needs
 returns : tie.Need-returns
 returns c =
     let start = entry (c .before) in
-    let i = start .args .i in
-    let five : 5 * i + 5 - 5 * i ≡ 5 = omega arith in
-    let told = c .before .is-request .ensures ∙ ap (λ (k : ℕ). wellFormed (start .args .z)
-    (take k (drop (5 * i) (start .args .plan .now)))) five in
-    sym (due-not (start .args .z) (start .args .roles) (fiveAt (start .args .plan .now) i)
-    (sym told ∙ not-true _ (c .if1 .taken)))
+    let args = start .args in
+    let told = c .before .is-request .ensures ∙ ap (wellFormed (args .z)) (cut (args .plan .now) (args .i)) in
+    sym (due-not (args .z) (args .roles) (fiveAt (args .plan .now) (args .i)) (sym told ∙ not-true _ (c .if1 .taken)))
 
 request-of-requires : tie.Need-request-of-requires
 request-of-requires c κs = search needs
@@ -56,16 +60,14 @@ has-requires c κs = search needs
 
 returns-2 : tie.Need-returns-2
 returns-2 c =
-    let start = entry (after-is-request c) in
-    let i = start .args .i in
-    let five : 5 * i + 5 - 5 * i ≡ 5 = omega arith in
-    let told = after-is-request c .is-request .ensures ∙ ap (λ (k : ℕ). wellFormed (start .args .z)
-    (take k (drop (5 * i) (start .args .plan .now)))) five in
-    let made = c .before .before .request-of .ensures ∙ ap (λ (k : ℕ). requestOf (take k
-    (drop (5 * i) (start .args .plan .now)))) five in
-    c .has .ensures ∙ ap (λ (r : Request). member (start .args .roles) (r .role .0)) made
-    ∙ sym (due-by-role (start .args .z) (start .args .roles) (fiveAt (start .args .plan .now) i)
-    (sym told ∙ not-false _ (c .before .before .before .if1 .left)))
+    let tested = after-is-request c in
+    let args = entry tested .args in
+    let five = cut (args .plan .now) (args .i) in
+    let told = tested .is-request .ensures ∙ ap (wellFormed (args .z)) five in
+    let made = c .before .before .request-of .ensures ∙ ap requestOf five in
+    let formed = sym told ∙ not-false _ (c .before .before .before .if1 .left) in
+    c .has .ensures ∙ ap (λ (r : Request). member (args .roles) (r .role .0)) made
+    ∙ sym (due-by-role (args .z) (args .roles) (fiveAt (args .plan .now) (args .i)) formed)
 
 pub is-due-spec : {M : Type 1} → statement M
 is-due-spec =

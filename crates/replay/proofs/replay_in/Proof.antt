@@ -10,14 +10,18 @@ use Rattle.replay.proofs.replay_in.Statement.{statement}
 use Rattle.replay.proofs.replay_in.Tie as tie
 
 -- The places that the answers name, each seen from a later one.
+-- `run_in` is called where the length is right, and a `match` on its course follows: the arm `Stopped`, or the arm `Ended` with `is_met`.
 abbrev entry : tie.Else1 → tie.Start
 entry c = c .before .before
 
-abbrev after-run-in : tie.After-known-told → tie.After-run-in
-after-run-in c = c .before .before .before .before
+abbrev length-right : tie.After-run-in → tie.Else1
+length-right c = c .before .before .before
 
-abbrev after-run-in-from-is-met : tie.After-is-met → tie.After-run-in
-after-run-in-from-is-met c = c .before .before .before .before .before
+abbrev run-of-stopped : tie.After-known-told → tie.After-run-in
+run-of-stopped c = c .before .before .before .before
+
+abbrev run-of-ended : tie.After-is-met → tie.After-run-in
+run-of-ended c = c .before .before .before .before .before
 
 returns : tie.Need-returns
 unfolding replayIn
@@ -35,9 +39,11 @@ enum-known-course c = search needs
 returns-2 : tie.Need-returns-2
 unfolding contentsOf
 returns-2 c =
-    let start = entry (after-run-in c .before .before .before) in
-    sym (replay-stops (contentsOf (start .args .b)) (start .args .plan .now) (after-run-in c .before .before .before .if1 .left)
-    (c .before .course .given .0 .0) (stopped _ _ _ _ (after-run-in c .run-in .ensures) (c .before .course .given .1)))
+    let ran = run-of-stopped c in
+    let args = entry (length-right ran) .args in
+    let at-one = c .before .course .given in
+    let led = stopped _ _ _ _ (ran .run-in .ensures) (at-one .1) in
+    sym (replay-stops (contentsOf (args .b)) (args .plan .now) (length-right ran .if1 .left) (at-one .0 .0) led)
 
 enum-told : tie.Need-enum-told
 enum-told c = search needs
@@ -51,21 +57,20 @@ is-met-requires c κs = search needs
 returns-3 : tie.Need-returns-3
 unfolding contentsOf
 returns-3 c =
-    let at-run-in = after-run-in-from-is-met (c .before) in
-    let start = entry (at-run-in .before .before .before) in
-    sym (replay-reaches (contentsOf (start .args .b)) (start .args .plan .now) (at-run-in .before .before .before .if1 .left) _
-    (record { led = ended _ _ _ (at-run-in .run-in .ensures) (c .before .before .before .enum-told .given .1) })
-    (sym (c .before .is-met .ensures) ∙ c .if2 .taken))
+    let ran = run-of-ended (c .before) in
+    let args = entry (length-right ran) .args in
+    let led = ended _ _ _ (ran .run-in .ensures) (c .before .before .before .enum-told .given .1) in
+    let is-met = sym (c .before .is-met .ensures) ∙ c .if2 .taken in
+    sym (replay-reaches (contentsOf (args .b)) (args .plan .now) (length-right ran .if1 .left) _ (record { led = led }) is-met)
 
 returns-4 : tie.Need-returns-4
 unfolding contentsOf
 returns-4 c =
-    let at-run-in = after-run-in-from-is-met (c .before) in
-    let start = entry (at-run-in .before .before .before) in
-    sym (replay-ends-short (contentsOf (start .args .b)) (start .args .plan .now)
-    (at-run-in .before .before .before .if1 .left) _
-    (record { led = ended _ _ _ (at-run-in .run-in .ensures) (c .before .before .before .enum-told .given .1) })
-    (sym (c .before .is-met .ensures) ∙ c .if2 .left))
+    let ran = run-of-ended (c .before) in
+    let args = entry (length-right ran) .args in
+    let led = ended _ _ _ (ran .run-in .ensures) (c .before .before .before .enum-told .given .1) in
+    let unmet = sym (c .before .is-met .ensures) ∙ c .if2 .left in
+    sym (replay-ends-short (contentsOf (args .b)) (args .plan .now) (length-right ran .if1 .left) _ (record { led = led }) unmet)
 
 pub replay-in-spec : {M : Type 1} → statement M
 replay-in-spec =
