@@ -6,9 +6,15 @@ use borrow.Author.Needs.{needs}
 use Rattle.rules.proofs.group_holds.Statement.{statement}
 use Rattle.rules.proofs.group_holds.Tie as tie
 
+-- The places that the answers name, each seen from a later one.
+abbrev start : tie.Then1 → tie.Start
+start c = c .before .before .before .before
+
 returns : tie.Need-returns
 unfolding effectively
-returns c = let at = c .before .before .before .before .args in sym (crew-beyond (at .juniors .now) (at .ledger .now) (at .a) (at .v) (at .c .0) (c .before .before .before .before .pre) (c .if1 .taken))
+returns c =
+    let at = start c .args in
+    sym (crew-beyond (at .juniors .now) (at .ledger .now) (at .a) (at .v) (at .c .0) (start c .pre) (c .if1 .taken))
 
 crew-holds-requires : tie.Need-crew-holds-requires
 crew-holds-requires c κs = search needs

@@ -1,11 +1,23 @@
 -- `rules::holds_effectively` meets its contract: each arm is the definition at its variant. Assumes nothing.
 use mathlib.Core.Path.{sym, ap, _∙_}
+use mathlib.Core.Bool.{Bool}
 use Rattle.rules.specs.declared.Subject.{Subject}
 use Rattle.facts.specs.Facts.{holds}
 use Rattle.rules.specs.Rules.{effectively}
 use borrow.Author.Needs.{needs}
 use Rattle.rules.proofs.holds_effectively.Statement.{statement}
 use Rattle.rules.proofs.holds_effectively.Tie as tie
+
+-- The start, seen from the end of each arm.
+abbrev entry-of-person : tie.After-person-holds → tie.Start
+entry-of-person c = c .before .before .before .before .before .before
+
+abbrev entry-of-crew : tie.After-group-holds → tie.Start
+entry-of-crew c = c .before .before .before .before .before .before
+
+-- What is asked of a subject.
+abbrev asked : tie.Start → Subject → Bool
+asked start s = effectively (start .args .juniors .now) (holds (start .args .ledger .now)) s (start .args .a) (start .args .v)
 
 enum-known-s : tie.Need-enum-known-s
 enum-known-s c = search needs
@@ -21,11 +33,11 @@ group-holds-requires c κs = search needs
 
 returns : tie.Need-returns
 unfolding effectively
-returns c = let at = c .before .before .before .before .before .before .args in c .person-holds .ensures ∙ sym (ap (λ (s : Subject). effectively (at .juniors .now) (holds (at .ledger .now)) s (at .a) (at .v)) (c .before .before .s .given .1))
+returns c = c .person-holds .ensures ∙ sym (ap (asked (entry-of-person c)) (c .before .before .s .given .1))
 
 returns-2 : tie.Need-returns-2
 unfolding effectively
-returns-2 c = let at = c .before .before .before .before .before .before .args in c .group-holds .ensures ∙ sym (ap (λ (s : Subject). effectively (at .juniors .now) (holds (at .ledger .now)) s (at .a) (at .v)) (c .before .before .s2 .given .1))
+returns-2 c = c .group-holds .ensures ∙ sym (ap (asked (entry-of-crew c)) (c .before .before .s2 .given .1))
 
 pub holds-effectively-spec : {M : Type 1} → statement M
 holds-effectively-spec =

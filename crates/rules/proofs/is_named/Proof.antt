@@ -12,7 +12,9 @@ v-of-requires c κs = search needs
 
 returns : tie.Need-returns
 unfolding names
-returns c = rw (c .before .before .before .before .before .before .v-of .ensures, c .before .before .before .before .before .before .before .a-of .ensures)
+returns c =
+    let at-v-of = c .before .before .before .before .before .before in
+    rw (at-v-of .v-of .ensures, at-v-of .before .a-of .ensures)
 
 pub is-named-spec : {M : Type 1} → statement M
 is-named-spec = tie.close (tie.spec a-of-requires v-of-requires returns)

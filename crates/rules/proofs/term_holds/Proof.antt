@@ -24,18 +24,28 @@ is-directly-in-requires c κs = search needs
 
 returns-3 : tie.Need-returns-3
 unfolding termHolds
-returns-3 c = rw (ne-eqb _ _ (c .before .before .before .if1 .left), ne-eqb _ _ (c .before .before .if2 .left), eq-eqb _ _ (c .before .if3 .taken)) (c .is-directly-in .ensures)
+returns-3 c =
+    let not-1 = ne-eqb _ _ (c .before .before .before .if1 .left) in
+    let not-2 = ne-eqb _ _ (c .before .before .if2 .left) in
+    rw (not-1, not-2, eq-eqb _ _ (c .before .if3 .taken)) (c .is-directly-in .ensures)
 
 is-effectively-in-requires : tie.Need-is-effectively-in-requires
 is-effectively-in-requires c κs = search needs
 
 returns-4 : tie.Need-returns-4
 unfolding termHolds
-returns-4 c = rw (ne-eqb _ _ (c .before .before .before .before .if1 .left), ne-eqb _ _ (c .before .before .before .if2 .left), ne-eqb _ _ (c .before .before .if3 .left), eq-eqb _ _ (c .before .if4 .taken)) (c .is-effectively-in .ensures)
+returns-4 c =
+    let not-1 = ne-eqb _ _ (c .before .before .before .before .if1 .left) in
+    let not-2 = ne-eqb _ _ (c .before .before .before .if2 .left) in
+    let not-3 = ne-eqb _ _ (c .before .before .if3 .left) in
+    rw (not-1, not-2, not-3, eq-eqb _ _ (c .before .if4 .taken)) (c .is-effectively-in .ensures)
 
 returns-5 : tie.Need-returns-5
 unfolding termHolds
-returns-5 c = rw (ne-eqb _ _ (c .before .before .before .if1 .left), ne-eqb _ _ (c .before .before .if2 .left), ne-eqb _ _ (c .before .if3 .left), ne-eqb _ _ (c .if4 .left))
+returns-5 c =
+    let not-1 = ne-eqb _ _ (c .before .before .before .if1 .left) in
+    let not-2 = ne-eqb _ _ (c .before .before .if2 .left) in
+    rw (not-1, not-2, ne-eqb _ _ (c .before .if3 .left), ne-eqb _ _ (c .if4 .left))
 
 pub term-holds-spec : {M : Type 1} → statement M
 term-holds-spec =
