@@ -1,4 +1,5 @@
--- `reader::new` meets its contract: a walk of its MIR, by hand. What the slice owns, with the cursor's two numbers, is what the struct owns.
+-- `reader::new` meets its contract: a walk of its MIR, by hand. What the slice owns, with the cursor's two numbers, is what the struct
+-- owns. There is no call and no loop.
 -- Assumes nothing.
 use mathlib.Core.Path.{refl}
 use Prim.Native.Nat.{ℕ}
@@ -50,7 +51,8 @@ use Rattle.reader.proofs.new.Code as code
 abbrev stayed : Stays (new.ended .signature .params) (new.ended .kept)
 stayed = drops (new.ended .signature .params) (new.ended .kept)
 
-module _ {M : Type 1} (𝓤 : URA M) (H : Heap 𝓤) (A : Atoms 𝓤) (W : Given 𝓤 H A) (mem : Memory → SProp 𝓤) (run : Routine → Fun 𝓤) (κ : Lft) (q : Share) (s : RefT (List ℕ)) (c : Cursor) where
+module _ {M : Type 1} (𝓤 : URA M) (H : Heap 𝓤) (A : Atoms 𝓤) (W : Given 𝓤 H A) (mem : Memory → SProp 𝓤) (run : Routine → Fun 𝓤) (κ : Lft) (q : Share)
+    (s : RefT (List ℕ)) (c : Cursor) where
   abbrev α : NamedLft
   α = namedLft 1 0 tt (κ, tt)
 
@@ -73,16 +75,27 @@ module _ {M : Type 1} (𝓤 : URA M) (H : Heap 𝓤) (A : Atoms 𝓤) (W : Given
   abbrev y : walkOf 𝓤 H A new.ended stayed (new.clauses 𝓤 H A mem run) .Ghost
   y = (((κ, tt), (q, tt), tt, (s, (c, tt)), at), tt)
 
+  abbrev Post : Val → SProp 𝓤
+  Post = walkOf 𝓤 H A new.ended stayed (new.clauses 𝓤 H A mem run) .post y
+
   module _ (C : Calls 𝓤 H) (Λ : Loops 𝓤 H) where
-    walk : Is (ShrSlice (named 0) κ u8) s (v ∷ []) → Is K.the-row c (w ∷ []) → ent 𝓤 (onEntry 𝓤 H A new.signature (κ, tt) (q, tt) (s, (c, tt)) at) (WpFn 𝓤 H C Λ code.function (v ∷ w ∷ []) (walkOf 𝓤 H A new.ended stayed (new.clauses 𝓤 H A mem run) .post y))
+    walk : Is (ShrSlice (named 0) κ u8) s (v ∷ []) → Is K.the-row c (w ∷ [])
+        → ent 𝓤 (onEntry 𝓤 H A new.signature (κ, tt) (q, tt) (s, (c, tt)) at) (WpFn 𝓤 H C Λ code.function (v ∷ w ∷ []) Post)
     walk p pc =
         qed W (Tok ∷ ‵ (owns (ShrSlice (named 0) κ u8 ∷ K.the-row ∷ []) (s, (c, tt)) at) ∷ []) ∵ enter ! C Λ code.function (v ∷ w ∷ []) _ $
         alloc1 ! (λ l₀. alloc1 ! (λ l₁. alloc1 ! (λ l₂. alloc0 ! $ params1 ! $ pass1 ! (init ! 2 refl typed) $ pass1 ! (init ! 0 refl wt) $ pass0 ! $
-        assigns ! (agg ! (and-then ! (load ! (from ! (stop !)) (look ! 2 refl)) (and-then ! (load ! (from ! (fld ! refl (stop !))) (look-in ! 0 (sub ! 0 refl (whole !)))) (and-then ! (load ! (from ! (fld ! refl (stop !))) (look-in ! 0 (sub ! 1 refl (whole !)))) (no-more !))))) (from ! (stop !)) (init ! 4 refl (tt, (typed .1, (wt .1 .0, (wt .1 .1 .0, tt))))) $
-        returns ! (look ! 4 refl) $ forget ! 0 refl $ forget ! 2 refl $ forget ! 4 refl $ move ! (4 ∷ 5 ∷ []) $ free1 ! $ move ! (2 ∷ 3 ∷ []) $ free1 ! $ free1 ! $ free0 ! $
+        assigns ! (agg ! (and-then ! (load ! (from ! (stop !)) (look ! 2 refl))
+        (and-then ! (load ! (from ! (fld ! refl (stop !))) (look-in ! 0 (sub ! 0 refl (whole !))))
+        (and-then ! (load ! (from ! (fld ! refl (stop !))) (look-in ! 0 (sub ! 1 refl (whole !)))) (no-more !))))) (from ! (stop !))
+        (init ! 4 refl (tt, (typed .1, (wt .1 .0, (wt .1 .1 .0, tt))))) $
+        returns ! (look ! 4 refl) $ forget ! 0 refl $ forget ! 2 refl $ forget ! 4 refl $ move ! (4 ∷ 5 ∷ []) $ free1 ! $ move ! (2 ∷ 3 ∷ []) $
+        free1 ! $ free1 ! $ free0 ! $
         -- [the token; what the slice and the cursor own]: the slice's part stays, and the numbers' facts are had for nothing
-        move ! (1 ∷ []) $ fsplit ! $ move ! (1 ∷ []) $ drop ! $ nothing ! $ owned ! usize (Is usize) (uint-makes 𝓤 H A W w64) (c .line) _ (refl, wt .1 .1 .0 .fits) $ fjoin ! $ owned ! usize (Is usize) (uint-makes 𝓤 H A W w64) (c .at) _ (refl, wt .1 .0 .fits) $ fjoin ! $ move ! (1 ∷ 0 ∷ []) $ fjoin ! $
-        use1 W (‵ (T.the-row α .own made (T′.lowered made ∷ []))) (own-shut 𝓤 H A W (T.the-type α) (T′.the-laws α) (s, (c .at, (c .line, tt)))) $ move ! (1 ∷ 0 ∷ []) $
+        move ! (1 ∷ []) $ fsplit ! $ move ! (1 ∷ []) $ drop ! $ nothing ! $
+        owned ! usize (Is usize) (uint-makes 𝓤 H A W w64) (c .line) _ (refl, wt .1 .1 .0 .fits) $ fjoin ! $
+        owned ! usize (Is usize) (uint-makes 𝓤 H A W w64) (c .at) _ (refl, wt .1 .0 .fits) $ fjoin ! $ move ! (1 ∷ 0 ∷ []) $ fjoin ! $
+        use1 W (‵ (T.the-row α .own made (T′.lowered made ∷ []))) (own-shut 𝓤 H A W (T.the-type α) (T′.the-laws α) (s, (c .at, (c .line, tt)))) $
+        move ! (1 ∷ 0 ∷ []) $
         by ! (leaves 𝓤 H A W new.ended (new.clauses 𝓤 H A mem run) y (T′.lowered made) made (tt, (tt, tt)) (factI 𝓤 _ (emp 𝓤) (refl, (refl, refl)))))))
       where
         typed : Holds (hasTy (sliceTy (tyRef (named 0) imm (tyInt w8))) v) × WT v
@@ -93,11 +106,14 @@ module _ {M : Type 1} (𝓤 : URA M) (H : Heap 𝓤) (A : Atoms 𝓤) (W : Given
 
 module _ {M : Type 1} (𝓤 : URA M) (H : Heap 𝓤) (A : Atoms 𝓤) (W : Given 𝓤 H A) (mem : Memory → SProp 𝓤) (run : Routine → Fun 𝓤) (𝓣 : Tables 𝓤 H) where
   new-walks : Walks 𝓤 H A new.ended stayed (WpFn 𝓤 H (𝓣 .C) (𝓣 .Λ) code.function) (new.clauses 𝓤 H A mem run)
-  new-walks = walked 𝓤 H A new.ended stayed (new.clauses 𝓤 H A mem run) (WpFn 𝓤 H (𝓣 .C) (𝓣 .Λ) code.function) (λ κs. (slice-vals, (LL.vals K.the-type K′.the-laws, tt))) (λ κs. (shr-slice-tells (named 0) (κs .0) u8, (LL.tells K.the-type K′.the-laws, tt)))
+  new-walks = walked 𝓤 H A new.ended stayed (new.clauses 𝓤 H A mem run) (WpFn 𝓤 H (𝓣 .C) (𝓣 .Λ) code.function)
+      (λ κs. (slice-vals, (LL.vals K.the-type K′.the-laws, tt))) (λ κs. (shr-slice-tells (named 0) (κs .0) u8, (LL.tells K.the-type K′.the-laws, tt)))
       (λ κs qs bounds a g are. via 𝓤 _ (fst∗ 𝓤 _ (emp 𝓤)) (walk 𝓤 H A W mem run (κs .0) (qs .0) (a .0) (a .1 .0) (𝓣 .C) (𝓣 .Λ) (are .0) (are .1 .0)))
 
   new-meets : Meets 𝓤 H A new.signature (WpFn 𝓤 H (𝓣 .C) (𝓣 .Λ) code.function) (new.spec 𝓤 H A mem run)
-  new-meets = walk-meets 𝓤 H A new.ended stayed W (goes 𝓤 H A W 1 (new.ended .signature .params) (new.ended .kept) ((λ κs x f. refl), ((λ κs x f. refl), tt))) (new.clauses 𝓤 H A mem run) (WpFn 𝓤 H (𝓣 .C) (𝓣 .Λ) code.function) (WpFn-mono 𝓤 H (W .laws) 𝓣 code.function) new-walks
+  new-meets = walk-meets 𝓤 H A new.ended stayed W
+      (goes 𝓤 H A W 1 (new.ended .signature .params) (new.ended .kept) ((λ κs x f. refl), ((λ κs x f. refl), tt)))
+      (new.clauses 𝓤 H A mem run) (WpFn 𝓤 H (𝓣 .C) (𝓣 .Λ) code.function) (WpFn-mono 𝓤 H (W .laws) 𝓣 code.function) new-walks
 
 pub new-spec : {M : Type 1} → stated.statement M
 unfolding code.routine tablesOf
