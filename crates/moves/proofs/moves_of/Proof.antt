@@ -1,7 +1,9 @@
--- `moves::moves_of` meets its contract: a walk of its MIR, by hand, with the loop. Each turn takes one rule by a call of `rule_at` and hands it, with the buffer, to `gather`. All that the proof knows of the two is that each meets its contract.
--- The invariant is the contract for the first i rules: their moves stand in the buffer from move `from` on to before move k, and what stood before them is as
--- it was. The measure is the count of the rules left.
--- The rules are Copy: what the slice owns is had twice at the call of `rule_at`, one for the callee and one that is kept. The buffer is lent again to `gather`, for a lifetime of the call, and comes back at the list that `gather` left.
+-- `moves::moves_of` meets its contract: a walk of its MIR, by hand, with the loop. Each turn takes one rule by a call of `rule_at` and hands
+-- it, with the buffer, to `gather`. All that the proof knows of the two is that each meets its contract.
+-- The invariant is the contract for the first i rules: their moves stand in the buffer from move `from` on to before move k, and what stood
+-- before them is as it was. The measure is the count of the rules left.
+-- The rules are Copy: what the slice owns is had twice at the call of `rule_at`, one for the callee and one that is kept. The buffer is lent
+-- again to `gather`, for a lifetime of the call, and comes back at the list that `gather` left.
 -- Assumes nothing.
 use mathlib.Core.Path.{_≡_, refl, sym, ap, _∙_, subst}
 use Prim.Native.Nat.{ℕ, _+_, _-_, _<_, _^_}
@@ -23,6 +25,7 @@ use prog.Memory.{Memory}
 use prog.Routine.{Routine}
 use prog.Wp.{Heap, Out, Env, afterSeq, afterBlock, afterTurn, Calls, Loops, Wp, atReturn, WpFn, Tables}
 use ghost.Atoms.{Atoms}
+use contract.Lifetimes.{Lfts, Shares}
 use contract.Monad.{Fun}
 use contract.Running.{givenOf, tables, tablesOf}
 use types.Kit.{Given, Item, Sq, runs, anyQ, atRet, ‵, raw, _⊛_, ⋆, some, later, pick, _$_, _∵_, !, qed, by, move, keep, drop, use2, use3, split, join, rewrite, fsplit}
@@ -158,12 +161,27 @@ module _ {M : Type 1} (𝓤 : URA M) (H : Heap 𝓤) (A : Atoms 𝓤) (W : Given
   abbrev a : RefT (List Rule) × (ℕ × (ℕ × (ℕ × (ℕ × (RefT (List ℕ) × Unit {0})))))
   a = (s, (p₁, (p₂, (p₃, (p₄, (x γ ys, tt))))))
 
-  abbrev at : Vals moves-of.signature (κ₀, (κ₁, tt))
+  -- the lifetimes and their shares, together
+  abbrev κs : Lfts 2
+  κs = (κ₀, (κ₁, tt))
+
+  abbrev qs : Shares 2
+  qs = (q₀, (q₁, tt))
+
+  -- the arguments as the machine has them
+  abbrev passed : List Val
+  passed = v ∷ vint w8 p₁ ∷ vint w8 p₂ ∷ vint w32 p₃ ∷ vint w64 p₄ ∷ u ∷ []
+
+  abbrev at : Vals moves-of.signature κs
   at = (v ∷ [], (vint w8 p₁ ∷ [], (vint w8 p₂ ∷ [], (vint w32 p₃ ∷ [], (vint w64 p₄ ∷ [], (u ∷ [], tt))))))
 
-  abbrev Post : Val → SProp 𝓤
-  Post = walkOf 𝓤 H A moves-of.ended stayed (moves-of.clauses 𝓤 H A mem run) .post (((κ₀, (κ₁, tt)), (q₀, (q₁, tt)), tt, a, at), tt)
+  abbrev y : walkOf 𝓤 H A moves-of.ended stayed (moves-of.clauses 𝓤 H A mem run) .Ghost
+  y = ((κs, qs, tt, a, at), tt)
 
+  abbrev Post : Val → SProp 𝓤
+  Post = walkOf 𝓤 H A moves-of.ended stayed (moves-of.clauses 𝓤 H A mem run) .post y
+
+  -- what the rules and the buffer own, and the rules' token
   abbrev Read : Fml
   Read = ShrSlice (named 0) κ₀ T.the-row .own s (v ∷ [])
 
@@ -173,13 +191,22 @@ module _ {M : Type 1} (𝓤 : URA M) (H : Heap 𝓤) (A : Atoms 𝓤) (W : Given
   abbrev Tok : Item 𝓤
   Tok = ‵ (flft κ₀ q₀) ⊛ ‵ ftrue
 
-  exits : (r : ℕ) (zs : List ℕ) → r < 2 ^ 64 → Gathered rs p₁ p₂ p₃ p₄ ys n r zs → ent 𝓤 (⋆ 𝓤 H A (Tok ∷ ‵ Read ∷ ‵ (flft κ₁ q₁) ∷ ‵ (Write zs) ∷ []))
-      (Post (vint w64 r))
+  -- what is owned at entry, and the tokens and what they are of with the buffer at the list zs
+  abbrev At-entry : List (Item 𝓤)
+  At-entry =
+      (‵ (flft κ₀ q₀) ⊛ (‵ (flft κ₁ q₁) ⊛ ‵ ftrue))
+      ∷ ‵ (owns (ShrSlice (named 0) κ₀ T.the-row ∷ u8 ∷ u8 ∷ u32 ∷ usize ∷ MutSlice (named 1) κ₁ u16 ∷ []) a at) ∷ []
+
+  abbrev Had : List ℕ → List (Item 𝓤) → List (Item 𝓤)
+  Had zs Γ = Tok ∷ ‵ Read ∷ ‵ (flft κ₁ q₁) ∷ ‵ (Write zs) ∷ Γ
+
+  exits : (r : ℕ) (zs : List ℕ) → r < 2 ^ 64 → Gathered rs p₁ p₂ p₃ p₄ ys n r zs → ent 𝓤 (⋆ 𝓤 H A (Had zs [])) (Post (vint w64 r))
   exits r zs gr e =
-      qed W (Tok ∷ ‵ Read ∷ ‵ (flft κ₁ q₁) ∷ ‵ (Write zs) ∷ []) ∵
-      suffices ! _ (ends-at 𝓤 H A moves-of.ended stayed (moves-of.clauses 𝓤 H A mem run) W (((κ₀, (κ₁, tt)), (q₀, (q₁, tt)), tt, a, at), tt) (vint w64 r) r
+      qed W (Had zs []) ∵
+      suffices ! _ (ends-at 𝓤 H A moves-of.ended stayed (moves-of.clauses 𝓤 H A mem run) W y (vint w64 r) r
       (tt, (tt, (tt, (tt, (tt, (zs, tt)))))) (tt, (tt, (tt, (tt, (tt, (e .size, tt))))))) $ says ! e $
-      keep ! (0 ∷ 2 ∷ 3 ∷ []) $ split ! $ move ! (2 ∷ 1 ∷ []) $ join ! $ move ! (1 ∷ 0 ∷ []) $ join ! $ frame ! $ owned ! usize (Is usize) (uint-makes 𝓤 H A W w64) r _ (refl, gr) $
+      keep ! (0 ∷ 2 ∷ 3 ∷ []) $ split ! $ move ! (2 ∷ 1 ∷ []) $ join ! $ move ! (1 ∷ 0 ∷ []) $ join ! $ frame ! $
+      owned ! usize (Is usize) (uint-makes 𝓤 H A W w64) r _ (refl, gr) $
       nothing ! $ move ! (2 ∷ 0 ∷ []) $ fjoin ! $ nothing ! $ fjoin ! $ nothing ! $ fjoin ! $ nothing ! $ fjoin ! $ nothing ! $ fjoin ! $ nothing ! $ fjoin ! $
       done !
 
@@ -189,15 +216,35 @@ module _ {M : Type 1} (𝓤 : URA M) (H : Heap 𝓤) (A : Atoms 𝓤) (W : Given
 
   -- the call of `gather`, for the lifetime ν, at the rule r with the machine value z, the count k and the buffer's list zs under the name δ
   abbrev to-gather : ℕ → GName → Rule → Val → ℕ → List ℕ → Gather 𝓤 H A mem run .Ghost
-  to-gather ν δ r z k zs = (((ν ∷ [], tt), (fullShare, tt), tt, (r, (p₁, (p₂, (p₃, (k, (x δ zs, tt)))))), (z ∷ [], (vint w8 p₁ ∷ [], (vint w8 p₂ ∷ [], (vint w32 p₃ ∷ [], (vint w64 k ∷ [], (u ∷ [], tt))))))), tt)
+  to-gather ν δ r z k zs = (
+    (
+      (ν ∷ [], tt),
+      (fullShare, tt),
+      tt,
+      (r, (p₁, (p₂, (p₃, (k, (x δ zs, tt)))))),
+      (z ∷ [], (vint w8 p₁ ∷ [], (vint w8 p₂ ∷ [], (vint w32 p₃ ∷ [], (vint w64 k ∷ [], (u ∷ [], tt)))))),
+    ),
+    tt,
+  )
 
-  goes-gather : (ν : ℕ) (δ : GName) (r : Rule) (z : Val) (k : ℕ) (zs : List ℕ) → k < 2 ^ 64 → GoodRule r × ((chosenIn p₁ p₂ p₃ r ≡ true → k < 512) ×
-      (length zs ≡ 7168))
-      → ent 𝓤 (⋆ 𝓤 H A (‵ (flft (ν ∷ []) fullShare) ∷ ‵ (MutSlice (named 0) (ν ∷ []) u16 .own (x δ zs) (u ∷ [])) ∷ ‵ (T.the-row .own r (z ∷ [])) ∷ [])) (Gather 𝓤 H A mem run .pre (to-gather ν δ r z k zs))
+  abbrev Lent : ℕ → GName → List ℕ → Fml
+  Lent ν δ zs = MutSlice (named 0) (ν ∷ []) u16 .own (x δ zs) (u ∷ [])
+
+  abbrev Given-gather : ℕ → GName → Rule → Val → List ℕ → List (Item 𝓤)
+  Given-gather ν δ r z zs = ‵ (flft (ν ∷ []) fullShare) ∷ ‵ (Lent ν δ zs) ∷ ‵ (T.the-row .own r (z ∷ [])) ∷ []
+
+  -- what it asks of the rule, the count and the buffer
+  abbrev Asked-gather : Rule → ℕ → List ℕ → Type 0
+  Asked-gather r k zs = GoodRule r × ((chosenIn p₁ p₂ p₃ r ≡ true → k < 512) × (length zs ≡ 7168))
+
+  goes-gather : (ν : ℕ) (δ : GName) (r : Rule) (z : Val) (k : ℕ) (zs : List ℕ) → k < 2 ^ 64 → Asked-gather r k zs
+      → ent 𝓤 (⋆ 𝓤 H A (Given-gather ν δ r z zs)) (Gather 𝓤 H A mem run .pre (to-gather ν δ r z k zs))
   goes-gather ν δ r z k zs gk asks =
-      qed W (‵ (flft (ν ∷ []) fullShare) ∷ ‵ (MutSlice (named 0) (ν ∷ []) u16 .own (x δ zs) (u ∷ [])) ∷ ‵ (T.the-row .own r (z ∷ [])) ∷ []) ∵ says ! asks $ nothing ! $ move ! (1 ∷ 0 ∷ []) $ join ! $ frame ! $
-      nothing ! $ move ! (1 ∷ 0 ∷ []) $ fjoin ! $ owned ! usize (Is usize) (uint-makes 𝓤 H A W w64) k _ (refl, gk) $ fjoin ! $ owned ! u32 (Is u32) (uint-makes 𝓤 H A W w32) p₃ _ (refl, g₃) $ fjoin ! $
-      owned ! u8 (Is u8) (uint-makes 𝓤 H A W w8) p₂ _ (refl, g₂) $ fjoin ! $ owned ! u8 (Is u8) (uint-makes 𝓤 H A W w8) p₁ _ (refl, g₁) $ fjoin ! $ move ! (1 ∷ 0 ∷ []) $ fjoin ! $ done !
+      qed W (Given-gather ν δ r z zs) ∵ says ! asks $ nothing ! $ move ! (1 ∷ 0 ∷ []) $ join ! $ frame ! $
+      nothing ! $ move ! (1 ∷ 0 ∷ []) $ fjoin ! $ owned ! usize (Is usize) (uint-makes 𝓤 H A W w64) k _ (refl, gk) $ fjoin ! $
+      owned ! u32 (Is u32) (uint-makes 𝓤 H A W w32) p₃ _ (refl, g₃) $ fjoin ! $
+      owned ! u8 (Is u8) (uint-makes 𝓤 H A W w8) p₂ _ (refl, g₂) $ fjoin ! $ owned ! u8 (Is u8) (uint-makes 𝓤 H A W w8) p₁ _ (refl, g₁) $ fjoin ! $
+      move ! (1 ∷ 0 ∷ []) $ fjoin ! $ done !
 
   -- how far the loop is, with the count of the moves and the buffer's list, and the order in which it comes nearer to the end
   abbrev Upto : Type 0
@@ -209,8 +256,8 @@ module _ {M : Type 1} (𝓤 : URA M) (H : Heap 𝓤) (A : Atoms 𝓤) (W : Given
   Nearer-wf : WellFounded Nearer
   Nearer-wf = InvImage·wf (λ (i : Upto). n - i .0) (Nat·lt-wfRel .wf)
 
-  module _ (𝓣 : Tables 𝓤 H) (known-at : Triple 𝓤 (𝓣 .C #rule_list·rule-at) (RuleAt 𝓤 H A mem run)) (known-gather : Triple 𝓤 (𝓣 .C #moves·gather)
-      (Gather 𝓤 H A mem run)) (l₀ l₁ l₂ l₃ l₄ l₅ l₆ l₇ l₈ l₉ l₁₀ l₁₁ l₁₂ l₁₃ : ℕ) where
+  module _ (𝓣 : Tables 𝓤 H) (known-at : Triple 𝓤 (𝓣 .C #rule_list·rule-at) (RuleAt 𝓤 H A mem run))
+      (known-gather : Triple 𝓤 (𝓣 .C #moves·gather) (Gather 𝓤 H A mem run)) (l₀ l₁ l₂ l₃ l₄ l₅ l₆ l₇ l₈ l₉ l₁₀ l₁₁ l₁₂ l₁₃ : ℕ) where
     abbrev C : Calls 𝓤 H
     C = 𝓣 .C
 
@@ -221,25 +268,30 @@ module _ {M : Type 1} (𝓤 : URA M) (H : Heap 𝓤) (A : Atoms 𝓤) (W : Given
     fm = fmOf 𝓤 H (W .laws) 𝓣
 
     abbrev En : Env 𝓤 H
-    En = (word, l₀) ∷ (slice, l₁) ∷ (byte, l₂) ∷ (byte, l₃) ∷ (set, l₄) ∷ (word, l₅) ∷ (buffer, l₆) ∷ (word, l₇) ∷ (word, l₈) ∷ (word, l₉) ∷ (tyBool, l₁₀) ∷
-        (T′.mir, l₁₁) ∷ (ref, l₁₂) ∷ (again-slice, l₁₃) ∷ []
+    En =
+        (word, l₀) ∷ (slice, l₁) ∷ (byte, l₂) ∷ (byte, l₃) ∷ (set, l₄) ∷ (word, l₅) ∷ (buffer, l₆) ∷ (word, l₇) ∷ (word, l₈) ∷ (word, l₉)
+        ∷ (tyBool, l₁₀) ∷ (T′.mir, l₁₁) ∷ (ref, l₁₂) ∷ (again-slice, l₁₃) ∷ []
 
     -- the locals that no turn touches, `_6` to `_1`, and room for the result
     abbrev Kept : List (Item 𝓤)
-    Kept = ‵ (fat fullShare buffer l₆ 0 u) ∷ ‵ (fdies buffer l₆) ∷ ‵ (fat fullShare word l₅ 0 (vint w64 p₄)) ∷ ‵ (fdies word l₅) ∷ ‵
-        (fat fullShare set l₄ 0 (vint w32 p₃)) ∷ ‵ (fdies set l₄) ∷ ‵ (fat fullShare byte l₃ 0 (vint w8 p₂)) ∷ ‵ (fdies byte l₃) ∷ ‵
-        (fat fullShare byte l₂ 0 (vint w8 p₁)) ∷ ‵ (fdies byte l₂)
+    Kept =
+        ‵ (fat fullShare buffer l₆ 0 u) ∷ ‵ (fdies buffer l₆) ∷ ‵ (fat fullShare word l₅ 0 (vint w64 p₄)) ∷ ‵ (fdies word l₅)
+        ∷ ‵ (fat fullShare set l₄ 0 (vint w32 p₃)) ∷ ‵ (fdies set l₄) ∷ ‵ (fat fullShare byte l₃ 0 (vint w8 p₂)) ∷ ‵ (fdies byte l₃)
+        ∷ ‵ (fat fullShare byte l₂ 0 (vint w8 p₁)) ∷ ‵ (fdies byte l₂)
         ∷ ‵ (fat fullShare slice l₁ 0 v) ∷ ‵ (fdies slice l₁) ∷ ‵ (froom word l₀ 0) ∷ ‵ (fdies word l₀) ∷ []
 
     -- the invariant
     abbrev At : Upto → List (Item 𝓤)
-    At j = Tok ∷ ‵ Read ∷ ‵ (flft κ₁ q₁) ∷ ‵ (Write (j .1 .1 .0)) ∷ ‵ (froom again-slice l₁₃ 0) ∷ ‵ (fdies again-slice l₁₃) ∷ ‵ (froom ref l₁₂ 0) ∷ ‵
-        (fdies ref l₁₂) ∷ ‵ (froom T′.mir l₁₁ 0) ∷ ‵ (fdies T′.mir l₁₁) ∷ ‵ (froom tyBool l₁₀ 0) ∷ ‵ (fdies tyBool l₁₀)
-        ∷ ‵ (froom word l₉ 0) ∷ ‵ (fdies word l₉) ∷ ‵ (fat fullShare word l₈ 0 (vint w64 (j .0))) ∷ ‵ (fdies word l₈) ∷ ‵
-        (fat fullShare word l₇ 0 (vint w64 (j .1 .0))) ∷ ‵ (fdies word l₇) ∷ Kept
+    At j =
+        Had (j .1 .1 .0) (‵ (froom again-slice l₁₃ 0) ∷ ‵ (fdies again-slice l₁₃) ∷ ‵ (froom ref l₁₂ 0) ∷ ‵ (fdies ref l₁₂)
+        ∷ ‵ (froom T′.mir l₁₁ 0) ∷ ‵ (fdies T′.mir l₁₁) ∷ ‵ (froom tyBool l₁₀ 0) ∷ ‵ (fdies tyBool l₁₀) ∷ ‵ (froom word l₉ 0) ∷ ‵ (fdies word l₉)
+        ∷ ‵ (fat fullShare word l₈ 0 (vint w64 (j .0))) ∷ ‵ (fdies word l₈) ∷ ‵ (fat fullShare word l₇ 0 (vint w64 (j .1 .0))) ∷ ‵ (fdies word l₇)
+        ∷ Kept)
 
     abbrev Turned : Upto → Out → SProp 𝓤
-    Turned j = afterTurn 𝓤 H (Below 𝓤 H A Nearer At j) (afterBlock 𝓤 H (afterSeq 𝓤 H (Wp 𝓤 H C Λ En mir.t-4 (atReturn 𝓤 H En Post)) (atReturn 𝓤 H En Post)))
+    Turned j =
+        afterTurn 𝓤 H (Below 𝓤 H A Nearer At j)
+        (afterBlock 𝓤 H (afterSeq 𝓤 H (Wp 𝓤 H C Λ En mir.t-4 (atReturn 𝓤 H En Post)) (atReturn 𝓤 H En Post)))
 
     -- a turn, by how the loop's test comes out
     turn : (j : Upto) (t : Bool) → ltb (j .0) n ≡ t → Sq W (At j) (runs C Λ En mir.turn-1 (anyQ (Turned j)))
@@ -247,19 +299,23 @@ module _ {M : Type 1} (𝓤 : URA M) (H : Heap 𝓤) (A : Atoms 𝓤) (W : Given
     turn (i, (k, (zs, g))) true e =
         assigns ! (of-opd ! (load ! (from ! (fld ! refl (stop !))) (look-in ! 28 (sub ! 1 refl (whole !))))) (from ! (stop !))
         (init ! 12 refl (tt, record { fits = gn .0 })) $
-        assigns ! (bin ! (load ! (from ! (stop !)) (look ! 14 refl)) (load ! (from ! (stop !)) (look ! 12 refl)) tt) (from ! (stop !)) (init ! 10 refl (tt, tt)) $
+        assigns ! (bin ! (load ! (from ! (stop !)) (look ! 14 refl)) (load ! (from ! (stop !)) (look ! 12 refl)) tt) (from ! (stop !))
+        (init ! 10 refl (tt, tt)) $
         rewrite ! 10 (λ (t : Bool). ‵ (fat fullShare tyBool l₁₀ 0 (vbool t))) e refl $ stays ! (load ! (from ! (stop !)) (look ! 10 refl)) $
         use2 W (raw (RuleAt 𝓤 H A mem run .pre (to-at i)) ⊛ ‵ Read) (call.goes-at 𝓤 H A mem run W κ₀ q₀ s i i-fits small) $ split ! $
         calls-at ! fm (RuleAt 𝓤 H A mem run) known-at (to-at i) (and-then ! (load ! (from ! (stop !)) (look ! 28 refl))
         (and-then ! (load ! (from ! (stop !)) (look ! 14 refl)) (no-more !))) (λ z.
-        returned ! tt rule-at.ended (rule-at.clauses 𝓤 H A mem run) (to-at i) z Tok (id⊢ 𝓤 _) (λ r. r ≡ getD (now s) i noRule) (λ r ws. id⊢ 𝓤 _) (λ r er. move ! (1 ∷ []) $ peeks ! T.the-row (Is T.the-row) (shows 𝓤 H A T.the-row) r (z ∷ []) (λ is.
+        returned ! tt rule-at.ended (rule-at.clauses 𝓤 H A mem run) (to-at i) z Tok (id⊢ 𝓤 _) (λ r. r ≡ getD (now s) i noRule) (λ r ws. id⊢ 𝓤 _)
+        (λ r er. move ! (1 ∷ []) $ peeks ! T.the-row (Is T.the-row) (shows 𝓤 H A T.the-row) r (z ∷ []) (λ is.
         -- [what the rule owns; the rules' token; what the rules own; the buffer's token; what it owns; _13; …; _12; …; room for _11; …]
         land ! (from ! (stop !)) (init ! 9 refl (LL.lawful T.the-type T′.the-laws 𝓤 H A W .typed r _ is .0)) $
         assigns ! (addr ! (from ! (fld ! refl (hop ! (look-in ! 19 (sub ! 0 refl (whole !))) (stop !))))) (from ! (stop !)) (init ! 7 refl (tt, tt)) $
-        assigns ! (agg ! (and-then ! (load ! (from ! (stop !)) (look ! 7 refl)) (and-then ! (load ! (from ! (fld ! refl (stop !))) (look-in ! 19 (sub ! 1 refl (whole !)))) (no-more !)))) (from ! (stop !)) (init ! 5 refl (tt, (tt, (record { fits = gm .0 }, tt)))) $
+        assigns ! (agg ! (and-then ! (load ! (from ! (stop !)) (look ! 7 refl))
+        (and-then ! (load ! (from ! (fld ! refl (stop !))) (look-in ! 19 (sub ! 1 refl (whole !)))) (no-more !)))) (from ! (stop !))
+        (init ! 5 refl (tt, (tt, (record { fits = gm .0 }, tt)))) $
         -- the buffer is lent again, for a lifetime ν of the call
         lft-new ! tt (λ ν. move ! (5 ∷ 4 ∷ []) $
-        use2 W (later (some (λ (δ : GName). ‵ (MutSlice (named 0) (ν ∷ []) u16 .own (x δ zs) (u ∷ [])) ⊛ ‵ (LentAgain u16 κ₁ (ν ∷ []) q₁ γ b o δ zs))))
+        use2 W (later (some (λ (δ : GName). ‵ (Lent ν δ zs) ⊛ ‵ (LentAgain u16 κ₁ (ν ∷ []) q₁ γ b o δ zs))))
         (lends-at u16 κ₁ (ν ∷ []) q₁ γ b o 𝓤 H A W (named 1) (named 0) m zs (g .size)) $ await ! tt $ pick ! (λ δ. split ! $
         move ! (2 ∷ 0 ∷ 3 ∷ []) $ use3 W (raw (Gather 𝓤 H A mem run .pre (to-gather ν δ r z k zs)))
         (goes-gather ν δ r z k zs k-fits (subst GoodRule (sym (is-rule r er)) (good .good i small), (room-for r er, g .size ∙ sized))) $
@@ -269,32 +325,25 @@ module _ {M : Type 1} (𝓤 : URA M) (H : Heap 𝓤) (A : Atoms 𝓤) (W : Given
         (and-then ! (load ! (from ! (stop !)) (look ! 26 refl)) (and-then ! (load ! (from ! (stop !)) (look ! 24 refl))
         (and-then ! (load ! (from ! (stop !)) (look ! 22 refl)) (and-then ! (load ! (from ! (stop !)) (look ! 16 refl))
         (and-then ! (load ! (from ! (stop !)) (look ! 4 refl)) (no-more !))))))) (λ w.
-        returned-last ! tt gather.ended (gather.clauses 𝓤 H A mem run) (to-gather ν δ r z k zs) w (‵ (flft (ν ∷ []) fullShare) ⊛ ‵ ftrue) (id⊢ 𝓤 _) (λ k′ ws. Taken p₁ p₂ p₃ r k zs k′ (ws .1 .1 .1 .1 .1 .0)) (λ k′ ws. id⊢ 𝓤 _) (λ k′ ws taken.
+        returned-last ! tt gather.ended (gather.clauses 𝓤 H A mem run) (to-gather ν δ r z k zs) w (‵ (flft (ν ∷ []) fullShare) ⊛ ‵ ftrue) (id⊢ 𝓤 _)
+        (λ k′ ws. Taken p₁ p₂ p₃ r k zs k′ (ws .1 .1 .1 .1 .1 .0)) (λ k′ ws. id⊢ 𝓤 _) (λ k′ ws taken.
         move ! (1 ∷ []) $ facts ! usize (Is usize) (shows 𝓤 H A usize) k′ (w ∷ []) (λ ik.
         land ! (from ! (stop !)) (store ! 17 refl (uint-lawful 𝓤 H A W w64 .typed k′ _ ik .0)) $ rewrite ! 17 (λ (y : Val). ‵ (fat fullShare word l₇ 0 y))
         (ap only (ik .0)) refl $
         -- what is said of the buffer's last list
-        move ! (1 ∷ []) $ fsplit ! $ drop ! $ fsplit ! $ drop ! $ fsplit ! $ drop ! $ fsplit ! $ drop ! $ fsplit ! $ drop ! $ fsplit ! $ fsplit ! $ move ! (1 ∷ []) $ feqL ! (λ l.
+        move ! (1 ∷ []) $ fsplit ! $ drop ! $ fsplit ! $ drop ! $ fsplit ! $ drop ! $ fsplit ! $ drop ! $ fsplit ! $ drop ! $ fsplit ! $ fsplit ! $
+        move ! (1 ∷ []) $ feqL ! (λ l.
         -- the lifetime ends, and the buffer comes back at that list
         move ! (2 ∷ []) $ split ! $ lft-end ! tt $ move ! (0 ∷ 4 ∷ 2 ∷ []) $
         use3 W (later (‵ (Write (ws .1 .1 .1 .1 .1 .0)) ⊛ ‵ (flft κ₁ q₁))) (back-at u16 κ₁ (ν ∷ []) q₁ γ b o 𝓤 H A W (named 1) (named 0) m zs (g .size) δ
         (ws .1 .1 .1 .1 .1 .0) gm l) $ await ! tt $ split ! $
         -- [what the buffer owns; its token; …; …; the rules' token; what the rules own; _13; …; _12; …; _11; …; _10; …; _9; …; _8; …; …]
-        assigns-last ! (bin ! (load ! (from ! (stop !)) (look ! 16 refl)) (lit ! tt) (record { fits = next-fits })) (from ! (stop !)) (store ! 16 refl (tt, record { fits = next-fits })) $
+        assigns-last ! (bin ! (load ! (from ! (stop !)) (look ! 16 refl)) (lit ! tt) (record { fits = next-fits })) (from ! (stop !))
+        (store ! 16 refl (tt, record { fits = next-fits })) $
         forget ! 6 refl $ forget ! 8 refl $ forget ! 10 refl $ forget ! 12 refl $ forget ! 14 refl $
         keep ! (4 ∷ 5 ∷ 1 ∷ 0 ∷ 6 ∷ 7 ∷ 8 ∷ 9 ∷ 10 ∷ 11 ∷ 12 ∷ 13 ∷ 14 ∷ 15 ∷ 16 ∷ 17 ∷ 18 ∷ 19 ∷ 20 ∷ 21 ∷ 22 ∷ 23 ∷ 24 ∷ 25 ∷ 26 ∷ 27 ∷ 28 ∷ 29 ∷ 30 ∷ 31
         ∷ 32 ∷ 33 ∷ []) $
-        again ! Nearer At (i, (k, (zs, g))) (
-          i + 1,
-          (
-            k′,
-            (
-              ws .1 .1 .1 .1 .1 .0,
-              gathered-next g small
-                  (subst (λ (y : Rule). Taken p₁ p₂ p₃ y k zs k′ (ws .1 .1 .1 .1 .1 .0)) (is-rule r er) taken),
-            ),
-          ),
-        ) (omega (arith, small)))))))))))
+        again ! Nearer At (i, (k, (zs, g))) (next-turn r er k′ (ws .1 .1 .1 .1 .1 .0) taken) (omega (arith, small)))))))))))
       where
         small : i < n
         small = ltb-true i n e
@@ -311,12 +360,18 @@ module _ {M : Type 1} (𝓤 : URA M) (H : Heap 𝓤) (A : Atoms 𝓤) (W : Given
         is-rule : (r : Rule) → r ≡ getD (now s) i noRule → r ≡ ruleAt rs i
         is-rule r er = er ∙ rule-same (now s) i small
 
+        -- the turn after rule i, whose moves, if it has any, end before move k′
+        next-turn : (r : Rule) → r ≡ getD (now s) i noRule → (k′ : ℕ) (zs′ : List ℕ) → Taken p₁ p₂ p₃ r k zs k′ zs′ → Upto
+        next-turn r er k′ zs′ taken =
+            (i + 1, (k′, (zs′, gathered-next g small (subst (λ (y : Rule). Taken p₁ p₂ p₃ y k zs k′ zs′) (is-rule r er) taken))))
+
         room-for : (r : Rule) → r ≡ getD (now s) i noRule → chosenIn p₁ p₂ p₃ r ≡ true → k < 512
         room-for r er chosen = gathered-room g small room (subst (λ (y : Rule). chosenIn p₁ p₂ p₃ y ≡ true) (is-rule r er) chosen)
     turn (i, (k, (zs, g))) false e =
         assigns ! (of-opd ! (load ! (from ! (fld ! refl (stop !))) (look-in ! 28 (sub ! 1 refl (whole !))))) (from ! (stop !))
         (init ! 12 refl (tt, record { fits = gn .0 })) $
-        assigns ! (bin ! (load ! (from ! (stop !)) (look ! 14 refl)) (load ! (from ! (stop !)) (look ! 12 refl)) tt) (from ! (stop !)) (init ! 10 refl (tt, tt)) $
+        assigns ! (bin ! (load ! (from ! (stop !)) (look ! 14 refl)) (load ! (from ! (stop !)) (look ! 12 refl)) tt) (from ! (stop !))
+        (init ! 10 refl (tt, tt)) $
         rewrite ! 10 (λ (t : Bool). ‵ (fat fullShare tyBool l₁₀ 0 (vbool t))) e refl $ leaves-loop ! (load ! (from ! (stop !)) (look ! 10 refl)) $
         exec ! C Λ En mir.t-4 (atRet En Post) $
         assigns ! (of-opd ! (load ! (from ! (stop !)) (look ! 16 refl))) (from ! (stop !)) (init ! 30 refl (tt, record { fits = k-fits })) $
@@ -332,14 +387,11 @@ module _ {M : Type 1} (𝓤 : URA M) (H : Heap 𝓤) (A : Atoms 𝓤) (W : Given
         last = omega (arith, ltb-false i n e, g .moves .fits)
 
   walk : (𝓣 : Tables 𝓤 H) → Triple 𝓤 (𝓣 .C #rule_list·rule-at) (RuleAt 𝓤 H A mem run) → Triple 𝓤 (𝓣 .C #moves·gather) (Gather 𝓤 H A mem run)
-      → ent 𝓤 (onEntry 𝓤 H A moves-of.signature (κ₀, (κ₁, tt)) (q₀, (q₁, tt)) a at) (WpFn 𝓤 H (𝓣 .C) (𝓣 .Λ) code.function
-      (v ∷ vint w8 p₁ ∷ vint w8 p₂ ∷ vint w32 p₃ ∷ vint w64 p₄ ∷ u ∷ []) Post)
+      → ent 𝓤 (onEntry 𝓤 H A moves-of.signature κs qs a at) (WpFn 𝓤 H (𝓣 .C) (𝓣 .Λ) code.function passed Post)
   walk 𝓣 known-at known-gather =
-      qed W ((‵ (flft κ₀ q₀) ⊛ (‵ (flft κ₁ q₁) ⊛ ‵ ftrue)) ∷ ‵ (owns (ShrSlice (named 0) κ₀ T.the-row ∷ u8 ∷ u8 ∷ u32 ∷ usize ∷ MutSlice (named 1) κ₁ u16 ∷
-      []) a at) ∷ []) ∵ enter ! (𝓣 .C) (𝓣 .Λ) code.function (v ∷ vint w8 p₁ ∷ vint w8 p₂ ∷ vint w32 p₃ ∷ vint w64 p₄ ∷ u ∷ []) _ $
-      alloc1 ! (λ l₀. alloc1 ! (λ l₁. alloc1 ! (λ l₂. alloc1 !
-      (λ l₃. alloc1 ! (λ l₄. alloc1 ! (λ l₅. alloc1 ! (λ l₆. alloc1 !
-      (λ l₇. alloc1 ! (λ l₈. alloc1 ! (λ l₉. alloc1 ! (λ l₁₀. alloc1 ! (λ l₁₁. alloc1 ! (λ l₁₂. alloc1 ! (λ l₁₃. alloc0 ! $ params1 ! $
+      qed W At-entry ∵ enter ! (𝓣 .C) (𝓣 .Λ) code.function passed _ $
+      alloc1 ! (λ l₀. alloc1 ! (λ l₁. alloc1 ! (λ l₂. alloc1 ! (λ l₃. alloc1 ! (λ l₄. alloc1 ! (λ l₅. alloc1 ! (λ l₆. alloc1 ! (λ l₇.
+      alloc1 ! (λ l₈. alloc1 ! (λ l₉. alloc1 ! (λ l₁₀. alloc1 ! (λ l₁₁. alloc1 ! (λ l₁₂. alloc1 ! (λ l₁₃. alloc0 ! $ params1 ! $
       pass1 ! (init ! 24 refl (tt, (tt, (record { fits = gn .0 }, tt)))) $ pass1 ! (init ! 22 refl (tt, record { fits = g₁ })) $
       pass1 ! (init ! 20 refl (tt, record { fits = g₂ })) $ pass1 ! (init ! 18 refl (tt, record { fits = g₃ })) $
       pass1 ! (init ! 16 refl (tt, record { fits = g₄ })) $ pass1 ! (init ! 14 refl (tt, (tt, (record { fits = gm .0 }, tt)))) $ pass0 ! $
@@ -390,5 +442,6 @@ moves-of-spec 𝓤 H 𝓜 𝓖 𝓡 =
     entered 𝓤 H (tripleOf 𝓤 H (𝓖 .A) moves-of.signature (moves-of.spec 𝓤 H (𝓖 .A) (𝓜 .mem) (𝓡 .run)))
     (tables 𝓤 H 𝓜 𝓡 code.env .C) (tables 𝓤 H 𝓜 𝓡 code.env .Λ) #moves·moves-of code.function (code.unfolded 𝓤 H 𝓜 𝓡)
     (moves-of-meets 𝓤 H (𝓖 .A) (givenOf 𝓤 H 𝓜 𝓖) (𝓜 .mem) (𝓡 .run) (tablesOf 𝓤 H 𝓜 (tables 𝓤 H 𝓜 𝓡 code.env))
-    (cited 𝓤 H (RuleAt 𝓤 H (𝓖 .A) (𝓜 .mem) (𝓡 .run)) 𝓜 𝓡 code.env #rule_list·rule-at rule-at-def.routine code.calls-rule-list·rule-at (rule-at-thm.met 𝓤 H 𝓜 𝓖 𝓡))
+    (cited 𝓤 H (RuleAt 𝓤 H (𝓖 .A) (𝓜 .mem) (𝓡 .run)) 𝓜 𝓡 code.env #rule_list·rule-at rule-at-def.routine code.calls-rule-list·rule-at
+    (rule-at-thm.met 𝓤 H 𝓜 𝓖 𝓡))
     (cited 𝓤 H (Gather 𝓤 H (𝓖 .A) (𝓜 .mem) (𝓡 .run)) 𝓜 𝓡 code.env #moves·gather gather-def.routine code.calls-moves·gather (gather-thm.met 𝓤 H 𝓜 𝓖 𝓡)))
