@@ -1,6 +1,7 @@
--- `inherit::crew_tried` and `inherit::juniors_tried`, which call each other, meet their contracts: what is answered is whether the crew passes downwards, and
--- every crew of the set handed back was tried. The loop's invariant: no junior below `j` passes, and the crews of `tried` were tried; its measure is what is left.
--- The crew's number falls from crew to junior: 2c + 1 for the crew, 2c for its juniors. Assumes nothing.
+-- `inherit::crew_tried` and `inherit::juniors_tried`, which call each other, meet their contracts: what is answered is whether the crew
+-- passes downwards, and every crew of the set handed back was tried. The loop's invariant: no junior below `j` passes, and the crews of
+-- `tried` were tried; its measure is what is left. The crew's number falls from crew to junior: 2c + 1 for the crew, 2c for its juniors.
+-- Assumes nothing.
 use Prim.Native.Nat.{_+_, _-_, _*_, _≤_}
 use native.Mathlib.Omega.{arith}
 use mathlib.Core.Path.{_≡_, sym, _∙_}
@@ -52,215 +53,164 @@ juniors-tried-below t =
     (falls 2 juniors-tried-kinds.ps _<_ μ-juniors-tried t)
     juniors-tried.Pre
 
-crew-tried-is-sought-requires : (t : ℕ) → crew-tried-lts.Need-is-sought-requires (
-  is-sought-reads.Asked,
-  is-sought-reads.Learnt,
-  juniors-tried-below t,
-  juniors-tried.Post,
-  with-reads.Asked,
-  with-reads.Learnt,
-) (crew-tried-at t) crew-tried.Post
+-- What the functions that each of the two calls ask and say.
+abbrev crew-claims : ℕ → crew-tried-lts.Claims
+crew-claims t = (is-sought-reads.Asked, is-sought-reads.Learnt, juniors-tried-below t, juniors-tried.Post, with-reads.Asked, with-reads.Learnt)
+
+abbrev juniors-claims : ℕ → juniors-tried-lts.Claims
+juniors-claims t = (has-reads.Asked, has-reads.Learnt, crew-tried-below t, crew-tried.Post)
+
+-- ---------------------------------------------------------------- crew_tried
+
+-- The places that the answers name, each seen from a later one: the start from after the test of the crew itself, and that test from
+-- after the call of `juniors_tried`.
+abbrev crew-entry : (t : ℕ)
+    → crew-tried-lts.After-is-sought (crew-claims t) (crew-tried-at t) crew-tried.Post
+    → crew-tried-lts.Start (crew-claims t) (crew-tried-at t) crew-tried.Post
+crew-entry t c = c .before .before .before
+
+abbrev itself-sought : (t : ℕ)
+    → crew-tried-lts.After-juniors-tried (crew-claims t) (crew-tried-at t) crew-tried.Post
+    → crew-tried-lts.After-is-sought (crew-claims t) (crew-tried-at t) crew-tried.Post
+itself-sought t c = c .before .before
+
+crew-tried-is-sought-requires : (t : ℕ) → crew-tried-lts.Need-is-sought-requires (crew-claims t) (crew-tried-at t) crew-tried.Post
 crew-tried-is-sought-requires t c κs = omega arith
 
-crew-tried-returns : (t : ℕ) → crew-tried-lts.Need-returns (
-  is-sought-reads.Asked,
-  is-sought-reads.Learnt,
-  juniors-tried-below t,
-  juniors-tried.Post,
-  with-reads.Asked,
-  with-reads.Learnt,
-) (crew-tried-at t) crew-tried.Post
+crew-tried-returns : (t : ℕ) → crew-tried-lts.Need-returns (crew-claims t) (crew-tried-at t) crew-tried.Post
 crew-tried-returns t c =
-    let start = c .before .before .before .before in
+    let start = crew-entry t (c .before) in
     let js = start .args .juniors .now in
     let P = sought (holds (start .args .ledger .now)) (start .args .w) in
     (sym (downward-here js P (start .args .c) (sym (c .before .is-sought .ensures) ∙ c .if1 .taken)), start .pre .1 .1)
 
-crew-tried-juniors-tried-requires : (t : ℕ) → crew-tried-lts.Need-juniors-tried-requires (
-  is-sought-reads.Asked,
-  is-sought-reads.Learnt,
-  juniors-tried-below t,
-  juniors-tried.Post,
-  with-reads.Asked,
-  with-reads.Learnt,
-) (crew-tried-at t) crew-tried.Post
-crew-tried-juniors-tried-requires t c κs = (omega arith, (omega arith, c .before .before .before .before .pre .1 .1))
+crew-tried-juniors-tried-requires : (t : ℕ) → crew-tried-lts.Need-juniors-tried-requires (crew-claims t) (crew-tried-at t) crew-tried.Post
+crew-tried-juniors-tried-requires t c κs = (omega arith, (omega arith, crew-entry t (c .before) .pre .1 .1))
 
-crew-tried-returns-2 : (t : ℕ) → crew-tried-lts.Need-returns-2 (
-  is-sought-reads.Asked,
-  is-sought-reads.Learnt,
-  juniors-tried-below t,
-  juniors-tried.Post,
-  with-reads.Asked,
-  with-reads.Learnt,
-) (crew-tried-at t) crew-tried.Post
+crew-tried-returns-2 : (t : ℕ) → crew-tried-lts.Need-returns-2 (crew-claims t) (crew-tried-at t) crew-tried.Post
 crew-tried-returns-2 t c =
-    let start = c .before .before .before .before .before .before in
+    let asked = itself-sought t (c .before) in
+    let start = crew-entry t asked in
     let js = start .args .juniors .now in
     let P = sought (holds (start .args .ledger .now)) (start .args .w) in
-    let itself : P (start .args .c) ≡ false = sym (c .before .before .before .is-sought .ensures) ∙ c .before .before .if1 .left in
+    let itself : P (start .args .c) ≡ false = sym (asked .is-sought .ensures) ∙ c .before .before .if1 .left in
     (c .before .juniors-tried .ensures .0 ∙ by-juniors js P (start .args .c) itself, c .before .juniors-tried .ensures .1)
 
-crew-tried-with-requires : (t : ℕ) → crew-tried-lts.Need-with-requires (
-  is-sought-reads.Asked,
-  is-sought-reads.Learnt,
-  juniors-tried-below t,
-  juniors-tried.Post,
-  with-reads.Asked,
-  with-reads.Learnt,
-) (crew-tried-at t) crew-tried.Post
+crew-tried-with-requires : (t : ℕ) → crew-tried-lts.Need-with-requires (crew-claims t) (crew-tried-at t) crew-tried.Post
 crew-tried-with-requires t c κs = omega arith
 
-crew-tried-returns-3 : (t : ℕ) → crew-tried-lts.Need-returns-3 (
-  is-sought-reads.Asked,
-  is-sought-reads.Learnt,
-  juniors-tried-below t,
-  juniors-tried.Post,
-  with-reads.Asked,
-  with-reads.Learnt,
-) (crew-tried-at t) crew-tried.Post
+crew-tried-returns-3 : (t : ℕ) → crew-tried-lts.Need-returns-3 (crew-claims t) (crew-tried-at t) crew-tried.Post
 crew-tried-returns-3 t c =
-    let start = c .before .before .before .before .before .before .before in
+    let asked = itself-sought t (c .before .before) in
+    let start = crew-entry t asked in
     let js = start .args .juniors .now in
     let P = sought (holds (start .args .ledger .now)) (start .args .w) in
     let below = c .before .before .juniors-tried in
-    let itself : P (start .args .c) ≡ false = sym (c .before .before .before .before .is-sought .ensures) ∙ c .before .before .before .if1 .left in
-    let fails : downward js P (start .args .c) ≡ false = sym (by-juniors js P (start .args .c) itself) ∙ sym (below .ensures .0) ∙ c .before .if2 .left in
+    let itself : P (start .args .c) ≡ false = sym (asked .is-sought .ensures) ∙ c .before .before .before .if1 .left in
+    let down = by-juniors js P (start .args .c) itself in
+    let fails : downward js P (start .args .c) ≡ false = sym down ∙ sym (below .ensures .0) ∙ c .before .if2 .left in
     (sym fails, rw (c .with .ensures) (tried-more js P (below .result .seen) (start .args .c) (below .ensures .1) fails))
 
-abbrev juniors-tried-Inv-loop : juniors-tried-lts.InvT-loop
-juniors-tried-Inv-loop ledger juniors c w seen tried₀ j₀ tried j =
+-- ---------------------------------------------------------------- juniors_tried
+
+abbrev Inv-loop : juniors-tried-lts.InvT-loop
+Inv-loop ledger juniors c w seen tried₀ j₀ tried j =
     (j ≤ c) × ((juniorPasses juniors (sought (holds ledger) w) c j ≡ false) × Tried juniors (sought (holds ledger) w) tried)
 
-abbrev juniors-tried-μ-loop : juniors-tried-lts.MeasureT-loop
-juniors-tried-μ-loop ledger juniors c w seen tried₀ j₀ tried j = c - j
+abbrev μ-loop : juniors-tried-lts.MeasureT-loop
+μ-loop ledger juniors c w seen tried₀ j₀ tried j = c - j
 
-juniors-tried-loop-holds : (t : ℕ) → juniors-tried-lts.Need-loop-holds (
-  has-reads.Asked,
-  has-reads.Learnt,
-  crew-tried-below t,
-  crew-tried.Post,
-) (juniors-tried-at t) juniors-tried.Post juniors-tried-Inv-loop juniors-tried-μ-loop
+-- The places that the answers name, each seen from a later one: the start from the head of the loop, the head of the loop from after the
+-- test whether j is a junior, and that test from after the trial of the junior.
+abbrev juniors-entry : (t : ℕ)
+    → juniors-tried-lts.At-loop (juniors-claims t) (juniors-tried-at t) juniors-tried.Post Inv-loop μ-loop
+    → juniors-tried-lts.Start (juniors-claims t) (juniors-tried-at t) juniors-tried.Post Inv-loop μ-loop
+juniors-entry t c = c .before .before .before
+
+abbrev loop-head : (t : ℕ)
+    → juniors-tried-lts.After-has (juniors-claims t) (juniors-tried-at t) juniors-tried.Post Inv-loop μ-loop
+    → juniors-tried-lts.At-loop (juniors-claims t) (juniors-tried-at t) juniors-tried.Post Inv-loop μ-loop
+loop-head t c = c .before .before .before
+
+abbrev is-junior : (t : ℕ)
+    → juniors-tried-lts.After-crew-tried (juniors-claims t) (juniors-tried-at t) juniors-tried.Post Inv-loop μ-loop
+    → juniors-tried-lts.After-has (juniors-claims t) (juniors-tried-at t) juniors-tried.Post Inv-loop μ-loop
+is-junior t c = c .before .before .before
+
+juniors-tried-loop-holds : (t : ℕ) → juniors-tried-lts.Need-loop-holds (juniors-claims t) (juniors-tried-at t) juniors-tried.Post Inv-loop μ-loop
 juniors-tried-loop-holds t c =
     let start = c .before .before in
     let js = start .args .juniors .now in
     let P = sought (holds (start .args .ledger .now)) (start .args .w) in
     (omega arith, (junior-none js P (start .args .c), start .pre .1 .1))
 
-juniors-tried-mul-has : (t : ℕ) → juniors-tried-lts.Need-mul-has (
-  has-reads.Asked,
-  has-reads.Learnt,
-  crew-tried-below t,
-  crew-tried.Post,
-) (juniors-tried-at t) juniors-tried.Post juniors-tried-Inv-loop juniors-tried-μ-loop
+juniors-tried-mul-has : (t : ℕ) → juniors-tried-lts.Need-mul-has (juniors-claims t) (juniors-tried-at t) juniors-tried.Post Inv-loop μ-loop
 juniors-tried-mul-has t c = omega arith
 
-juniors-tried-shared-slice-read-has : (t : ℕ) → juniors-tried-lts.Need-shared-slice-read-has (
-  has-reads.Asked,
-  has-reads.Learnt,
-  crew-tried-below t,
-  crew-tried.Post,
-) (juniors-tried-at t) juniors-tried.Post juniors-tried-Inv-loop juniors-tried-μ-loop
+juniors-tried-shared-slice-read-has : (t : ℕ)
+    → juniors-tried-lts.Need-shared-slice-read-has (juniors-claims t) (juniors-tried-at t) juniors-tried.Post Inv-loop μ-loop
 juniors-tried-shared-slice-read-has t c = omega arith
 
-juniors-tried-has-requires : (t : ℕ) → juniors-tried-lts.Need-has-requires (
-  has-reads.Asked,
-  has-reads.Learnt,
-  crew-tried-below t,
-  crew-tried.Post,
-) (juniors-tried-at t) juniors-tried.Post juniors-tried-Inv-loop juniors-tried-μ-loop
+juniors-tried-has-requires : (t : ℕ) → juniors-tried-lts.Need-has-requires (juniors-claims t) (juniors-tried-at t) juniors-tried.Post Inv-loop μ-loop
 juniors-tried-has-requires t c κs = omega arith
 
-juniors-tried-has-requires-2 : (t : ℕ) → juniors-tried-lts.Need-has-requires-2 (
-  has-reads.Asked,
-  has-reads.Learnt,
-  crew-tried-below t,
-  crew-tried.Post,
-) (juniors-tried-at t) juniors-tried.Post juniors-tried-Inv-loop juniors-tried-μ-loop
+juniors-tried-has-requires-2 : (t : ℕ) → juniors-tried-lts.Need-has-requires-2 (juniors-claims t) (juniors-tried-at t) juniors-tried.Post Inv-loop μ-loop
 juniors-tried-has-requires-2 t c κs = omega arith
 
-juniors-tried-crew-tried-requires : (t : ℕ) → juniors-tried-lts.Need-crew-tried-requires (
-  has-reads.Asked,
-  has-reads.Learnt,
-  crew-tried-below t,
-  crew-tried.Post,
-) (juniors-tried-at t) juniors-tried.Post juniors-tried-Inv-loop juniors-tried-μ-loop
-juniors-tried-crew-tried-requires t c κs = (omega arith, (omega arith, c .before .before .before .before .before .loop .inv .1 .1))
+juniors-tried-crew-tried-requires : (t : ℕ)
+    → juniors-tried-lts.Need-crew-tried-requires (juniors-claims t) (juniors-tried-at t) juniors-tried.Post Inv-loop μ-loop
+juniors-tried-crew-tried-requires t c κs = (omega arith, (omega arith, loop-head t (c .before .before) .loop .inv .1 .1))
 
-juniors-tried-returns : (t : ℕ) → juniors-tried-lts.Need-returns (
-  has-reads.Asked,
-  has-reads.Learnt,
-  crew-tried-below t,
-  crew-tried.Post,
-) (juniors-tried-at t) juniors-tried.Post juniors-tried-Inv-loop juniors-tried-μ-loop
+juniors-tried-returns : (t : ℕ) → juniors-tried-lts.Need-returns (juniors-claims t) (juniors-tried-at t) juniors-tried.Post Inv-loop μ-loop
 unfolding isJunior
 juniors-tried-returns t c =
-    let start = c .before .before .before .before .before .before .before .before .before .before in
+    let tested = is-junior t (c .before) in
+    let start = juniors-entry t (loop-head t tested) in
     let js = start .args .juniors .now in
     let P = sought (holds (start .args .ledger .now)) (start .args .w) in
-    let turn = c .before .before .before .before .before .before .before .loop in
-    let direct : isJunior js (start .args .c) (turn .j) ≡ true = sym (c .before .before .before .before .has .ensures) ∙ and-both (c .before .before .before .before .has .result) (not (c .before .before .before .has2 .result)) (c .before .before .if1 .taken) .0 in
+    let turn = loop-head t tested .loop in
+    let both = and-both (tested .has .result) (not (c .before .before .before .has2 .result)) (c .before .before .if1 .taken) in
+    let direct : isJunior js (start .args .c) (turn .j) ≡ true = sym (tested .has .ensures) ∙ both .0 in
     let passes : downward js P (turn .j) ≡ true = sym (c .before .crew-tried .ensures .0) ∙ c .if2 .taken in
-    (c .if2 .taken ∙ sym (junior-hit js P (start .args .c) (turn .j) (start .args .c) (c .before .before .before .before .before .before .loop-test .taken) direct passes), c .before .crew-tried .ensures .1)
+    let hit = junior-hit js P (start .args .c) (turn .j) (start .args .c) (tested .before .before .loop-test .taken) direct passes in
+    (c .if2 .taken ∙ sym hit, c .before .crew-tried .ensures .1)
 
-juniors-tried-add-j : (t : ℕ) → juniors-tried-lts.Need-add-j (
-  has-reads.Asked,
-  has-reads.Learnt,
-  crew-tried-below t,
-  crew-tried.Post,
-) (juniors-tried-at t) juniors-tried.Post juniors-tried-Inv-loop juniors-tried-μ-loop
+juniors-tried-add-j : (t : ℕ) → juniors-tried-lts.Need-add-j (juniors-claims t) (juniors-tried-at t) juniors-tried.Post Inv-loop μ-loop
 juniors-tried-add-j t c = omega arith
 
-juniors-tried-loop-less : (t : ℕ) → juniors-tried-lts.Need-loop-less (
-  has-reads.Asked,
-  has-reads.Learnt,
-  crew-tried-below t,
-  crew-tried.Post,
-) (juniors-tried-at t) juniors-tried.Post juniors-tried-Inv-loop juniors-tried-μ-loop
+juniors-tried-loop-less : (t : ℕ) → juniors-tried-lts.Need-loop-less (juniors-claims t) (juniors-tried-at t) juniors-tried.Post Inv-loop μ-loop
 juniors-tried-loop-less t c = omega arith
 
-juniors-tried-loop-again : (t : ℕ) → juniors-tried-lts.Need-loop-again (
-  has-reads.Asked,
-  has-reads.Learnt,
-  crew-tried-below t,
-  crew-tried.Post,
-) (juniors-tried-at t) juniors-tried.Post juniors-tried-Inv-loop juniors-tried-μ-loop
+juniors-tried-loop-again : (t : ℕ) → juniors-tried-lts.Need-loop-again (juniors-claims t) (juniors-tried-at t) juniors-tried.Post Inv-loop μ-loop
 unfolding isJunior
 juniors-tried-loop-again t c =
-    let start = c .before .before .before .before .before .before .before .before in
+    let tested = c .before .before in
+    let start = juniors-entry t (loop-head t tested) in
     let js = start .args .juniors .now in
     let P = sought (holds (start .args .ledger .now)) (start .args .w) in
-    let turn = c .before .before .before .before .before .loop in
+    let turn = loop-head t tested .loop in
+    let more = tested .before .before .loop-test .taken in
     ⊎-elim
     (λ w.
     let fails : downward js P (turn .j) ≡ false = sym (w .1 .ensures .0) ∙ w .2 .left in
-    (omega (arith, c .before .before .before .before .loop-test .taken), (junior-fails js P (start .args .c) (turn .j) (turn .inv .1 .0) fails, rw (w .3) (w .1 .ensures .1))))
+    (omega (arith, more), (junior-fails js P (start .args .c) (turn .j) (turn .inv .1 .0) fails, rw (w .3) (w .1 .ensures .1))))
     (λ w.
-    let skipped = junior-skipped js P (start .args .c) (turn .j) (turn .tried) (c .before .before .has .result) (c .before .has2 .result) (c .before .before .has .ensures) (c .before .has2 .ensures) (turn .inv .1 .1) (turn .inv .1 .0) (w .0 .left) in
-    (omega (arith, c .before .before .before .before .loop-test .taken), (skipped, rw (w .1) (turn .inv .1 .1))))
+    let skipped =
+    junior-skipped js P (start .args .c) (turn .j) (turn .tried) (tested .has .result) (c .before .has2 .result)
+    (tested .has .ensures) (c .before .has2 .ensures) (turn .inv .1 .1) (turn .inv .1 .0) (w .0 .left) in
+    (omega (arith, more), (skipped, rw (w .1) (turn .inv .1 .1))))
     (c .if1 .came)
 
-juniors-tried-returns-2 : (t : ℕ) → juniors-tried-lts.Need-returns-2 (
-  has-reads.Asked,
-  has-reads.Learnt,
-  crew-tried-below t,
-  crew-tried.Post,
-) (juniors-tried-at t) juniors-tried.Post juniors-tried-Inv-loop juniors-tried-μ-loop
+juniors-tried-returns-2 : (t : ℕ) → juniors-tried-lts.Need-returns-2 (juniors-claims t) (juniors-tried-at t) juniors-tried.Post Inv-loop μ-loop
 juniors-tried-returns-2 t c =
-    let start = c .before .before .before .before in
+    let start = juniors-entry t (c .before) in
     let turn = c .before .loop in
     let last : turn .j ≡ start .args .c = omega arith in
     (sym (rw last at (turn .inv .1 .0)), turn .inv .1 .1)
 
 pub +crew-tried+juniors-tried-spec : {M : Type 1} → statement M
-+crew-tried+juniors-tried-spec = close μ-crew-tried μ-juniors-tried (λ t. crew-tried-lts.spec (
-  is-sought-reads.Asked,
-  is-sought-reads.Learnt,
-  juniors-tried-below t,
-  juniors-tried.Post,
-  with-reads.Asked,
-  with-reads.Learnt,
-)
++crew-tried+juniors-tried-spec = close μ-crew-tried μ-juniors-tried (λ t. crew-tried-lts.spec
+    (crew-claims t)
     (crew-tried-at t)
     crew-tried.Post
     (crew-tried-is-sought-requires t)
@@ -270,11 +220,11 @@ pub +crew-tried+juniors-tried-spec : {M : Type 1} → statement M
     (crew-tried-with-requires t)
     (crew-tried-returns-3 t))
     λ t. juniors-tried-lts.spec
-    (has-reads.Asked, has-reads.Learnt, crew-tried-below t, crew-tried.Post)
+    (juniors-claims t)
     (juniors-tried-at t)
     juniors-tried.Post
-    juniors-tried-Inv-loop
-    juniors-tried-μ-loop
+    Inv-loop
+    μ-loop
     (juniors-tried-loop-holds t)
     (juniors-tried-mul-has t)
     (juniors-tried-shared-slice-read-has t)

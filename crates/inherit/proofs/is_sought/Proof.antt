@@ -1,11 +1,23 @@
 -- `inherit::is_sought` meets its contract: each arm is the definition at its variant. Assumes nothing.
 use mathlib.Core.Path.{ap, sym, _∙_}
+use mathlib.Core.Bool.{Bool}
 use Rattle.facts.specs.Facts.{holds}
 use Rattle.inherit.specs.Inner.Search.{sought}
 use Rattle.inherit.specs.declared.Sought.{Sought}
 use borrow.Author.Needs.{needs}
 use Rattle.inherit.proofs.is_sought.Statement.{statement}
 use Rattle.inherit.proofs.is_sought.Tie as tie
+
+-- The start, seen from the end of each arm.
+abbrev entry-of-value : tie.After-fact-holds → tie.Start
+entry-of-value c = c .before .before .before .before .before
+
+abbrev entry-of-crew : tie.After-known-told2 → tie.Start
+entry-of-crew c = c .before .before .before .before
+
+-- What is asked of the function's crew, by what is sought.
+abbrev asked : tie.Start → Sought → Bool
+asked start w = sought (holds (start .args .ledger .now)) w (start .args .c)
 
 enum-known-w : tie.Need-enum-known-w
 enum-known-w c = search needs
@@ -18,15 +30,11 @@ enum-known-w-2 c = search needs
 
 returns : tie.Need-returns
 unfolding sought
-returns c =
-    let start = c .before .before .before .before .before in
-    c .fact-holds .ensures ∙ sym (ap (λ (w : Sought). sought (holds (start .args .ledger .now)) w (start .args .c)) (c .before .before .w .given .1))
+returns c = c .fact-holds .ensures ∙ sym (ap (asked (entry-of-value c)) (c .before .before .w .given .1))
 
 returns-2 : tie.Need-returns-2
 unfolding sought
-returns-2 c =
-    let start = c .before .before .before .before .before in
-    sym (ap (λ (w : Sought). sought (holds (start .args .ledger .now)) w (start .args .c)) (c .before .before .w2 .given .1))
+returns-2 c = sym (ap (asked (entry-of-crew (c .before))) (c .before .before .w2 .given .1))
 
 pub is-sought-spec : {M : Type 1} → statement M
 is-sought-spec =

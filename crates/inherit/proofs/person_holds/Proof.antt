@@ -1,4 +1,5 @@
--- `inherit::person_holds` meets its contract: what the person does not directly hold is effective by the person's crews, or not at all. Assumes nothing.
+-- `inherit::person_holds` meets its contract: what the person does not directly hold is effective by the person's crews, or not at all.
+-- Assumes nothing.
 use mathlib.Core.Bool.{true, false}
 use mathlib.Core.Path.{_≡_, sym, _∙_}
 use Rattle.facts.specs.Facts.{holds}
@@ -10,15 +11,19 @@ use borrow.Author.Needs.{needs}
 use Rattle.inherit.proofs.person_holds.Statement.{statement}
 use Rattle.inherit.proofs.person_holds.Tie as tie
 
+-- The places that the answers name, each seen from a later one.
+abbrev entry : tie.After-fact-holds → tie.Start
+entry c = c .before .before .before
+
 fact-holds-requires : tie.Need-fact-holds-requires
 fact-holds-requires c κs = search needs
 
 returns : tie.Need-returns
 returns c =
-    let start = c .before .before .before .before in
-    let S = holds (start .args .ledger .now) in
-    let direct : S (Holds (start .args .p) (start .args .a) (start .args .v)) ≡ true = sym (c .before .fact-holds .ensures) ∙ c .if1 .taken in
-    sym (person-holds-direct (start .args .juniors .now) S (start .args .p) (start .args .a) (start .args .v) direct)
+    let at = entry (c .before) .args in
+    let S = holds (at .ledger .now) in
+    let direct : S (Holds (at .p) (at .a) (at .v)) ≡ true = sym (c .before .fact-holds .ensures) ∙ c .if1 .taken in
+    sym (person-holds-direct (at .juniors .now) S (at .p) (at .a) (at .v) direct)
 
 person-reaches-requires : tie.Need-person-reaches-requires
 person-reaches-requires c κs = search needs
@@ -26,10 +31,10 @@ person-reaches-requires c κs = search needs
 returns-2 : tie.Need-returns-2
 unfolding crewHolds sought
 returns-2 c =
-    let start = c .before .before .before .before .before in
-    let S = holds (start .args .ledger .now) in
-    let direct : S (Holds (start .args .p) (start .args .a) (start .args .v)) ≡ false = sym (c .before .before .fact-holds .ensures) ∙ c .before .if1 .left in
-    c .person-reaches .ensures ∙ by-crews (start .args .juniors .now) S (start .args .p) (start .args .a) (start .args .v) direct
+    let at = entry (c .before .before) .args in
+    let S = holds (at .ledger .now) in
+    let direct : S (Holds (at .p) (at .a) (at .v)) ≡ false = sym (c .before .before .fact-holds .ensures) ∙ c .before .if1 .left in
+    c .person-reaches .ensures ∙ by-crews (at .juniors .now) S (at .p) (at .a) (at .v) direct
 
 pub person-holds-spec : {M : Type 1} → statement M
 person-holds-spec =

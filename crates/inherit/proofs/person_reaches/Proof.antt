@@ -30,11 +30,15 @@ Inv-loop ledger juniors p w seen₀ d₀ seen d =
 abbrev μ-loop : tie.MeasureT-loop
 μ-loop ledger juniors p w seen₀ d₀ seen d = 32 - d
 
+-- The places that the answers name, each seen from a later one.
+abbrev entry : tie.After-loop Inv-loop μ-loop → tie.Start Inv-loop μ-loop
+entry c = c .before .before .before .before
+
 loop-holds : tie.Need-loop-holds Inv-loop μ-loop
 loop-holds c =
-    let start = c .before .before in
-    let through = enters (start .args .ledger .now) (start .args .juniors .now) (start .args .p) (start .args .w) in
-    (omega arith, (any-zero through, tried-none (start .args .juniors .now) (sought (holds (start .args .ledger .now)) (start .args .w))))
+    let at = c .before .before .args in
+    let P = sought (holds (at .ledger .now)) (at .w) in
+    (omega arith, (any-zero (enters (at .ledger .now) (at .juniors .now) (at .p) (at .w)), tried-none (at .juniors .now) P))
 
 fact-holds-requires : tie.Need-fact-holds-requires Inv-loop μ-loop
 fact-holds-requires c κs = search needs
@@ -44,12 +48,15 @@ crew-tried-requires c κs = (omega arith, c .before .before .before .loop .inv .
 
 returns : tie.Need-returns Inv-loop μ-loop
 returns c =
-    let start = c .before .before .before .before .before .before .before .before in
-    let through = enters (start .args .ledger .now) (start .args .juniors .now) (start .args .p) (start .args .w) in
-    let turn = c .before .before .before .before .before .loop in
-    let direct : holds (start .args .ledger .now) (Member (start .args .p) (record { 0 = turn .d })) ≡ true = sym (c .before .before .before .fact-holds .ensures) ∙ c .before .before .if1 .taken in
-    let below : downward (start .args .juniors .now) (sought (holds (start .args .ledger .now)) (start .args .w)) (turn .d) ≡ true = sym (c .before .crew-tried .ensures .0) ∙ c .if2 .taken in
-    sym (any-from through 32 (turn .d) (rw (direct, below)) (omega arith))
+    let at-loop = c .before .before .before .before .before in
+    let at = at-loop .before .before .before .args in
+    let S = holds (at .ledger .now) in
+    let P = sought S (at .w) in
+    let turn = at-loop .loop in
+    let is-in = c .before .before .before .fact-holds .ensures in
+    let direct : S (Member (at .p) (record { 0 = turn .d })) ≡ true = sym is-in ∙ c .before .before .if1 .taken in
+    let below : downward (at .juniors .now) P (turn .d) ≡ true = sym (c .before .crew-tried .ensures .0) ∙ c .if2 .taken in
+    sym (any-from (enters (at .ledger .now) (at .juniors .now) (at .p) (at .w)) 32 (turn .d) (rw (direct, below)) (omega arith))
 
 add-d : tie.Need-add-d Inv-loop μ-loop
 add-d c = omega arith
@@ -59,25 +66,29 @@ loop-less c = omega arith
 
 loop-again : tie.Need-loop-again Inv-loop μ-loop
 loop-again c =
-    let start = c .before .before .before .before .before .before in
-    let through = enters (start .args .ledger .now) (start .args .juniors .now) (start .args .p) (start .args .w) in
-    let turn = c .before .before .before .loop in
+    let at-loop = c .before .before .before in
+    let at = at-loop .before .before .before .args in
+    let S = holds (at .ledger .now) in
+    let P = sought S (at .w) in
+    let through = enters (at .ledger .now) (at .juniors .now) (at .p) (at .w) in
+    let turn = at-loop .loop in
+    let is-in = S (Member (at .p) (record { 0 = turn .d })) in
+    let more = c .before .before .loop-test .taken in
     ⊎-elim
     (λ w.
-    let below : downward (start .args .juniors .now) (sought (holds (start .args .ledger .now)) (start .args .w)) (turn .d) ≡ false = sym (w .1 .ensures .0) ∙ w .2 .left in
-    (omega (arith, c .before .before .loop-test .taken), (any-next through (turn .d) (turn .inv .1 .0) (rw below (and-false (holds (start .args .ledger .now) (Member (start .args .p) (record { 0 = turn .d }))))), rw (w .3) (w .1 .ensures .1))))
+    let below : downward (at .juniors .now) P (turn .d) ≡ false = sym (w .1 .ensures .0) ∙ w .2 .left in
+    (omega (arith, more), (any-next through (turn .d) (turn .inv .1 .0) (rw below (and-false is-in)), rw (w .3) (w .1 .ensures .1))))
     (λ w.
-    let direct : holds (start .args .ledger .now) (Member (start .args .p) (record { 0 = turn .d })) ≡ false = sym (c .before .fact-holds .ensures) ∙ w .0 .left in
-    (omega (arith, c .before .before .loop-test .taken), (any-next through (turn .d) (turn .inv .1 .0) (rw direct), rw (w .1) (turn .inv .1 .1))))
+    let direct : is-in ≡ false = sym (c .before .fact-holds .ensures) ∙ w .0 .left in
+    (omega (arith, more), (any-next through (turn .d) (turn .inv .1 .0) (rw direct), rw (w .1) (turn .inv .1 .1))))
     (c .if1 .came)
 
 returns-2 : tie.Need-returns-2 Inv-loop μ-loop
 returns-2 c =
-    let start = c .before .before .before .before in
-    let through = enters (start .args .ledger .now) (start .args .juniors .now) (start .args .p) (start .args .w) in
+    let at = entry c .args in
     let turn = c .before .loop in
     let last : turn .d ≡ 32 = omega arith in
-    sym (ap (anyBelow through) (sym last) ∙ turn .inv .1 .0)
+    sym (ap (anyBelow (enters (at .ledger .now) (at .juniors .now) (at .p) (at .w))) (sym last) ∙ turn .inv .1 .0)
 
 pub person-reaches-spec : {M : Type 1} → statement M
 person-reaches-spec =
