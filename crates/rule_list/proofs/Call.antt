@@ -1,4 +1,5 @@
--- The call of `rule_at` in a walk that keeps the lent rules: what it is passed, and that what is had is what it asks, with the slice once more. The slice is Copy: what it owns is had twice.
+-- The call of `rule_at` in a walk that keeps the lent rules: what it is passed, and that what is had is what it asks, with the slice once
+-- more. The slice is Copy: what it owns is had twice.
 --     RuleAt       its contract, as a walk cites it.        to-at     what it is passed for rule i
 --     goes-at      the token and what the slice owns are what it asks for a rule i of the list, and what the slice owns
 -- Assumes `Given`.
