@@ -11,10 +11,13 @@ ghost use Rattle.flags.specs.Inner.Flags.{FlagsWritten, startFlag, added
 ghost use Rattle.flags.specs.Inner.Flags.{SmallWants, badFlag, listedReach, Reaching};
 ghost use Rattle.flags.specs.Inner.Flags.{valueAt, lackingFlag, wantFlag, bannedFlag};
 ghost use Rattle.reach.specs.Inner.Goal.{belowListed};
+ghost use Rattle.widths.specs.Inner.Widths.{levelSize, flagsSize, rowsSize, tableSize};
 use facts::Person;
 use frames::Book;
 use frames::Query;
 use frames::Want;
+use widths::LEVEL_SIZE;
+use widths::ROWS_SIZE;
 
 // Clears n flags from a place on.
 fn clear_flags(s: &mut [bool], at: usize, n: usize)
@@ -67,7 +70,7 @@ fn write_set(facts: &[u8], place: usize, w: usize, s: &mut [bool], at: usize)
 
 // Writes the values of the eight attributes at a place of the ledger.
 fn write_values(facts: &[u8], place: usize, s: &mut [bool])
-    requires { ⌜ (place < 32768) × (length (now s) ≡ 160) ⌝ }
+    requires { ⌜ (place < 32768) × (length (now s) ≡ levelSize) ⌝ }
     ensures { λ _. ⌜ FlagsWritten (now (s .entry)) 0 (valueAt (now (facts .entry)) place) 128 (now (s .exit)) ⌝ }
 {
     let mut a: usize = 0;
@@ -79,10 +82,10 @@ fn write_values(facts: &[u8], place: usize, s: &mut [bool])
 
 // The starting facts of level k.
 pub fn start_flags(facts: &[u8], crews: u8, person: Person, k: u8, s: &mut [bool])
-    requires { ⌜ length (now s) ≡ 160 ⌝ }
-    ensures { λ _. ⌜ FlagsWritten (now (s .entry)) 0 (startFlag (now (facts .entry)) crews person k) 160 (now (s .exit)) ⌝ }
+    requires { ⌜ length (now s) ≡ levelSize ⌝ }
+    ensures { λ _. ⌜ FlagsWritten (now (s .entry)) 0 (startFlag (now (facts .entry)) crews person k) levelSize (now (s .exit)) ⌝ }
 {
-    clear_flags(s, 0, 160);
+    clear_flags(s, 0, LEVEL_SIZE);
     if k < crews {
         if k >= 32 {
             return;
@@ -100,26 +103,26 @@ pub fn start_flags(facts: &[u8], crews: u8, person: Person, k: u8, s: &mut [bool
 
 // Adds row j of the crews to row 32 of the table.
 fn add_last(rows: &[bool], j: u8, table: &mut [bool])
-    requires { ⌜ (j < 32) × ((length (now rows) ≡ 5120) × (length (now table) ≡ 5280)) ⌝ }
-    ensures { λ _. ⌜ FlagsWritten (now (table .entry)) 5120 (addedFlag (now (rows .entry)) j (now (table .entry))) 160 (now (table .exit)) ⌝ }
+    requires { ⌜ (j < 32) × ((length (now rows) ≡ rowsSize) × (length (now table) ≡ tableSize)) ⌝ }
+    ensures { λ _. ⌜ FlagsWritten (now (table .entry)) rowsSize (addedFlag (now (rows .entry)) j (now (table .entry))) levelSize (now (table .exit)) ⌝ }
 {
-    let row = 160 * (j as usize);
+    let row = LEVEL_SIZE * (j as usize);
     let mut f: usize = 0;
-    while f < 160 {
-        let has = table[5120 + f];
+    while f < LEVEL_SIZE {
+        let has = table[ROWS_SIZE + f];
         let more = rows[row + f];
-        table[5120 + f] = has | more;
+        table[ROWS_SIZE + f] = has | more;
         f += 1;
     }
 }
 
 // The last row of the table is what crew k has by its juniors.
 pub fn crew_table(juniors: &[u32], k: u8, rows: &[bool], table: &mut [bool])
-    requires { ⌜ (k < 32) × ((length (now juniors) ≡ 32) × ((length (now rows) ≡ 5120) × (length (now table) ≡ 5280))) ⌝ }
+    requires { ⌜ (k < 32) × ((length (now juniors) ≡ 32) × ((length (now rows) ≡ rowsSize) × (length (now table) ≡ tableSize))) ⌝ }
     ensures { λ _. ⌜ CrewTable (now (juniors .entry)) k (now (rows .entry)) (now (table .entry)) (now (table .exit)) ⌝ }
 {
     let direct = juniors[k as usize];
-    clear_flags(table, 5120, 160);
+    clear_flags(table, ROWS_SIZE, LEVEL_SIZE);
     let mut j: u8 = 0;
     while j < k {
         if sets::has(direct, j) {
@@ -133,31 +136,31 @@ pub fn crew_table(juniors: &[u32], k: u8, rows: &[bool], table: &mut [bool])
 
 // The person's table: the crews' rows, and a last row of nothing.
 pub fn person_table(rows: &[bool], table: &mut [bool])
-    requires { ⌜ (length (now rows) ≡ 5120) × (length (now table) ≡ 5280) ⌝ }
+    requires { ⌜ (length (now rows) ≡ rowsSize) × (length (now table) ≡ tableSize) ⌝ }
     ensures { λ _. ⌜ PersonTable (now (rows .entry)) (now (table .exit)) ⌝ }
 {
-    copy_flags(rows, 0, 5120, table, 0);
-    clear_flags(table, 5120, 160);
+    copy_flags(rows, 0, ROWS_SIZE, table, 0);
+    clear_flags(table, ROWS_SIZE, LEVEL_SIZE);
 }
 
 // Fills crew k's row from the flags of its level and from the last row of its table.
 pub fn fill_row(table: &[bool], k: u8, x: &[bool], rows: &mut [bool])
-    requires { ⌜ (k < 32) × ((length (now x) ≡ 320) × ((length (now table) ≡ 5280) × (length (now rows) ≡ 5120))) ⌝ }
-    ensures { λ _. ⌜ FlagsWritten (now (rows .entry)) (160 * k) (rowFlag (now (table .entry)) k (now (x .entry))) 160 (now (rows .exit)) ⌝ }
+    requires { ⌜ (k < 32) × ((length (now x) ≡ flagsSize) × ((length (now table) ≡ tableSize) × (length (now rows) ≡ rowsSize))) ⌝ }
+    ensures { λ _. ⌜ FlagsWritten (now (rows .entry)) (levelSize * k) (rowFlag (now (table .entry)) k (now (x .entry))) levelSize (now (rows .exit)) ⌝ }
 {
     let own = k as usize;
-    let row = 160 * own;
-    copy_flags(x, 160, 128, rows, row);
+    let row = LEVEL_SIZE * own;
+    copy_flags(x, LEVEL_SIZE, 128, rows, row);
     copy_flags(table, 5248, 32, rows, row + 128);
     rows[row + (128 + own)] = true;
 }
 
 // Each crew's row has the crew itself, and nothing else.
 pub fn first_rows(rows: &mut [bool])
-    requires { ⌜ length (now rows) ≡ 5120 ⌝ }
+    requires { ⌜ length (now rows) ≡ rowsSize ⌝ }
     ensures { λ _. ⌜ FirstRows (now (rows .exit)) ⌝ }
 {
-    clear_flags(rows, 0, 5120);
+    clear_flags(rows, 0, ROWS_SIZE);
     let mut c: usize = 0;
     while c < 32 {
         rows[161 * c + 128] = true;
@@ -180,7 +183,7 @@ fn add_lacking(x: u32, n: usize, s: &mut [bool], at: usize)
 
 // Adds the values that a named set lacks.
 fn add_want(w: Want, bad: &mut [bool])
-    requires { ⌜ length (now bad) ≡ 160 ⌝ }
+    requires { ⌜ length (now bad) ≡ levelSize ⌝ }
     ensures { λ _. ⌜ FlagsWritten (now (bad .entry)) 0 (wantFlag (now (bad .entry)) w) 128 (now (bad .exit)) ⌝ }
 {
     let a = w.attr.0 as usize;
@@ -192,7 +195,7 @@ fn add_want(w: Want, bad: &mut [bool])
 
 // Adds the values that some named set lacks.
 fn add_banned(q: Query, bad: &mut [bool])
-    requires { ⌜ SmallWants q × (length (now bad) ≡ 160) ⌝ }
+    requires { ⌜ SmallWants q × (length (now bad) ≡ levelSize) ⌝ }
     ensures { λ _. ⌜ FlagsWritten (now (bad .entry)) 0 (bannedFlag (now (bad .entry)) q (q .q)) 128 (now (bad .exit)) ⌝ }
 {
     let n = q.q;
@@ -206,10 +209,10 @@ fn add_banned(q: Query, bad: &mut [bool])
 
 // The facts of level k that the query forbids. At a crew's level `below` says whether the crew is listed or lies below a listed one.
 pub fn bad_flags(q: Query, crews: u8, k: u8, below: bool, bad: &mut [bool])
-    requires { ⌜ SmallWants q × (length (now bad) ≡ 160) ⌝ }
-    ensures { λ _. ⌜ FlagsWritten (now (bad .entry)) 0 (badFlag q crews k below) 160 (now (bad .exit)) ⌝ }
+    requires { ⌜ SmallWants q × (length (now bad) ≡ levelSize) ⌝ }
+    ensures { λ _. ⌜ FlagsWritten (now (bad .entry)) 0 (badFlag q crews k below) levelSize (now (bad .exit)) ⌝ }
 {
-    clear_flags(bad, 0, 160);
+    clear_flags(bad, 0, LEVEL_SIZE);
     if q.mode == 1 {
         return;
     }
@@ -226,13 +229,13 @@ pub fn bad_flags(q: Query, crews: u8, k: u8, below: bool, bad: &mut [bool])
 
 // Whether the row of some listed crew reaches crew c.
 fn do_listed_reach(listed: u32, rows: &[bool], c: u8) -> bool
-    requires { ⌜ (c < 32) × (length (now rows) ≡ 5120) ⌝ }
+    requires { ⌜ (c < 32) × (length (now rows) ≡ rowsSize) ⌝ }
     ensures { λ r. ⌜ r ≡ listedReach listed (now (rows .entry)) c ⌝ }
 {
     let mut d: u8 = 0;
     while d < 32 {
         let named = sets::has(listed, d);
-        let reached = rows[160 * (d as usize) + (128 + (c as usize))];
+        let reached = rows[LEVEL_SIZE * (d as usize) + (128 + (c as usize))];
         if named & reached {
             return true;
         }
@@ -243,7 +246,7 @@ fn do_listed_reach(listed: u32, rows: &[bool], c: u8) -> bool
 
 // Whether crew c is listed or lies below a listed crew, by rows that say which crews each crew reaches.
 pub fn is_below_listed(b: Book, rows: &[bool], c: u8) -> bool
-    requires { ⌜ (c < 32) × ((length (now rows) ≡ 5120) × Reaching (b .juniors) (now rows)) ⌝ }
+    requires { ⌜ (c < 32) × ((length (now rows) ≡ rowsSize) × Reaching (b .juniors) (now rows)) ⌝ }
     ensures { λ r. ⌜ r ≡ belowListed (contentsOf b) c ⌝ }
 {
     let q = b.query;

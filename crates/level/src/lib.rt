@@ -4,8 +4,7 @@ ghost use mathlib.Core.Path.{_≡_};
 ghost use mathlib.Core.Bool.{true, false, not, _&&_, _||_};
 ghost use Prim.Native.Nat.{_+_, _*_, _≤_, _<_};
 ghost use lib.ListN.{length, getD};
-ghost use Rattle.theory.specs.Inner.Facts.{_⊆_};
-ghost use Rattle.level.specs.Inner.Shown.{touches, More, rowFlags, Put, direct};
+ghost use Rattle.level.specs.Inner.Shown.{touches, More, rowFlags, Put};
 ghost use Rattle.level.specs.Inner.Moves.{flagsMet, flagsWith, placeOf, Fine, Sound, askOf, moveFrom, moveAt, movesIn};
 ghost use Rattle.level.specs.Inner.Chosen.{chosenIn, Numbers, MovePut};
 ghost use Rattle.level.specs.Inner.Terms.{codeOf, GoodRule, MoveOf};
@@ -13,7 +12,11 @@ ghost use Rattle.level.specs.Inner.Notes.{Noted};
 ghost use Rattle.level.specs.Inner.Build.{Blank, Built, Stripped, Copied, Lacks};
 ghost use Rattle.level.specs.Inner.Sweep.{firesIn, Next, TurnAt, Ready, Closed};
 ghost use Rattle.level.specs.Inner.BackSweep.{backsIn, ReadyBack, ClosedBack};
-ghost use Rattle.level.specs.Inner.Settle.{Lengths, Rounded, Result};
+ghost use Rattle.level.specs.Inner.Settle.{RoundReady, Rounded, Result};
+ghost use Rattle.widths.specs.Inner.Widths.{levelSize, flagsSize, tableSize, movesSize, moveSize};
+use widths::LEVEL_SIZE;
+use widths::MOVE_SIZE;
+use widths::ROWS_SIZE;
 
 // A rule as a move: the fact that it adds or deletes, the bytes of its request, and the places of its terms.
 pub struct Move {
@@ -38,7 +41,7 @@ pub fn place(kind: u8, a: u8, v: u8) -> u16
         return 16 * x + y;
     }
     if kind == 2 {
-        return 160 + (16 * x + y);
+        return LEVEL_SIZE as u16 + (16 * x + y);
     }
     if kind == 3 {
         return 128 + x;
@@ -84,7 +87,7 @@ pub fn move_of(r: Rule) -> Move
 }
 
 // A move as 14 numbers.
-fn numbers_of(m: Move) -> [u16; 14]
+fn numbers_of(m: Move) -> [u16; MOVE_SIZE]
     requires { ⌜ Fine m ⌝ }
     ensures { λ r. ⌜ Numbers m r ⌝ }
 {
@@ -109,23 +112,23 @@ fn numbers_of(m: Move) -> [u16; 14]
 
 // Writes move `k` of a list.
 pub fn put_move(m: Move, k: usize, ms: &mut [u16])
-    requires { ⌜ Fine m × ((k < 512) × (length (now ms) ≡ 7168)) ⌝ }
+    requires { ⌜ Fine m × ((k < 512) × (length (now ms) ≡ movesSize)) ⌝ }
     ensures { λ _. ⌜ MovePut (now (ms .entry)) k m (now (ms .exit)) ⌝ }
 {
     let row = numbers_of(m);
     let mut j: usize = 0;
-    while j < 14 {
-        ms[14 * k + j] = row[j];
+    while j < MOVE_SIZE {
+        ms[MOVE_SIZE * k + j] = row[j];
         j += 1;
     }
 }
 
 // Move `i` of a list.
 pub fn move_at(ms: &[u16], i: usize) -> Move
-    requires { ⌜ (i < 512) × (14 * i + 14 ≤ length (now ms)) ⌝ }
+    requires { ⌜ (i < 512) × (moveSize * i + moveSize ≤ length (now ms)) ⌝ }
     ensures { λ m. ⌜ m ≡ moveAt (movesIn (now (ms .entry))) i ⌝ }
 {
-    let at = 14 * i;
+    let at = MOVE_SIZE * i;
     let terms = [
         ms[at + 6],
         ms[at + 7],
@@ -173,7 +176,7 @@ fn wide(x: u16) -> usize
 // Whether all terms of the move at the place `at` of the numbers hold of the flags `x`. Most moves that are tried do not fire,
 // so the tests read a move's numbers where they stand: no move is made for them.
 pub fn meets(ms: &[u16], at: usize, x: &[bool]) -> bool
-    requires { ⌜ (at + 14 ≤ length (now ms)) × (Fine (moveFrom (now ms) at) × (length (now x) ≡ 320)) ⌝ }
+    requires { ⌜ (at + moveSize ≤ length (now ms)) × (Fine (moveFrom (now ms) at) × (length (now x) ≡ flagsSize)) ⌝ }
     ensures { λ r. ⌜ r ≡ flagsMet (moveFrom (now (ms .entry)) at) (now (x .entry)) ⌝ }
 {
     let n = wide(ms[at + 1]);
@@ -190,19 +193,19 @@ pub fn meets(ms: &[u16], at: usize, x: &[bool]) -> bool
 
 // What the fact `f` adds at the place `k`.
 pub fn touch(table: &[bool], f: usize, k: usize) -> bool
-    requires { ⌜ (f < 160) × ((k < 320) × (length (now table) ≡ 5280)) ⌝ }
+    requires { ⌜ (f < levelSize) × ((k < flagsSize) × (length (now table) ≡ tableSize)) ⌝ }
     ensures { λ r. ⌜ r ≡ touches (now (table .entry)) f k ⌝ }
 {
-    if k < 160 {
+    if k < LEVEL_SIZE {
         return k == f;
     }
-    if k - 160 == f {
+    if k - LEVEL_SIZE == f {
         return true;
     }
     if f < 128 {
         return false;
     }
-    table[160 * (f - 128) + (k - 160)]
+    table[LEVEL_SIZE * (f - 128) + (k - LEVEL_SIZE)]
 }
 
 // Either of two flags.
@@ -217,25 +220,25 @@ fn either(a: bool, b: bool) -> bool
 
 // Adds the row of crew `c` to the effective flags.
 pub fn add_row(table: &[bool], c: usize, x: &mut [bool])
-    requires { ⌜ (c < 32) × ((length (now x) ≡ 320) × (length (now table) ≡ 5280)) ⌝ }
+    requires { ⌜ (c < 32) × ((length (now x) ≡ flagsSize) × (length (now table) ≡ tableSize)) ⌝ }
     ensures { λ _. ⌜ More (now (x .entry)) (rowFlags (now (table .entry)) c) (now (x .exit)) ⌝ }
 {
     let mut k: usize = 0;
-    while k < 160 {
-        let old = x[160 + k];
-        let new = table[160 * c + k];
-        x[160 + k] = either(old, new);
+    while k < LEVEL_SIZE {
+        let old = x[LEVEL_SIZE + k];
+        let new = table[LEVEL_SIZE * c + k];
+        x[LEVEL_SIZE + k] = either(old, new);
         k += 1;
     }
 }
 
 // Puts the fact `f` in.
 pub fn put(table: &[bool], f: usize, x: &mut [bool])
-    requires { ⌜ (f < 160) × ((length (now x) ≡ 320) × (length (now table) ≡ 5280)) ⌝ }
+    requires { ⌜ (f < levelSize) × ((length (now x) ≡ flagsSize) × (length (now table) ≡ tableSize)) ⌝ }
     ensures { λ _. ⌜ Put (now (table .entry)) (now (x .entry)) f (now (x .exit)) ⌝ }
 {
     x[f] = true;
-    x[160 + f] = true;
+    x[LEVEL_SIZE + f] = true;
     if f < 128 {
         return;
     }
@@ -260,10 +263,10 @@ pub fn note(m: Move, subject: u8, k: usize, out: &mut [u8])
 // Whether move `i` adds a fact that is allowed and not there yet, and its terms hold.
 pub fn fires(ms: &[u16], i: usize, allowed: &[bool], x: &[bool]) -> bool
     requires { ⌜ Sound (movesIn (now ms)) × (i < movesIn (now ms) .count) ⌝ }
-    requires { ⌜ (length (now x) ≡ 320) × (length (now allowed) ≡ 160) ⌝ }
+    requires { ⌜ (length (now x) ≡ flagsSize) × (length (now allowed) ≡ levelSize) ⌝ }
     ensures { λ r. ⌜ r ≡ firesIn (moveAt (movesIn (now (ms .entry))) i) (now (allowed .entry)) (now (x .entry)) ⌝ }
 {
-    let at = 14 * i;
+    let at = MOVE_SIZE * i;
     let f = wide(ms[at]);
     if x[f] {
         return false;
@@ -295,10 +298,10 @@ pub struct Turn {
 // Where the sweep goes on: at the move that the next name gives, none quiet before it; or, when no name is left, where it stands.
 // A name that no move has ends the names.
 fn turn_at(names: &[u16], tried: usize, i: usize, quiet: usize, count: usize) -> Turn
-    requires { ⌜ (length (now names) ≡ 160) × ((tried ≤ 160) × (i < count)) ⌝ }
+    requires { ⌜ (length (now names) ≡ levelSize) × ((tried ≤ levelSize) × (i < count)) ⌝ }
     ensures { λ r. ⌜ TurnAt count tried i quiet (r .tried) (r .i) (r .quiet) ⌝ }
 {
-    if tried == 160 {
+    if tried == LEVEL_SIZE {
         return Turn { tried, i, quiet };
     }
     let k = wide(names[tried]);
@@ -310,7 +313,7 @@ fn turn_at(names: &[u16], tried: usize, i: usize, quiet: usize, count: usize) ->
         };
     }
     Turn {
-        tried: 160,
+        tried: LEVEL_SIZE,
         i,
         quiet,
     }
@@ -331,10 +334,10 @@ pub fn close(
 ) -> usize
     requires { ⌜ Sound (movesIn (now adds)) ⌝ }
     requires { ⌜ Ready (now table) (now allowed) (now x) (length (now out)) start ⌝ }
-    requires { ⌜ length (now added) ≡ 160 ⌝ }
+    requires { ⌜ length (now added) ≡ levelSize ⌝ }
     ensures { λ r. ⌜ Closed (movesIn (now (adds .entry))) subject (now (table .entry)) (now (allowed .entry)) (now (x .entry)) (now (x .exit)) start (now (out .entry)) (now (out .exit)) r ⌝ }
 {
-    let count = adds.len() / 14;
+    let count = adds.len() / MOVE_SIZE;
     let mut n: usize = 0;
     let mut quiet: usize = 0;
     let mut i: usize = 0;
@@ -362,7 +365,7 @@ pub fn close(
 
 // Whether `x` with the fact `f` put in shows the place `k`.
 pub fn lit(table: &[bool], f: usize, k: usize, x: &[bool]) -> bool
-    requires { ⌜ (f < 160) × ((k < 320) × ((length (now x) ≡ 320) × (length (now table) ≡ 5280))) ⌝ }
+    requires { ⌜ (f < levelSize) × ((k < flagsSize) × ((length (now x) ≡ flagsSize) × (length (now table) ≡ tableSize))) ⌝ }
     ensures { λ r. ⌜ r ≡ getD (now (x .entry)) k false || touches (now (table .entry)) f k ⌝ }
 {
     if x[k] {
@@ -373,8 +376,8 @@ pub fn lit(table: &[bool], f: usize, k: usize, x: &[bool]) -> bool
 
 // Whether all terms of the move at the place `at` of the numbers hold of `x` with the move's own fact put in.
 pub fn meets_with(ms: &[u16], at: usize, table: &[bool], x: &[bool]) -> bool
-    requires { ⌜ (at + 14 ≤ length (now ms)) × Fine (moveFrom (now ms) at) ⌝ }
-    requires { ⌜ (length (now x) ≡ 320) × (length (now table) ≡ 5280) ⌝ }
+    requires { ⌜ (at + moveSize ≤ length (now ms)) × Fine (moveFrom (now ms) at) ⌝ }
+    requires { ⌜ (length (now x) ≡ flagsSize) × (length (now table) ≡ tableSize) ⌝ }
     ensures { λ r. ⌜ r ≡ flagsWith (moveFrom (now (ms .entry)) at) (now (table .entry)) (now (x .entry)) ⌝ }
 {
     let f = wide(ms[at]);
@@ -393,10 +396,10 @@ pub fn meets_with(ms: &[u16], at: usize, table: &[bool], x: &[bool]) -> bool
 // Whether move `i` deletes a fact of `x` that is not in `y`, and its terms hold of `y` with that fact.
 pub fn backs(ms: &[u16], i: usize, table: &[bool], x: &[bool], y: &[bool]) -> bool
     requires { ⌜ Sound (movesIn (now ms)) × (i < movesIn (now ms) .count) ⌝ }
-    requires { ⌜ (length (now x) ≡ 320) × ((length (now y) ≡ 320) × (length (now table) ≡ 5280)) ⌝ }
+    requires { ⌜ (length (now x) ≡ flagsSize) × ((length (now y) ≡ flagsSize) × (length (now table) ≡ tableSize)) ⌝ }
     ensures { λ r. ⌜ r ≡ backsIn (moveAt (movesIn (now (ms .entry))) i) (now (table .entry)) (now (x .entry)) (now (y .entry)) ⌝ }
 {
-    let at = 14 * i;
+    let at = MOVE_SIZE * i;
     let f = wide(ms[at]);
     if y[f] {
         return false;
@@ -422,10 +425,10 @@ pub fn back(
 ) -> usize
     requires { ⌜ Sound (movesIn (now dels)) ⌝ }
     requires { ⌜ ReadyBack (now table) (now bad) (now x) (now y) (length (now out)) end ⌝ }
-    requires { ⌜ length (now deleted) ≡ 160 ⌝ }
+    requires { ⌜ length (now deleted) ≡ levelSize ⌝ }
     ensures { λ r. ⌜ ClosedBack (movesIn (now (dels .entry))) subject (now (table .entry)) (now (bad .entry)) (now (x .entry)) (now (y .exit)) end (now (out .entry)) (now (out .exit)) r ⌝ }
 {
-    let count = dels.len() / 14;
+    let count = dels.len() / MOVE_SIZE;
     let mut at = end;
     let mut quiet: usize = 0;
     let mut i: usize = 0;
@@ -455,26 +458,26 @@ pub fn back(
 
 // The flags of a subject with no direct facts.
 pub fn blank(table: &[bool], x: &mut [bool])
-    requires { ⌜ (length (now x) ≡ 320) × (length (now table) ≡ 5280) ⌝ }
+    requires { ⌜ (length (now x) ≡ flagsSize) × (length (now table) ≡ tableSize) ⌝ }
     ensures { λ _. ⌜ Blank (now (table .entry)) (now (x .exit)) ⌝ }
 {
     let mut k: usize = 0;
-    while k < 160 {
-        let b = table[5120 + k];
+    while k < LEVEL_SIZE {
+        let b = table[ROWS_SIZE + k];
         x[k] = false;
-        x[160 + k] = b;
+        x[LEVEL_SIZE + k] = b;
         k += 1;
     }
 }
 
 // The flags of the subject whose direct facts are `d`.
 pub fn build(table: &[bool], d: &[bool], x: &mut [bool])
-    requires { ⌜ (length (now x) ≡ 320) × ((length (now table) ≡ 5280) × (length (now d) ≡ 160)) ⌝ }
+    requires { ⌜ (length (now x) ≡ flagsSize) × ((length (now table) ≡ tableSize) × (length (now d) ≡ levelSize)) ⌝ }
     ensures { λ _. ⌜ Built (now (table .entry)) (now (d .entry)) (now (x .exit)) ⌝ }
 {
     blank(table, x);
     let mut f: usize = 0;
-    while f < 160 {
+    while f < LEVEL_SIZE {
         if d[f] {
             put(table, f, x);
             f += 1;
@@ -496,11 +499,11 @@ fn without(a: bool, b: bool) -> bool
 
 // Writes to `d` the facts of `x` that are not forbidden.
 pub fn strip(x: &[bool], bad: &[bool], d: &mut [bool])
-    requires { ⌜ (length (now x) ≡ 320) × ((length (now bad) ≡ 160) × (length (now d) ≡ 160)) ⌝ }
+    requires { ⌜ (length (now x) ≡ flagsSize) × ((length (now bad) ≡ levelSize) × (length (now d) ≡ levelSize)) ⌝ }
     ensures { λ _. ⌜ Stripped (now (x .entry)) (now (bad .entry)) (now (d .exit)) ⌝ }
 {
     let mut k: usize = 0;
-    while k < 160 {
+    while k < LEVEL_SIZE {
         d[k] = without(x[k], bad[k]);
         k += 1;
     }
@@ -508,11 +511,11 @@ pub fn strip(x: &[bool], bad: &[bool], d: &mut [bool])
 
 // Writes the facts of `y` to `u`.
 pub fn keep(y: &[bool], u: &mut [bool])
-    requires { ⌜ (length (now y) ≡ 320) × (length (now u) ≡ 160) ⌝ }
+    requires { ⌜ (length (now y) ≡ flagsSize) × (length (now u) ≡ levelSize) ⌝ }
     ensures { λ _. ⌜ Copied (now (y .entry)) (now (u .exit)) ⌝ }
 {
     let mut k: usize = 0;
-    while k < 160 {
+    while k < LEVEL_SIZE {
         u[k] = y[k];
         k += 1;
     }
@@ -520,11 +523,11 @@ pub fn keep(y: &[bool], u: &mut [bool])
 
 // The first fact of `a` that `b` lacks, or 160.
 pub fn lacks(a: &[bool], b: &[bool]) -> usize
-    requires { ⌜ (160 ≤ length (now a)) × (160 ≤ length (now b)) ⌝ }
+    requires { ⌜ (levelSize ≤ length (now a)) × (levelSize ≤ length (now b)) ⌝ }
     ensures { λ r. ⌜ Lacks (now (a .entry)) (now (b .entry)) r ⌝ }
 {
     let mut k: usize = 0;
-    while k < 160 {
+    while k < LEVEL_SIZE {
         if without(a[k], b[k]) {
             return k;
         }
@@ -558,10 +561,7 @@ pub fn round(
     end: usize,
     down: &mut [u8],
 ) -> Ends
-    requires { ⌜ Sound (movesIn (now adds)) × Sound (movesIn (now dels)) ⌝ }
-    requires { ⌜ Lengths (now table) (now bad) (now s) (now u) (now x) (now y) (now d) start (now up) end (now down) ⌝ }
-    requires { ⌜ (direct (now s) ⊆ direct (now u)) ⌝ }
-    requires { ⌜ (length (now added) ≡ 160) × (length (now deleted) ≡ 160) ⌝ }
+    requires { ⌜ RoundReady (movesIn (now adds)) (movesIn (now dels)) (now added) (now deleted) (now table) (now bad) (now s) (now u) (now x) (now y) (now d) start (now up) end (now down) ⌝ }
     ensures { λ r. ⌜ Rounded (movesIn (now (adds .entry))) (movesIn (now (dels .entry))) subject (now (table .entry)) (now (bad .entry)) (now (s .entry)) (now (u .entry)) (now (x .exit)) (now (y .exit)) (now (d .exit)) start (now (up .entry)) (now (up .exit)) (r .ups) end (now (down .entry)) (now (down .exit)) (r .at) ⌝ }
 {
     build(table, s, x);
@@ -573,7 +573,7 @@ pub fn round(
 }
 
 // What a level comes to: whether it is settled, how many requests were added, and where the deletions begin.
-pub struct Outcome {
+pub struct LevelOutcome {
     pub found: bool,
     pub ups: usize,
     pub at: usize,
@@ -598,11 +598,8 @@ pub fn settle(
     up: &mut [u8],
     end: usize,
     down: &mut [u8],
-) -> Outcome
-    requires { ⌜ Sound (movesIn (now adds)) × Sound (movesIn (now dels)) ⌝ }
-    requires { ⌜ Lengths (now table) (now bad) (now s) (now u) (now x) (now y) (now d) start (now up) end (now down) ⌝ }
-    requires { ⌜ (direct (now s) ⊆ direct (now u)) ⌝ }
-    requires { ⌜ (length (now added) ≡ 160) × (length (now deleted) ≡ 160) ⌝ }
+) -> LevelOutcome
+    requires { ⌜ RoundReady (movesIn (now adds)) (movesIn (now dels)) (now added) (now deleted) (now table) (now bad) (now s) (now u) (now x) (now y) (now d) start (now up) end (now down) ⌝ }
     ensures { λ r. ⌜ Result (movesIn (now (adds .entry))) (movesIn (now (dels .entry))) subject (now (table .entry)) (now (bad .entry)) (now (s .entry)) (now (u .entry)) (now (x .exit)) start (now (up .entry)) (now (up .exit)) end (now (down .entry)) (now (down .exit)) (r .found) (r .ups) (r .at) ⌝ }
 {
     loop {
@@ -624,15 +621,15 @@ pub fn settle(
             end,
             down,
         );
-        if lacks(x, y) == 160 {
-            return Outcome {
+        if lacks(x, y) == LEVEL_SIZE {
+            return LevelOutcome {
                 found: true,
                 ups: e.ups,
                 at: e.at,
             };
         }
-        if lacks(s, y) < 160 {
-            return Outcome {
+        if lacks(s, y) < LEVEL_SIZE {
+            return LevelOutcome {
                 found: false,
                 ups: 0,
                 at: end,

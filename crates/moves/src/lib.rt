@@ -6,12 +6,13 @@ ghost use lib.ListN.{length};
 ghost use Rattle.level.specs.Inner.Terms.{GoodRule};
 ghost use Rattle.level.specs.Inner.Chosen.{chosenIn, GoodRules};
 ghost use Rattle.moves.specs.Inner.Listed.{ofList, RoomFrom, Taken, Gathered, Prepared};
+ghost use Rattle.widths.specs.Inner.Widths.{movesSize};
 use frames::Rule;
 use frames::Rules;
 
 // The move of a rule, where it is chosen, is written as move `k`. Returns how many moves there are then.
 fn gather(r: Rule, one: u8, two: u8, roles: u32, k: usize, ms: &mut [u16]) -> usize
-    requires { ⌜ GoodRule r × ((chosenIn one two roles r ≡ true → k < 512) × (length (now ms) ≡ 7168)) ⌝ }
+    requires { ⌜ GoodRule r × ((chosenIn one two roles r ≡ true → k < 512) × (length (now ms) ≡ movesSize)) ⌝ }
     ensures { λ n. ⌜ Taken one two roles r k (now (ms .entry)) n (now (ms .exit)) ⌝ }
 {
     if level::chosen(r, one, two, roles) {
@@ -24,7 +25,7 @@ fn gather(r: Rule, one: u8, two: u8, roles: u32, k: usize, ms: &mut [u16]) -> us
 // Writes the moves of the rules that have one of two ops and one of the roles, in the rules' order, from move `from` on. Returns how
 // many moves there are then.
 fn moves_of(rules: &[Rule], one: u8, two: u8, roles: u32, from: usize, ms: &mut [u16]) -> usize
-    requires { ⌜ GoodRules (ofList (now rules)) × (RoomFrom (ofList (now rules)) one two roles from × (length (now ms) ≡ 7168)) ⌝ }
+    requires { ⌜ GoodRules (ofList (now rules)) × (RoomFrom (ofList (now rules)) one two roles from × (length (now ms) ≡ movesSize)) ⌝ }
     ensures { λ r. ⌜ Gathered (ofList (now (rules .entry))) one two roles from (now (ms .entry)) (length (now (rules .entry))) r (now (ms .exit)) ⌝ }
 {
     let mut k = from;
@@ -60,7 +61,7 @@ fn counted(gains: usize, losses: usize, adds: usize, dels: usize) -> Counts
 // The moves of all four sides, one behind the other: a rule has one op, so 512 rules give at most 512 moves in all. The front of the
 // list by value is lent once, to each side in turn.
 pub fn moves_listed(rs: Rules, roles: u32, ms: &mut [u16]) -> Counts
-    requires { ⌜ GoodRules rs × (length (now ms) ≡ 7168) ⌝ }
+    requires { ⌜ GoodRules rs × (length (now ms) ≡ movesSize) ⌝ }
     ensures { λ r. ⌜ Prepared rs roles r (now (ms .exit)) ⌝ }
 {
     let n = rs.count;

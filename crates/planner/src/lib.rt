@@ -13,9 +13,12 @@ ghost use Rattle.planner.specs.Count.{factCount};
 ghost use Rattle.planner.specs.Answer.{refusalNumber, refusalLine, said, Answered, PlanPromise};
 ghost use Rattle.planner.specs.Inner.Found.{PlanFound, planReply, given};
 ghost use Rattle.search.specs.Inner.Drive.{drafted};
+ghost use Rattle.widths.specs.Inner.Widths.{depotSize, draftSize};
 use frames::Book;
 use gate::Sizes;
-use level::Outcome;
+use level::LevelOutcome;
+use widths::DEPOT_SIZE;
+use widths::DRAFT_SIZE;
 
 // What the planner answers: no way, the count of the plan's requests, or a refusal.
 pub enum Planned {
@@ -63,11 +66,11 @@ fn fact_count(z: Sizes) -> usize
 
 // Whether the requests of two buffers, carried out from the starting facts, end with a ledger that meets the query.
 fn is_reached(b: Book, up: &[u8], ups: usize, down: &[u8], at: usize) -> bool
-    requires { ⌜ Admitted (contentsOf b) × ((ups ≤ 5280) × (at ≤ 5280)) ⌝ }
-    requires { ⌜ (length (now up) ≡ 26400) × (length (now down) ≡ 26400) ⌝ }
+    requires { ⌜ Admitted (contentsOf b) × ((ups ≤ depotSize) × (at ≤ depotSize)) ⌝ }
+    requires { ⌜ (length (now up) ≡ draftSize) × (length (now down) ≡ draftSize) ⌝ }
     ensures { λ r. ⌜ r ≡ met (contentsOf b) (holds (carried (b .facts) (drafted (now (up .entry)) ups (now (down .entry)) at))) ⌝ }
 {
-    let n = 5280 - at;
+    let n = DEPOT_SIZE - at;
     let mut ledger = b.facts;
     drafts::carry_out(&mut ledger, up, 0, ups);
     drafts::carry_out(&mut ledger, down, at, n);
@@ -75,21 +78,21 @@ fn is_reached(b: Book, up: &[u8], ups: usize, down: &[u8], at: usize) -> bool
 }
 
 // The requests of the best plan, found where they lead to a ledger that meets the query; none else.
-fn best_plan(b: Book, up: &mut [u8], down: &mut [u8]) -> Outcome
+fn best_plan(b: Book, up: &mut [u8], down: &mut [u8]) -> LevelOutcome
     requires { ⌜ Admitted (contentsOf b) ⌝ }
-    requires { ⌜ (length (now up) ≡ 26400) × (length (now down) ≡ 26400) ⌝ }
+    requires { ⌜ (length (now up) ≡ draftSize) × (length (now down) ≡ draftSize) ⌝ }
     ensures { λ r. ⌜ PlanFound (contentsOf b) (now (up .exit)) (now (down .exit)) (r .found) (r .ups) (r .at) ⌝ }
 {
     let r = search::search(b, up, down);
     if !r.found {
-        return Outcome {
+        return LevelOutcome {
             found: false,
             ups: 0,
-            at: 5280,
+            at: DEPOT_SIZE,
         };
     }
     let found = is_reached(b, up, r.ups, down, r.at);
-    Outcome {
+    LevelOutcome {
         found,
         ups: r.ups,
         at: r.at,
@@ -98,11 +101,11 @@ fn best_plan(b: Book, up: &mut [u8], down: &mut [u8]) -> Outcome
 
 // Writes the plan to the front of the caller's buffer.
 fn write_plan(up: &[u8], ups: usize, down: &[u8], at: usize, out: &mut [u8]) -> usize
-    requires { ⌜ (ups ≤ 5280) × ((at ≤ 5280) × (5 * (ups + (5280 - at)) ≤ length (now out))) ⌝ }
-    requires { ⌜ (length (now up) ≡ 26400) × (length (now down) ≡ 26400) ⌝ }
-    ensures { λ r. ⌜ (r ≡ ups + (5280 - at)) × (now (out .exit) ≡ flat (drafted (now (up .entry)) ups (now (down .entry)) at) ++ drop (5 * (ups + (5280 - at))) (now (out .entry))) ⌝ }
+    requires { ⌜ (ups ≤ depotSize) × ((at ≤ depotSize) × (5 * (ups + (depotSize - at)) ≤ length (now out))) ⌝ }
+    requires { ⌜ (length (now up) ≡ draftSize) × (length (now down) ≡ draftSize) ⌝ }
+    ensures { λ r. ⌜ (r ≡ ups + (depotSize - at)) × (now (out .exit) ≡ flat (drafted (now (up .entry)) ups (now (down .entry)) at) ++ drop (5 * (ups + (depotSize - at))) (now (out .entry))) ⌝ }
 {
-    let n = 5280 - at;
+    let n = DEPOT_SIZE - at;
     drafts::copy_requests(up, 0, ups, out, 0);
     drafts::copy_requests(down, at, n, out, ups);
     ups + n
@@ -110,8 +113,8 @@ fn write_plan(up: &[u8], ups: usize, down: &[u8], at: usize, out: &mut [u8]) -> 
 
 // The answer to what was found: no way, or the plan in the front of the caller's buffer.
 fn give(found: bool, up: &[u8], ups: usize, down: &[u8], at: usize, out: &mut [u8]) -> Planned
-    requires { ⌜ (ups ≤ 5280) × ((at ≤ 5280) × (5 * (ups + (5280 - at)) ≤ length (now out))) ⌝ }
-    requires { ⌜ (length (now up) ≡ 26400) × (length (now down) ≡ 26400) ⌝ }
+    requires { ⌜ (ups ≤ depotSize) × ((at ≤ depotSize) × (5 * (ups + (depotSize - at)) ≤ length (now out))) ⌝ }
+    requires { ⌜ (length (now up) ≡ draftSize) × (length (now down) ≡ draftSize) ⌝ }
     ensures { λ r. ⌜ planReply (said r) (now (out .exit)) ≡ given found (drafted (now (up .entry)) ups (now (down .entry)) at) (now (out .entry)) ⌝ }
 {
     if !found {
@@ -131,8 +134,8 @@ fn plan_in(b: Book, out: &mut [u8]) -> Planned
     if out.len() < 10 * f {
         return Planned::Refused(Refusal::ShortBuffer);
     }
-    let mut up = [0u8; 26400];
-    let mut down = [0u8; 26400];
+    let mut up = [0u8; DRAFT_SIZE];
+    let mut down = [0u8; DRAFT_SIZE];
     let r = best_plan(b, &mut up, &mut down);
     give(r.found, &up, r.ups, &down, r.at, out)
 }

@@ -56,6 +56,13 @@ room-down a e = omega arith
 pub starts-allowed : (s : List Bool) {u : List Bool} → AllAllowed u → direct s ⊆ direct u
 starts-allowed s {u} all f e = let h : f < 160 = direct-in s f e in direct-low u f h ∙ all .at f h
 
+-- The table and the row of a crew, by juniors that are the book's.
+pub table-same : {js js′ : List ℕ} {k : ℕ} {rows before table : List Bool} → js ≡ js′ → flags.CrewTable js k rows before table → flags.CrewTable js′ k rows before table
+table-same {k = k} {rows} {before} {table} e made = subst (λ (js : List ℕ). flags.CrewTable js k rows before table) e made
+
+pub row-same : {js js′ : List ℕ} {k : ℕ} {x rows rows′ : List Bool} → js ≡ js′ → flags.FilledRow js k x rows rows′ → flags.FilledRow js′ k x rows rows′
+row-same {k = k} {x} {rows} {rows′} e filled = subst (λ (js : List ℕ). flags.FilledRow js k x rows rows′) e filled
+
 module _ (bk : Book) (ok : Admitted (contentsOf bk)) where
   few : bk .rules .count ≤ 512
   unfolding contentsOf

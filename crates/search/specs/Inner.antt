@@ -1,2 +1,3 @@
 pub mod Drive
 pub mod Scan
+pub mod Given

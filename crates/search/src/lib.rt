@@ -9,19 +9,79 @@ ghost use Rattle.flags.specs.Inner.Flags.{Reaching};
 ghost use Rattle.level.specs.Inner.Moves.{movesIn};
 ghost use Rattle.search.specs.Inner.Drive.{Driving};
 ghost use Rattle.search.specs.Inner.Scan.{SideMoves, AllAllowed, BlankTable, Scanned, Searched};
+ghost use Rattle.search.specs.Inner.Given.{Names, CrewsGiven, PersonGiven, LevelGiven, LevelSettled};
+ghost use Rattle.widths.specs.Inner.Widths.{levelSize, rowsSize, depotSize, draftSize};
 use frames::Book;
-use level::Outcome;
+use level::LevelOutcome;
+use widths::DEPOT_SIZE;
+use widths::FLAGS_SIZE;
+use widths::LEVEL_SIZE;
+use widths::MOVE_SIZE;
+use widths::MOVES_SIZE;
+use widths::ROWS_SIZE;
+use widths::TABLE_SIZE;
 
 // Leave to add every fact of a level.
 fn allow_all(u: &mut [bool])
-    requires { ⌜ length (now u) ≡ 160 ⌝ }
+    requires { ⌜ length (now u) ≡ levelSize ⌝ }
     ensures { λ _. ⌜ AllAllowed (now (u .exit)) ⌝ }
 {
     let mut f: usize = 0;
-    while f < 160 {
+    while f < LEVEL_SIZE {
         u[f] = true;
         f += 1;
     }
+}
+
+// What a level comes to, once its table stands: its forbidden and its starting facts, leave to add every fact, and the rounds.
+fn settle_level(
+    b: Book,
+    facts: &[u8],
+    k: u8,
+    subject: u8,
+    below: bool,
+    adds: &[u16],
+    dels: &[u16],
+    added: &mut [u16],
+    deleted: &mut [u16],
+    table: &[bool],
+    x: &mut [bool],
+    ups: usize,
+    up: &mut [u8],
+    at: usize,
+    down: &mut [u8],
+) -> LevelOutcome
+    requires { ⌜ LevelGiven b (now facts) k below (now adds) (now dels) (now added) (now deleted) (now table) (now x) ups (now up) at (now down) ⌝ }
+    ensures { λ r. ⌜ LevelSettled (contentsOf b) k (movesIn (now (adds .entry))) (movesIn (now (dels .entry))) subject (now (table .entry)) (now (x .exit)) ups (now (up .entry)) (now (up .exit)) at (now (down .entry)) (now (down .exit)) (r .found) (r .ups) (r .at) ⌝ }
+{
+    let mut bad = [false; LEVEL_SIZE];
+    let mut s = [false; LEVEL_SIZE];
+    let mut u = [false; LEVEL_SIZE];
+    let mut y = [false; FLAGS_SIZE];
+    let mut d = [false; LEVEL_SIZE];
+    let q = b.query;
+    let crews = b.sizes.crews;
+    flags::bad_flags(q, crews, k, below, &mut bad);
+    flags::start_flags(facts, crews, q.person, k, &mut s);
+    allow_all(&mut u);
+    level::settle(
+        adds,
+        dels,
+        added,
+        deleted,
+        subject,
+        table,
+        &bad,
+        &s,
+        &mut u,
+        x,
+        &mut y,
+        &mut d,
+        ups,
+        up,
+        at,
+        down,
+    )
 }
 
 // The level of crew k.
@@ -41,39 +101,27 @@ fn crew_level(
     up: &mut [u8],
     at: usize,
     down: &mut [u8],
-) -> Outcome
-    requires { ⌜ Admitted (contentsOf b) × ((k < b .sizes .crews) × (SideMoves b 3 3 4 4 (movesIn (now adds)) (movesIn (now dels)) × ((length (now reach) ≡ 5120) × (Reaching (b .juniors) (now reach) × ((now juniors ≡ b .juniors) × (now facts ≡ b .facts)))))) ⌝ }
-    requires { ⌜ BlankTable (now table) ⌝ }
+) -> LevelOutcome
+    requires { ⌜ CrewsGiven b (now facts) (now juniors) (now adds) (now dels) (now reach) × (k < b .sizes .crews) ⌝ }
+    requires { ⌜ Names (now added) (now deleted) × BlankTable (now table) ⌝ }
     requires { ⌜ Driving (contentsOf b) k (now rows) ups (now up) at (now down) ⌝ }
-    requires { ⌜ (length (now added) ≡ 160) × (length (now deleted) ≡ 160) ⌝ }
     ensures { λ r. ⌜ Scanned (contentsOf b) (k + 1) (now (rows .exit)) (now (up .exit)) (now (down .exit)) (r .found) (ups + r .ups) (r .at) × BlankTable (now (table .exit)) ⌝ }
 {
     let below = flags::is_below_listed(b, reach, k);
-    let mut bad = [false; 160];
-    let mut s = [false; 160];
-    let mut u = [false; 160];
-    let mut x = [false; 320];
-    let mut y = [false; 320];
-    let mut d = [false; 160];
-    let q = b.query;
-    let z = b.sizes;
-    flags::bad_flags(q, z.crews, k, below, &mut bad);
-    flags::start_flags(facts, z.crews, q.person, k, &mut s);
-    allow_all(&mut u);
+    let mut x = [false; FLAGS_SIZE];
     flags::crew_table(juniors, k, rows, table);
-    let r = level::settle(
+    let r = settle_level(
+        b,
+        facts,
+        k,
+        k,
+        below,
         adds,
         dels,
         added,
         deleted,
-        k,
         table,
-        &bad,
-        &s,
-        &mut u,
         &mut x,
-        &mut y,
-        &mut d,
         ups,
         up,
         at,
@@ -85,11 +133,11 @@ fn crew_level(
 
 // Which crews each crew reaches downwards.
 fn fill_reach(juniors: &[u32], reach: &mut [bool])
-    requires { ⌜ (length (now juniors) ≡ 32) × (length (now reach) ≡ 5120) ⌝ }
-    ensures { λ _. ⌜ (length (now (reach .exit)) ≡ 5120) × Reaching (now (juniors .entry)) (now (reach .exit)) ⌝ }
+    requires { ⌜ (length (now juniors) ≡ 32) × (length (now reach) ≡ rowsSize) ⌝ }
+    ensures { λ _. ⌜ (length (now (reach .exit)) ≡ rowsSize) × Reaching (now (juniors .entry)) (now (reach .exit)) ⌝ }
 {
-    let x = [false; 320];
-    let mut table = [false; 5280];
+    let x = [false; FLAGS_SIZE];
+    let mut table = [false; TABLE_SIZE];
     flags::first_rows(reach);
     let mut k: u8 = 0;
     while k < 32 {
@@ -113,16 +161,15 @@ fn crew_levels(
     table: &mut [bool],
     up: &mut [u8],
     down: &mut [u8],
-) -> Outcome
-    requires { ⌜ Admitted (contentsOf b) × (SideMoves b 3 3 4 4 (movesIn (now adds)) (movesIn (now dels)) × ((length (now reach) ≡ 5120) × (Reaching (b .juniors) (now reach) × ((now juniors ≡ b .juniors) × (now facts ≡ b .facts))))) ⌝ }
-    requires { ⌜ BlankTable (now table) ⌝ }
-    requires { ⌜ Driving (contentsOf b) 0 (now rows) 0 (now up) 5280 (now down) ⌝ }
-    requires { ⌜ (length (now added) ≡ 160) × (length (now deleted) ≡ 160) ⌝ }
+) -> LevelOutcome
+    requires { ⌜ CrewsGiven b (now facts) (now juniors) (now adds) (now dels) (now reach) ⌝ }
+    requires { ⌜ Names (now added) (now deleted) × BlankTable (now table) ⌝ }
+    requires { ⌜ Driving (contentsOf b) 0 (now rows) 0 (now up) depotSize (now down) ⌝ }
     ensures { λ r. ⌜ Scanned (contentsOf b) (b .sizes .crews) (now (rows .exit)) (now (up .exit)) (now (down .exit)) (r .found) (r .ups) (r .at) ⌝ }
 {
     let n = b.sizes.crews;
     let mut ups: usize = 0;
-    let mut at: usize = 5280;
+    let mut at: usize = DEPOT_SIZE;
     let mut k: u8 = 0;
     while k < n {
         let r = crew_level(
@@ -143,17 +190,17 @@ fn crew_levels(
             down,
         );
         if !r.found {
-            return Outcome {
+            return LevelOutcome {
                 found: false,
                 ups: 0,
-                at: 5280,
+                at: DEPOT_SIZE,
             };
         }
         ups += r.ups;
         at = r.at;
         k += 1;
     }
-    Outcome {
+    LevelOutcome {
         found: true,
         ups,
         at,
@@ -172,39 +219,29 @@ fn person_level(
     up: &mut [u8],
     at: usize,
     down: &mut [u8],
-) -> Outcome
-    requires { ⌜ Admitted (contentsOf b) × (SideMoves b 1 5 2 6 (movesIn (now adds)) (movesIn (now dels)) × ((length (now table) ≡ 5280) × (now facts ≡ b .facts))) ⌝ }
+) -> LevelOutcome
+    requires { ⌜ PersonGiven b (now facts) (now adds) (now dels) (now table) ⌝ }
     requires { ⌜ Driving (contentsOf b) (b .sizes .crews) (now rows) ups (now up) at (now down) ⌝ }
     ensures { λ r. ⌜ Searched (contentsOf b) (now (up .exit)) (now (down .exit)) (r .found) (ups + r .ups) (r .at) ⌝ }
 {
     let k = b.sizes.crews;
     let person = b.query.person.0;
-    let mut bad = [false; 160];
-    let mut s = [false; 160];
-    let mut u = [false; 160];
-    let mut x = [false; 320];
-    let mut y = [false; 320];
-    let mut d = [false; 160];
-    let mut added = [512u16; 160];
-    let mut deleted = [512u16; 160];
-    let q = b.query;
-    flags::bad_flags(q, k, k, false, &mut bad);
-    flags::start_flags(facts, k, q.person, k, &mut s);
-    allow_all(&mut u);
+    let mut x = [false; FLAGS_SIZE];
+    let mut added = [512u16; LEVEL_SIZE];
+    let mut deleted = [512u16; LEVEL_SIZE];
     flags::person_table(rows, table);
-    level::settle(
+    settle_level(
+        b,
+        facts,
+        k,
+        person,
+        false,
         adds,
         dels,
         &mut added,
         &mut deleted,
-        person,
         table,
-        &bad,
-        &s,
-        &mut u,
         &mut x,
-        &mut y,
-        &mut d,
         ups,
         up,
         at,
@@ -221,18 +258,18 @@ fn all_levels(
     dels: &[u16],
     up: &mut [u8],
     down: &mut [u8],
-) -> Outcome
+) -> LevelOutcome
     requires { ⌜ Admitted (contentsOf b) × (SideMoves b 3 3 4 4 (movesIn (now gains)) (movesIn (now losses)) × SideMoves b 1 5 2 6 (movesIn (now adds)) (movesIn (now dels))) ⌝ }
-    requires { ⌜ (length (now up) ≡ 26400) × (length (now down) ≡ 26400) ⌝ }
+    requires { ⌜ (length (now up) ≡ draftSize) × (length (now down) ≡ draftSize) ⌝ }
     ensures { λ r. ⌜ Searched (contentsOf b) (now (up .exit)) (now (down .exit)) (r .found) (r .ups) (r .at) ⌝ }
 {
     let facts = b.facts;
     let juniors = b.juniors;
-    let mut reach = [false; 5120];
-    let mut rows = [false; 5120];
-    let mut table = [false; 5280];
-    let mut added = [512u16; 160];
-    let mut deleted = [512u16; 160];
+    let mut reach = [false; ROWS_SIZE];
+    let mut rows = [false; ROWS_SIZE];
+    let mut table = [false; TABLE_SIZE];
+    let mut added = [512u16; LEVEL_SIZE];
+    let mut deleted = [512u16; LEVEL_SIZE];
     fill_reach(&juniors, &mut reach);
     flags::first_rows(&mut rows);
     let r = crew_levels(
@@ -267,7 +304,7 @@ fn all_levels(
     if !p.found {
         return p;
     }
-    Outcome {
+    LevelOutcome {
         found: true,
         ups: r.ups + p.ups,
         at: p.at,
@@ -275,20 +312,20 @@ fn all_levels(
 }
 
 // The moves out of the accepted rules, then all levels.
-pub fn search(b: Book, up: &mut [u8], down: &mut [u8]) -> Outcome
+pub fn search(b: Book, up: &mut [u8], down: &mut [u8]) -> LevelOutcome
     requires { ⌜ Admitted (contentsOf b) ⌝ }
-    requires { ⌜ (length (now up) ≡ 26400) × (length (now down) ≡ 26400) ⌝ }
+    requires { ⌜ (length (now up) ≡ draftSize) × (length (now down) ≡ draftSize) ⌝ }
     ensures { λ r. ⌜ Searched (contentsOf b) (now (up .exit)) (now (down .exit)) (r .found) (r .ups) (r .at) ⌝ }
 {
     let roles = b.query.roles;
     let rules = b.rules;
-    let mut buffer = [0u16; 7168];
+    let mut buffer = [0u16; MOVES_SIZE];
     let n = moves::moves_listed(rules, roles, &mut buffer);
     let ms: &[u16] = &buffer;
-    let gains = 14 * n.gains;
-    let losses = 14 * n.losses;
-    let adds = 14 * n.adds;
-    let dels = 14 * n.dels;
+    let gains = MOVE_SIZE * n.gains;
+    let losses = MOVE_SIZE * n.losses;
+    let adds = MOVE_SIZE * n.adds;
+    let dels = MOVE_SIZE * n.dels;
     all_levels(
         b,
         &ms[..gains],

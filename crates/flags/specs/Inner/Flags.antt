@@ -5,6 +5,7 @@ use mathlib.Core.Bool.{Bool, false, not, cond, _&&_, _||_}
 use mathlib.Core.List.{List}
 use lib.Dec.{eqb, ltb}
 use lib.ListN.{length, getD}
+use Rattle.widths.specs.Inner.Widths.{levelSize, rowsSize, tableSize}
 use Rattle.sets.specs.Sets.{member, memberAt}
 use Rattle.facts.specs.Facts.{holds}
 use Rattle.facts.specs.declared.Person.{Person}
@@ -47,14 +48,14 @@ startFlag facts crews person k f = hasFact crews k f && holds facts (factIn crew
 
 -- The flags of level k are the tracked starting facts.
 pub record StartFlags (b : Contents) (k : ℕ) (s : List Bool) : Type 0 where
-  pub size : length s ≡ 160
-  pub at : (f : ℕ) → f < 160 → getD s f false ≡ track b (holds (b .facts)) (160 * k + f)
+  pub size : length s ≡ levelSize
+  pub at : (f : ℕ) → f < levelSize → getD s f false ≡ track b (holds (b .facts)) (levelSize * k + f)
 
 -- ---------------------------------------------------------------- tables and rows
 
 -- Crew j is a direct junior of crew k, and its row has flag f.
 abbrev pub juniorHas : List ℕ → ℕ → List Bool → ℕ → ℕ → Bool
-juniorHas js k rows f j = isJunior js k j && getD rows (160 * j + f) false
+juniorHas js k rows f j = isJunior js k j && getD rows (levelSize * j + f) false
 
 -- The row of some direct junior of crew k has flag f.
 abbrev pub juniorsHave : List ℕ → ℕ → List Bool → ℕ → Bool
@@ -62,36 +63,36 @@ juniorsHave js k rows f = anyBelow (juniorHas js k rows f) k
 
 -- Flag f of the table's row 32 with row j of the crews added.
 abbrev pub addedFlag : List Bool → ℕ → List Bool → ℕ → Bool
-addedFlag rows j table f = getD table (5120 + f) false || getD rows (160 * j + f) false
+addedFlag rows j table f = getD table (rowsSize + f) false || getD rows (levelSize * j + f) false
 
 -- Row 32 of the table is what crew k has by its juniors; the other rows stay.
 pub record CrewTable (js : List ℕ) (k : ℕ) (rows before table : List Bool) : Type 0 where
-  pub size : length table ≡ 5280
-  pub kept : (j : ℕ) → j < 5120 → getD table j false ≡ getD before j false
-  pub last : (f : ℕ) → f < 160 → getD table (5120 + f) false ≡ juniorsHave js k rows f
+  pub size : length table ≡ tableSize
+  pub kept : (j : ℕ) → j < rowsSize → getD table j false ≡ getD before j false
+  pub last : (f : ℕ) → f < levelSize → getD table (rowsSize + f) false ≡ juniorsHave js k rows f
 
 -- The table's rows are the crews' rows; its row 32 has nothing.
 pub record PersonTable (rows table : List Bool) : Type 0 where
-  pub size : length table ≡ 5280
-  pub same : (j : ℕ) → j < 5120 → getD table j false ≡ getD rows j false
-  pub last : (j : ℕ) → 5120 ≤ j → getD table j false ≡ false
+  pub size : length table ≡ tableSize
+  pub same : (j : ℕ) → j < rowsSize → getD table j false ≡ getD rows j false
+  pub last : (j : ℕ) → rowsSize ≤ j → getD table j false ≡ false
 
 -- Flag f of crew k's row: an effective value, or a crew that is k itself or that k has by its juniors, as row 32 of its table says.
 unfoldable pub rowFlag : List Bool → ℕ → List Bool → ℕ → Bool
-rowFlag table k x f = cond (ltb f 128) (getD x (160 + f) false) (eqb k (f - 128) || getD table (5120 + f) false)
+rowFlag table k x f = cond (ltb f 128) (getD x (levelSize + f) false) (eqb k (f - 128) || getD table (rowsSize + f) false)
 
 -- Row k is filled from the flags x of level k; the other rows stay.
 pub record FilledRow (js : List ℕ) (k : ℕ) (x before rows : List Bool) : Type 0 where
-  pub size : length rows ≡ 5120
-  pub values : (f : ℕ) → f < 128 → getD rows (160 * k + f) false ≡ getD x (160 + f) false
-  pub crews : (d : ℕ) → d < 32 → getD rows (160 * k + (128 + d)) false ≡ eqb k d || juniorsHave js k before (128 + d)
-  pub below : (j : ℕ) → j < 160 * k → getD rows j false ≡ getD before j false
-  pub above : (j : ℕ) → 160 * k + 160 ≤ j → getD rows j false ≡ getD before j false
+  pub size : length rows ≡ rowsSize
+  pub values : (f : ℕ) → f < 128 → getD rows (levelSize * k + f) false ≡ getD x (levelSize + f) false
+  pub crews : (d : ℕ) → d < 32 → getD rows (levelSize * k + (128 + d)) false ≡ eqb k d || juniorsHave js k before (128 + d)
+  pub below : (j : ℕ) → j < levelSize * k → getD rows j false ≡ getD before j false
+  pub above : (j : ℕ) → levelSize * k + levelSize ≤ j → getD rows j false ≡ getD before j false
 
 -- A crew reaches itself; its row has nothing else.
 pub record FirstRows (rows : List Bool) : Type 0 where
-  pub size : length rows ≡ 5120
-  pub at : (c : ℕ) → c < 32 → (f : ℕ) → f < 160 → getD rows (160 * c + f) false ≡ eqb f (128 + c)
+  pub size : length rows ≡ rowsSize
+  pub at : (c : ℕ) → c < 32 → (f : ℕ) → f < levelSize → getD rows (levelSize * c + f) false ≡ eqb f (128 + c)
 
 -- ---------------------------------------------------------------- what the query forbids
 
@@ -121,19 +122,19 @@ badFlag q crews k below f = hasFact crews k f && (not (eqb (q .mode) 1) && forbi
 
 -- The flags of level k are the forbidden tracked facts.
 pub record BadFlags (b : Contents) (k : ℕ) (x : List Bool) : Type 0 where
-  pub size : length x ≡ 160
-  pub at : (f : ℕ) → f < 160 → getD x f false ≡ bad b (160 * k + f)
+  pub size : length x ≡ levelSize
+  pub at : (f : ℕ) → f < levelSize → getD x f false ≡ bad b (levelSize * k + f)
 
 -- Crew d is listed, and its row reaches crew c.
 abbrev pub listedReaches : ℕ → List Bool → ℕ → ℕ → Bool
-listedReaches listed rows c d = member listed d && getD rows (160 * d + (128 + c)) false
+listedReaches listed rows c d = member listed d && getD rows (levelSize * d + (128 + c)) false
 
 abbrev pub listedReach : ℕ → List Bool → ℕ → Bool
 listedReach listed rows c = anyBelow (listedReaches listed rows c) 32
 
 -- The rows say which crews each crew reaches.
 pub record Reaching (js : List ℕ) (rows : List Bool) : Type 0 where
-  pub at : (d : ℕ) → d < 32 → (c : ℕ) → c < 32 → getD rows (160 * d + (128 + c)) false ≡ downward js (λ x. eqb x c) d
+  pub at : (d : ℕ) → d < 32 → (c : ℕ) → c < 32 → getD rows (levelSize * d + (128 + c)) false ≡ downward js (λ x. eqb x c) d
 
 -- ---------------------------------------------------------------- what single loops write
 

@@ -15,6 +15,9 @@ returns : tie.Need-returns
 unfolding codeOf
 returns c = simp (eq-eqb _ _ (c .if1 .taken))
 
+cast-result : tie.Need-cast-result
+cast-result c = search needs
+
 mul-result-2 : tie.Need-mul-result-2
 mul-result-2 c = search needs
 
@@ -53,6 +56,7 @@ place-spec =
     mul-result
     add-result
     returns
+    cast-result
     mul-result-2
     add-result-2
     add-result-3

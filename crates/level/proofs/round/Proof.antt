@@ -39,35 +39,35 @@ abbrev after-deleted : tie.After-down → tie.After-deleted
 after-deleted c = c .before .before .before .before
 
 build-requires : tie.Need-build-requires
-build-requires c κs = (start c .pre .1 .0 .size-x, (start c .pre .1 .0 .rows, start c .pre .1 .0 .size-s))
+build-requires c κs = (start c .pre .lengths .size-x, (start c .pre .lengths .rows, start c .pre .lengths .size-s))
 
 close-requires : tie.Need-close-requires
 close-requires c κs =
     let at-start = start (after-build c .before) in (
-      at-start .pre .0 .0,
-      (ready (at-start .pre .1 .0) (after-build c .build .ensures) (at-start .pre .1 .1 .0), at-start .pre .1 .1 .1 .0),
+      at-start .pre .sound-adds,
+      (ready (at-start .pre .lengths) (after-build c .build .ensures) (at-start .pre .allowed), at-start .pre .names-added),
     )
 
 strip-requires : tie.Need-strip-requires
 strip-requires c κs =
     let at-start = start (after-build (after-close c .before) .before) in
-    (after-close c .close .ensures .whole .size, (at-start .pre .1 .0 .size-bad, at-start .pre .1 .0 .size-d))
+    (after-close c .close .ensures .whole .size, (at-start .pre .lengths .size-bad, at-start .pre .lengths .size-d))
 
 build-requires-2 : tie.Need-build-requires-2
 build-requires-2 c κs =
     let at-start = start (after-build (after-close (after-strip c .before) .before) .before) in
-    (at-start .pre .1 .0 .size-y, (at-start .pre .1 .0 .rows, after-strip c .strip .ensures .size))
+    (at-start .pre .lengths .size-y, (at-start .pre .lengths .rows, after-strip c .strip .ensures .size))
 
 back-requires : tie.Need-back-requires
 back-requires c κs =
     let at-strip = after-strip (after-build2 c .before) in
     let at-close = after-close (at-strip .before) in
     let at-start = start (after-build (at-close .before) .before) in (
-      at-start .pre .0 .1,
+      at-start .pre .sound-dels,
       (
-        ready-back (at-start .pre .1 .0) (at-close .close .ensures .whole) (at-strip .strip .ensures)
+        ready-back (at-start .pre .lengths) (at-close .close .ensures .whole) (at-strip .strip .ensures)
             (after-build2 c .build2 .ensures),
-        at-start .pre .1 .1 .1 .1,
+        at-start .pre .names-deleted,
       ),
     )
 
@@ -80,7 +80,7 @@ same-length-2 c = after-deleted (c .before) .deleted .given
 same-length-3 : tie.Need-same-length-3
 same-length-3 c =
     let at-close = after-close (after-strip (after-build2 (after-back c .before) .before) .before) in
-    at-close .close .ensures .whole .size ∙ sym (start (after-build (at-close .before) .before) .pre .1 .0 .size-x)
+    at-close .close .ensures .whole .size ∙ sym (start (after-build (at-close .before) .before) .pre .lengths .size-x)
 
 same-length-4 : tie.Need-same-length-4
 same-length-4 c = c .before .before .before .y2 .given ∙ after-y (c .before) .y .given
@@ -99,7 +99,7 @@ returns c =
     let at-strip = after-strip (after-build2 (after-back c .before) .before) in
     let at-close = after-close (at-strip .before) in
     let at-build = after-build (at-close .before) in
-    rounded (start (at-build .before) .pre .1 .0) (at-build .build .ensures) (at-close .close .ensures)
+    rounded (start (at-build .before) .pre .lengths) (at-build .build .ensures) (at-close .close .ensures)
     (at-strip .strip .ensures) (after-back c .back .ensures)
 
 pub round-spec : {M : Type 1} → statement M

@@ -42,15 +42,20 @@ else2 c = c .before .before .before .before .before
 loop-holds : tie.Need-loop-holds Inv-loop μ-loop
 loop-holds c = (
   going-first (movesIn (start c .args .adds .now)) (movesIn (start c .args .dels .now)) (start c .args .subject)
-      (start c .pre .1 .0) (start c .pre .1 .1 .0),
-  start c .pre .1 .1 .1,
+      (start c .pre .lengths) (start c .pre .allowed),
+  (start c .pre .names-added, start c .pre .names-deleted),
 )
 
 round-requires : tie.Need-round-requires Inv-loop μ-loop
-round-requires c κs = (
-  start (loop-head c .before) .pre .0,
-  (loop-head c .loop .inv .0 .sizes, (loop-head c .loop .inv .0 .within, loop-head c .loop .inv .1)),
-)
+round-requires c κs =
+    record {
+      sound-adds = start (loop-head c .before) .pre .sound-adds;
+      sound-dels = start (loop-head c .before) .pre .sound-dels;
+      lengths = loop-head c .loop .inv .0 .sizes;
+      allowed = loop-head c .loop .inv .0 .within;
+      names-added = loop-head c .loop .inv .1 .0;
+      names-deleted = loop-head c .loop .inv .1 .1;
+    }
 
 lacks-requires : tie.Need-lacks-requires Inv-loop μ-loop
 lacks-requires c κs = (
@@ -61,32 +66,32 @@ lacks-requires c κs = (
 same-length : tie.Need-same-length Inv-loop μ-loop
 same-length c =
     let at-loop = loop-head (after-round (c .before) .before) in
-    (after-deleted (c .before .before) .before .before .added .given ∙ at-loop .loop .inv .1 .0) ∙ sym (start (at-loop .before) .pre .1 .1 .1 .0)
+    (after-deleted (c .before .before) .before .before .added .given ∙ at-loop .loop .inv .1 .0) ∙ sym (start (at-loop .before) .pre .names-added)
 
 same-length-2 : tie.Need-same-length-2 Inv-loop μ-loop
 same-length-2 c =
     let at-loop = loop-head (after-round (c .before) .before) in
-    (after-deleted (c .before .before) .deleted .given ∙ at-loop .loop .inv .1 .1) ∙ sym (start (at-loop .before) .pre .1 .1 .1 .1)
+    (after-deleted (c .before .before) .deleted .given ∙ at-loop .loop .inv .1 .1) ∙ sym (start (at-loop .before) .pre .names-deleted)
 
 same-length-3 : tie.Need-same-length-3 Inv-loop μ-loop
 same-length-3 c =
     let at-loop = loop-head (after-round (c .before) .before) in
-    at-loop .loop .inv .0 .sizes .size-u ∙ sym (start (at-loop .before) .pre .1 .0 .size-u)
+    at-loop .loop .inv .0 .sizes .size-u ∙ sym (start (at-loop .before) .pre .lengths .size-u)
 
 same-length-4 : tie.Need-same-length-4 Inv-loop μ-loop
 same-length-4 c =
     let at-round = after-round (c .before) in
-    at-round .round .ensures .sizes .size-x ∙ sym (start (loop-head (at-round .before) .before) .pre .1 .0 .size-x)
+    at-round .round .ensures .sizes .size-x ∙ sym (start (loop-head (at-round .before) .before) .pre .lengths .size-x)
 
 same-length-5 : tie.Need-same-length-5 Inv-loop μ-loop
 same-length-5 c =
     let at-round = after-round (c .before) in
-    at-round .round .ensures .sizes .size-y ∙ sym (start (loop-head (at-round .before) .before) .pre .1 .0 .size-y)
+    at-round .round .ensures .sizes .size-y ∙ sym (start (loop-head (at-round .before) .before) .pre .lengths .size-y)
 
 same-length-6 : tie.Need-same-length-6 Inv-loop μ-loop
 same-length-6 c =
     let at-round = after-round (c .before) in
-    at-round .round .ensures .sizes .size-d ∙ sym (start (loop-head (at-round .before) .before) .pre .1 .0 .size-d)
+    at-round .round .ensures .sizes .size-d ∙ sym (start (loop-head (at-round .before) .before) .pre .lengths .size-d)
 
 same-length-7 : tie.Need-same-length-7 Inv-loop μ-loop
 same-length-7 c =
@@ -112,29 +117,29 @@ lacks-requires-2 c κs =
 same-length-9 : tie.Need-same-length-9 Inv-loop μ-loop
 same-length-9 c =
     let at-loop = loop-head (after-added c .before .before) in
-    (after-added c .added .given ∙ at-loop .loop .inv .1 .0) ∙ sym (start (at-loop .before) .pre .1 .1 .1 .0)
+    (after-added c .added .given ∙ at-loop .loop .inv .1 .0) ∙ sym (start (at-loop .before) .pre .names-added)
 
 same-length-10 : tie.Need-same-length-10 Inv-loop μ-loop
 same-length-10 c =
     let at-loop = loop-head (after-added c .before .before) in
-    (after-deleted (else1 (c .before) .before .before) .deleted .given ∙ at-loop .loop .inv .1 .1) ∙ sym (start (at-loop .before) .pre .1 .1 .1 .1)
+    (after-deleted (else1 (c .before) .before .before) .deleted .given ∙ at-loop .loop .inv .1 .1) ∙ sym (start (at-loop .before) .pre .names-deleted)
 
 same-length-11 : tie.Need-same-length-11 Inv-loop μ-loop
 same-length-11 c =
     let at-loop = loop-head (after-added c .before .before) in
-    at-loop .loop .inv .0 .sizes .size-u ∙ sym (start (at-loop .before) .pre .1 .0 .size-u)
+    at-loop .loop .inv .0 .sizes .size-u ∙ sym (start (at-loop .before) .pre .lengths .size-u)
 
 same-length-12 : tie.Need-same-length-12 Inv-loop μ-loop
 same-length-12 c =
-    after-added c .before .round .ensures .sizes .size-x ∙ sym (start (loop-head (after-added c .before .before) .before) .pre .1 .0 .size-x)
+    after-added c .before .round .ensures .sizes .size-x ∙ sym (start (loop-head (after-added c .before .before) .before) .pre .lengths .size-x)
 
 same-length-13 : tie.Need-same-length-13 Inv-loop μ-loop
 same-length-13 c =
-    after-added c .before .round .ensures .sizes .size-y ∙ sym (start (loop-head (after-added c .before .before) .before) .pre .1 .0 .size-y)
+    after-added c .before .round .ensures .sizes .size-y ∙ sym (start (loop-head (after-added c .before .before) .before) .pre .lengths .size-y)
 
 same-length-14 : tie.Need-same-length-14 Inv-loop μ-loop
 same-length-14 c =
-    after-added c .before .round .ensures .sizes .size-d ∙ sym (start (loop-head (after-added c .before .before) .before) .pre .1 .0 .size-d)
+    after-added c .before .round .ensures .sizes .size-d ∙ sym (start (loop-head (after-added c .before .before) .before) .pre .lengths .size-d)
 
 same-length-15 : tie.Need-same-length-15 Inv-loop μ-loop
 same-length-15 c =

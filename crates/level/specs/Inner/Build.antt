@@ -4,6 +4,7 @@ use mathlib.Core.Bool.{Bool, true, false}
 use mathlib.Core.List.{List}
 use Prim.Native.Nat.{ℕ, _≤_, _<_}
 use lib.ListN.{length}
+use Rattle.widths.specs.Inner.Widths.{levelSize}
 use Rattle.theory.specs.Inner.Facts.{minus}
 use Rattle.level.specs.Inner.Shown.{direct, Whole}
 
@@ -19,16 +20,16 @@ pub record Built (T d x : List Bool) : Type 0 where
 
 -- The facts of `x` that are not forbidden.
 pub record Stripped (x bad d : List Bool) : Type 0 where
-  pub size : length d ≡ 160
+  pub size : length d ≡ levelSize
   pub same : direct d ≡ minus (direct x) (direct bad)
 
 -- The facts of `y`.
 pub record Copied (y u : List Bool) : Type 0 where
-  pub size : length u ≡ 160
+  pub size : length u ≡ levelSize
   pub same : direct u ≡ direct y
 
 -- `r` is the first fact that `a` has and `b` lacks, or 160.
 pub record Lacks (a b : List Bool) (r : ℕ) : Type 0 where
-  pub fits : r ≤ 160
+  pub fits : r ≤ levelSize
   pub before : (f : ℕ) → f < r → minus (direct a) (direct b) f ≡ false
-  pub here : r < 160 → minus (direct a) (direct b) r ≡ true
+  pub here : r < levelSize → minus (direct a) (direct b) r ≡ true

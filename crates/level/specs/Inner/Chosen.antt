@@ -5,6 +5,7 @@ use mathlib.Core.List.{List}
 use Prim.Native.Nat.{ℕ, _*_, _≤_, _<_}
 use lib.Dec.{eqb}
 use lib.ListN.{length, getD}
+use Rattle.widths.specs.Inner.Widths.{moveSize}
 use Rattle.level.specs.Inner.Moves.{Moves, moveFrom, moveAt}
 use Rattle.level.specs.Inner.Terms.{GoodRule, MoveOf}
 use Rattle.level.specs.declared.Move.{Move}
@@ -19,14 +20,14 @@ chosenIn one two roles r = (eqb (r .op) one || eqb (r .op) two) && member roles 
 
 -- A move as 14 numbers.
 pub record Numbers (m : Move) (row : List ℕ) : Type 0 where
-  pub size : length row ≡ 14
+  pub size : length row ≡ moveSize
   pub same : moveFrom row 0 ≡ m
 
 -- `ms` is `before` with the move `k` written.
 pub record MovePut (before : List ℕ) (k : ℕ) (m : Move) (ms : List ℕ) : Type 0 where
   pub size : length ms ≡ length before
-  pub here : moveFrom ms (14 * k) ≡ m
-  pub there : (i : ℕ) → i < k → moveFrom ms (14 * i) ≡ moveFrom before (14 * i)
+  pub here : moveFrom ms (moveSize * k) ≡ m
+  pub there : (i : ℕ) → i < k → moveFrom ms (moveSize * i) ≡ moveFrom before (moveSize * i)
 
 -- Rule `i` of a list by value.
 unfoldable pub ruleAt : Rules → ℕ → Rule

@@ -5,6 +5,7 @@ use mathlib.Core.List.{List, [], _∷_}
 use Prim.Native.Nat.{ℕ, _+_, _*_, _/_, _≤_, _<_}
 use lib.Dec.{ltb}
 use lib.ListN.{length, getD, take}
+use Rattle.widths.specs.Inner.Widths.{levelSize, flagsSize, moveSize}
 use Rattle.quantifiers.specs.Quantifiers.{all}
 use Rattle.theory.specs.Inner.Facts.{State}
 use Rattle.theory.specs.Inner.Plan.{Ask}
@@ -18,10 +19,10 @@ placeOf op a v = cond (ltb op 5) (16 * a + v) (128 + a)
 -- The move names a fact, and its terms places.
 pub record Fine (m : Move) : Type 0 where
   pub aim : m .fact ≡ placeOf (m .op) (m .a) (m .v)
-  pub fact : m .fact < 160
+  pub fact : m .fact < levelSize
   pub few : m .n ≤ 8
   pub size : length (m .terms) ≡ 8
-  pub places : (j : ℕ) → getD (m .terms) j 0 < 320
+  pub places : (j : ℕ) → getD (m .terms) j 0 < flagsSize
   pub bytes : (m .op < 256) × ((m .role < 256) × ((m .a < 256) × (m .v < 256)))
 
 -- The places of a move's terms.
@@ -47,7 +48,7 @@ pub record Moves : Type 0 where
 
 -- The moves that numbers write.
 abbrev pub movesIn : List ℕ → Moves
-movesIn xs = record { count = length xs / 14; numbers = xs }
+movesIn xs = record { count = length xs / moveSize; numbers = xs }
 
 -- The move that 14 numbers write, from a place on: the fact, how many terms, op, role, a and v, and the places of eight terms.
 unfoldable pub moveFrom : List ℕ → ℕ → Move
@@ -66,12 +67,12 @@ moveFrom xs at =
 
 -- Move `i`.
 unfoldable pub moveAt : Moves → ℕ → Move
-moveAt ms i = moveFrom (ms .numbers) (14 * i)
+moveAt ms i = moveFrom (ms .numbers) (moveSize * i)
 
 -- At most 512 moves, whole, and each is fine.
 pub record Sound (ms : Moves) : Type 0 where
   pub few : ms .count ≤ 512
-  pub room : 14 * ms .count ≤ length (ms .numbers)
+  pub room : moveSize * ms .count ≤ length (ms .numbers)
   pub fine : (i : ℕ) → i < ms .count → Fine (moveAt ms i)
 
 -- What a move asks for the subject `p`.

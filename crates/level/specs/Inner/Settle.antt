@@ -4,10 +4,11 @@ use mathlib.Core.Bool.{Bool, true, false}
 use mathlib.Core.List.{List}
 use Prim.Native.Nat.{ℕ, _+_, _-_, _*_, _≤_, _<_}
 use lib.ListN.{length}
+use Rattle.widths.specs.Inner.Widths.{levelSize, flagsSize, tableSize}
 use Rattle.theory.specs.Inner.Facts.{State, _⊆_, minus}
 use Rattle.theory.specs.Inner.Plan.{World, Brings, AddClosed, BackClosed}
 use Rattle.theory.specs.Inner.Sweep.{Added, PutBack}
-use Rattle.level.specs.Inner.Moves.{Moves}
+use Rattle.level.specs.Inner.Moves.{Moves, Sound}
 use Rattle.level.specs.Inner.Shown.{direct, Whole}
 use Rattle.level.specs.Inner.World.{world}
 use Rattle.level.specs.Inner.Notes.{askAt, asks}
@@ -19,16 +20,26 @@ pub data Rounds (W : World) (bad s u₀ : State) : State → Type 0 where
 
 -- The lengths of what is lent, and room in the two buffers.
 pub record Lengths (T bad s u x y d : List Bool) (start : ℕ) (up : List ℕ) (end : ℕ) (down : List ℕ) : Type 0 where
-  pub rows : length T ≡ 5280
-  pub size-bad : length bad ≡ 160
-  pub size-s : length s ≡ 160
-  pub size-u : length u ≡ 160
-  pub size-x : length x ≡ 320
-  pub size-y : length y ≡ 320
-  pub size-d : length d ≡ 160
-  pub room-up : 5 * (start + 160) ≤ length up
-  pub below : 160 ≤ end
+  pub rows : length T ≡ tableSize
+  pub size-bad : length bad ≡ levelSize
+  pub size-s : length s ≡ levelSize
+  pub size-u : length u ≡ levelSize
+  pub size-x : length x ≡ flagsSize
+  pub size-y : length y ≡ flagsSize
+  pub size-d : length d ≡ levelSize
+  pub room-up : 5 * (start + levelSize) ≤ length up
+  pub below : levelSize ≤ end
   pub room-down : 5 * end ≤ length down
+
+-- What a round needs: sound moves, the lengths of what is lent with room in the two buffers, starting facts that are allowed, and room for the
+-- names of the moves to try first.
+pub record RoundReady (adds dels : Moves) (added deleted : List ℕ) (T bad s u x y d : List Bool) (start : ℕ) (up : List ℕ) (end : ℕ) (down : List ℕ) : Type 0 where
+  pub sound-adds : Sound adds
+  pub sound-dels : Sound dels
+  pub lengths : Lengths T bad s u x y d start up end down
+  pub allowed : direct s ⊆ direct u
+  pub names-added : length added ≡ levelSize
+  pub names-deleted : length deleted ≡ levelSize
 
 -- What a round leaves: additions closed within `u`, and deletions closed backwards.
 pub record Rounded (adds dels : Moves) (p : ℕ) (T bad s u x y d : List Bool) (start : ℕ) (up₀ up : List ℕ) (n end : ℕ) (down₀ down : List ℕ) (at : ℕ) : Type 0 where
@@ -36,12 +47,12 @@ pub record Rounded (adds dels : Moves) (p : ℕ) (T bad s u x y d : List Bool) (
   pub length-up : length up ≡ length up₀
   pub length-down : length down ≡ length down₀
   pub whole : Whole T x
-  pub few-up : n ≤ 160
+  pub few-up : n ≤ levelSize
   pub stands-up : (k : ℕ) → k < start → askAt up k ≡ askAt up₀ k
   pub added : Added (world T adds adds p) (direct s) (direct u) (direct x) (asks up start n)
   pub add-closed : AddClosed (world T adds adds p) (direct u) (direct x)
   pub down-to : at ≤ end
-  pub few-down : end ≤ at + 160
+  pub few-down : end ≤ at + levelSize
   pub stands-down : (k : ℕ) → end ≤ k → askAt down k ≡ askAt down₀ k
   pub back : PutBack (world T dels dels p) (direct bad) (direct x) (direct y) (asks down at (end - at))
   pub back-closed : BackClosed (world T dels dels p) (direct bad) (direct x) (direct y)
@@ -49,9 +60,9 @@ pub record Rounded (adds dels : Moves) (p : ℕ) (T bad s u x y d : List Bool) (
 -- A settled level: the requests in `up` lead from `s` to `x`, those in `down` from `x` to what of it is not forbidden, and `x` bounds the level.
 pub record Settled (adds dels : Moves) (p : ℕ) (T bad s u₀ x : List Bool) (start : ℕ) (up₀ up : List ℕ) (n end : ℕ) (down₀ down : List ℕ) (at : ℕ) : Type 0 where
   pub whole : Whole T x
-  pub few-up : n ≤ 160
+  pub few-up : n ≤ levelSize
   pub stands-up : (k : ℕ) → k < start → askAt up k ≡ askAt up₀ k
-  pub few-down : end ≤ at + 160
+  pub few-down : end ≤ at + levelSize
   pub down-to : at ≤ end
   pub stands-down : (k : ℕ) → end ≤ k → askAt down k ≡ askAt down₀ k
   pub grown : direct s ⊆ direct x

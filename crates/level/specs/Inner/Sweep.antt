@@ -5,6 +5,7 @@ use mathlib.Core.Bool.{Bool, false, not, _&&_}
 use mathlib.Core.List.{List}
 use Prim.Native.Nat.{ℕ, _+_, _*_, _≤_, _<_}
 use lib.ListN.{length, getD}
+use Rattle.widths.specs.Inner.Widths.{levelSize}
 use Rattle.theory.specs.Inner.Facts.{_⊆_}
 use Rattle.theory.specs.Inner.Plan.{AddClosed}
 use Rattle.theory.specs.Inner.Sweep.{Added}
@@ -29,21 +30,21 @@ pub record Next (i n r : ℕ) : Type 0 where
 pub record TurnAt (n tried i quiet tried′ i′ quiet′ : ℕ) : Type 0 where
   pub fits : i′ < n
   pub onward : tried ≤ tried′
-  pub names : tried′ ≤ 160
+  pub names : tried′ ≤ levelSize
   pub goes : ((i′ ≡ i) × (quiet′ ≡ quiet)) ⊎ ((tried < tried′) × (quiet′ ≡ 0))
 
 -- What a sweep needs: whole flags within what is allowed, and room for every fact.
 pub record Ready (T allowed x : List Bool) (size start : ℕ) : Type 0 where
   pub whole : Whole T x
-  pub length-allowed : length allowed ≡ 160
+  pub length-allowed : length allowed ≡ levelSize
   pub within : direct x ⊆ direct allowed
-  pub room : 5 * (start + 160) ≤ size
+  pub room : 5 * (start + levelSize) ≤ size
 
 -- What the sweep leaves: the requests written lead from `x₀` to `x` within `allowed`, those before them stand, and no addition is left.
 pub record Closed (ms : Moves) (p : ℕ) (T allowed x₀ x : List Bool) (start : ℕ) (out₀ out : List ℕ) (n : ℕ) : Type 0 where
   pub whole : Whole T x
   pub size : length out ≡ length out₀
   pub stands : (k : ℕ) → k < start → askAt out k ≡ askAt out₀ k
-  pub few : n ≤ 160
+  pub few : n ≤ levelSize
   pub added : Added (world T ms ms p) (direct x₀) (direct allowed) (direct x) (asks out start n)
   pub closed : AddClosed (world T ms ms p) (direct allowed) (direct x)

@@ -5,6 +5,7 @@ use mathlib.Core.List.{List}
 use Prim.Native.Nat.{ℕ, _+_, _*_, _≤_, _<_}
 use lib.Dec.{eqb}
 use lib.ListN.{length, getD, take}
+use Rattle.widths.specs.Inner.Widths.{levelSize}
 use Rattle.theory.specs.Inner.Facts.{State}
 use Rattle.level.specs.Inner.Shown.{inherited}
 use Rattle.level.specs.Inner.Moves.{Fine, placeOf}
@@ -24,7 +25,7 @@ termShown T S t = cond (eqb (t .kind) 1) (S (16 * t .a + t .v)) (cond (eqb (t .k
 
 -- The place of what a term asks.
 unfoldable pub codeOf : ℕ → ℕ → ℕ → ℕ
-codeOf kind a v = cond (eqb kind 1) (16 * a + v) (cond (eqb kind 2) (160 + (16 * a + v)) (cond (eqb kind 3) (128 + a) (288 + a)))
+codeOf kind a v = cond (eqb kind 1) (16 * a + v) (cond (eqb kind 2) (levelSize + (16 * a + v)) (cond (eqb kind 3) (128 + a) (288 + a)))
 
 -- The fields of a term are in range.
 pub record TermInRange (t : Term) : Type 0 where
@@ -36,7 +37,7 @@ pub record TermInRange (t : Term) : Type 0 where
 pub record GoodRule (r : Rule) : Type 0 where
   pub few : r .n ≤ 8
   pub size : length (r .terms) ≡ 8
-  pub aims : placeOf (r .op) (r .a) (r .v) < 160
+  pub aims : placeOf (r .op) (r .a) (r .v) < levelSize
   pub terms : (j : ℕ) → j < r .n → TermInRange (getD (r .terms) j noTerm)
 
 -- Whether a subject shows what each term of a rule asks.

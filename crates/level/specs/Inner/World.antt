@@ -3,6 +3,7 @@ use mathlib.Core.Path.{_≡_}
 use mathlib.Core.Bool.{Bool, true, false}
 use mathlib.Core.List.{List}
 use Prim.Native.Nat.{ℕ, _<_}
+use Rattle.widths.specs.Inner.Widths.{levelSize}
 use Rattle.theory.specs.Inner.Facts.{State}
 use Rattle.theory.specs.Inner.Plan.{Ask, Req, req, World}
 use Rattle.level.specs.Inner.Moves.{Moves, moveAt, askOf, moveShown}
@@ -13,11 +14,11 @@ pub record Some (T : List Bool) (ms : Moves) (p : ℕ) (S : State) (q : Ask) : T
   pub listed : index < ms .count
   pub same : q ≡ askOf p (moveAt ms index)
   pub holds : moveShown T S (moveAt ms index) ≡ true
-  pub known : q .fact < 160
+  pub known : q .fact < levelSize
 
 -- The subject's world: its additions and its deletions.
 abbrev pub world : (T : List Bool) (adds dels : Moves) (p : ℕ) → World
-world T adds dels p = record { May = may; F = 160 }
+world T adds dels p = record { May = may; F = levelSize }
   where
     may : State → Req → Type 0
     may S (req true q) = Some T adds p S q

@@ -4,6 +4,7 @@ use mathlib.Core.Bool.{Bool, true, false}
 use mathlib.Core.List.{List}
 use Prim.Native.Nat.{ℕ, zero, suc, _+_, _-_, _*_, _≤_, _<_}
 use lib.ListN.{length, take, drop}
+use Rattle.widths.specs.Inner.Widths.{movesSize, moveSize}
 use Rattle.quantifiers.specs.Inner.Lists.{countBelow}
 use Rattle.level.specs.Inner.Moves.{Moves, moveFrom, movesIn}
 use Rattle.level.specs.Inner.Terms.{MoveOf}
@@ -36,26 +37,26 @@ pub record Taken (one two roles : ℕ) (r : Rule) (k : ℕ) (before : List ℕ) 
 
 -- The moves of a buffer from move `from` on to before move `n`.
 abbrev pub movesFrom : ℕ → ℕ → List ℕ → Moves
-movesFrom from n xs = record { count = n - from; numbers = drop (14 * from) xs }
+movesFrom from n xs = record { count = n - from; numbers = drop (moveSize * from) xs }
 
 -- The moves of the chosen ones of the first i rules stand in the buffer from move `from` on to before move `n`; the moves before them
 -- are as they were.
 pub record Gathered (rs : Rules) (one two roles from : ℕ) (before : List ℕ) (i n : ℕ) (after : List ℕ) : Type 0 where
   pub ends : n ≡ from + chosenCount rs one two roles i
   pub size : length after ≡ length before
-  pub kept : (k : ℕ) → k < from → moveFrom after (14 * k) ≡ moveFrom before (14 * k)
+  pub kept : (k : ℕ) → k < from → moveFrom after (moveSize * k) ≡ moveFrom before (moveSize * k)
   pub moves : MovesOf rs one two roles (movesFrom from n after) i
 
 -- The numbers of a buffer from move `from` on to before move `n`.
 abbrev pub partOf : ℕ → ℕ → List ℕ → List ℕ
-partOf from n xs = take (14 * n - 14 * from) (drop (14 * from) xs)
+partOf from n xs = take (moveSize * n - moveSize * from) (drop (moveSize * from) xs)
 
 -- The moves of the four sides stand in one buffer, one side behind the other: of the crews, ops 3 and 4; of the query's person, ops 1
 -- and 5, 2 and 6.
 pub record Prepared (rs : Rules) (roles : ℕ) (n : Counts) (buffer : List ℕ) : Type 0 where
-  pub size : length buffer ≡ 7168
+  pub size : length buffer ≡ movesSize
   pub rises : (n .gains ≤ n .losses) × ((n .losses ≤ n .adds) × ((n .adds ≤ n .dels) × (n .dels ≤ 512)))
-  pub crew-more : MovesOf rs 3 3 roles (movesIn (take (14 * n .gains) buffer)) (rs .count)
+  pub crew-more : MovesOf rs 3 3 roles (movesIn (take (moveSize * n .gains) buffer)) (rs .count)
   pub crew-less : MovesOf rs 4 4 roles (movesIn (partOf (n .gains) (n .losses) buffer)) (rs .count)
   pub more : MovesOf rs 1 5 roles (movesIn (partOf (n .losses) (n .adds) buffer)) (rs .count)
   pub less : MovesOf rs 2 6 roles (movesIn (partOf (n .adds) (n .dels) buffer)) (rs .count)

@@ -4,6 +4,7 @@ use mathlib.Core.Bool.{Bool, true, false}
 use mathlib.Core.List.{List, _++_}
 use Prim.Native.Nat.{ℕ, _+_, _-_, _*_, _≤_}
 use lib.ListN.{length, drop}
+use Rattle.widths.specs.Inner.Widths.{depotSize}
 use Rattle.facts.specs.Facts.{holds}
 use Rattle.frames.specs.Book.{Contents}
 use Rattle.replay.specs.Met.{met}
@@ -23,9 +24,9 @@ pub record Reached (b : Contents) (up down : List ℕ) (ups at : ℕ) : Type 0 w
 pub record PlanFound (b : Contents) (up down : List ℕ) (found : Bool) (ups at : ℕ) : Type 0 where
   pub reached : found ≡ true → Reached b up down ups at
   pub none : found ≡ false → NoWay b
-  pub few-up : ups ≤ 5280
-  pub most-down : at ≤ 5280
-  pub few : ups + (5280 - at) ≤ 2 * factCount (b .sizes)
+  pub few-up : ups ≤ depotSize
+  pub most-down : at ≤ depotSize
+  pub few : ups + (depotSize - at) ≤ 2 * factCount (b .sizes)
 
 -- What plan says, and the bytes of its buffer afterwards.
 pub record PlanReply : Type 0 where

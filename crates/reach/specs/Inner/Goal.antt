@@ -3,6 +3,7 @@
 use Prim.Native.Nat.{ℕ, _/_, _%_}
 use mathlib.Core.Bool.{Bool, not, cond, _&&_}
 use lib.Dec.{eqb}
+use Rattle.widths.specs.Inner.Widths.{levelSize}
 use Rattle.sets.specs.Sets.{member, subset}
 use Rattle.facts.specs.declared.Fact.{Fact}
 use Rattle.facts.specs.declared.Fact.the-variants.{Holds, CrewHolds, Member}
@@ -39,4 +40,4 @@ goal b F = cond (eqb (b .query .mode) 1) (metAtLeast b F) (subset (b .query .cre
 
 -- The forbidden tracked facts, by number.
 unfoldable pub bad : Contents → State
-bad b g = isNumber b g && forbidden b (factAt b (g / 160) (g % 160))
+bad b g = isNumber b g && forbidden b (factAt b (g / levelSize) (g % levelSize))

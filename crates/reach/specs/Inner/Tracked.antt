@@ -6,6 +6,7 @@ use mathlib.Core.Path.{_≡_}
 use mathlib.Core.Bool.{Bool, true, cond, _&&_}
 use mathlib.Core.List.{List, [], _∷_}
 use lib.Dec.{eqb, ltb}
+use Rattle.widths.specs.Inner.Widths.{levelSize, depotSize}
 use Rattle.sets.specs.Sets.{member}
 use Rattle.facts.specs.declared.Fact.{Fact}
 use Rattle.facts.specs.declared.Fact.the-variants.{Holds, CrewHolds, Member}
@@ -32,9 +33,9 @@ tracked b (Member p c) = isAsked b (p .0) && ltb (c .0) 32
 
 -- Its number.
 unfoldable pub numberOf : Contents → Fact → ℕ
-numberOf b (Holds p a v) = 160 * personLevel b + (16 * a .0 + v)
-numberOf b (CrewHolds c a v) = 160 * c .0 + (16 * a .0 + v)
-numberOf b (Member p c) = 160 * personLevel b + (128 + c .0)
+numberOf b (Holds p a v) = levelSize * personLevel b + (16 * a .0 + v)
+numberOf b (CrewHolds c a v) = levelSize * c .0 + (16 * a .0 + v)
+numberOf b (Member p c) = levelSize * personLevel b + (128 + c .0)
 
 -- The set of facts that a state of the tracked facts stands for; nothing else holds in it.
 unfoldable pub lift : Contents → State → Fact → Bool
@@ -49,11 +50,11 @@ factAt b k f =
 
 -- Whether a number is a tracked fact's.
 unfoldable pub isNumber : Contents → ℕ → Bool
-isNumber b g = cond (ltb (g / 160) (personLevel b)) (ltb (g % 160) 128) (eqb (g / 160) (personLevel b))
+isNumber b g = cond (ltb (g / levelSize) (personLevel b)) (ltb (g % levelSize) 128) (eqb (g / levelSize) (personLevel b))
 
 -- The state of the tracked facts in a set of facts.
 unfoldable pub track : Contents → (Fact → Bool) → State
-track b F g = isNumber b g && F (factAt b (g / 160) (g % 160))
+track b F g = isNumber b g && F (factAt b (g / levelSize) (g % levelSize))
 
 -- The five bytes of a request of the theory.
 abbrev pub bytesOf : Ask → List ℕ
@@ -69,5 +70,5 @@ pub record May (b : Contents) (S : State) (on : Bool) (q : Ask) : Type 0 where
   pub adding : adds (q .op) ≡ on
   pub of-fact : tracked b (asked q .fact) ≡ true
   pub number : numberOf b (asked q .fact) ≡ q .fact
-  pub bounded : q .fact < 5280
+  pub bounded : q .fact < depotSize
   pub allows : permitted (b .juniors) (b .rules) (lift b S) (asked q) ≡ true

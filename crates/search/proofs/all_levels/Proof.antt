@@ -1,4 +1,4 @@
--- `planner::all_levels` meets its contract: the crews' levels, then the person's. Assumes nothing.
+-- `search::all_levels` meets its contract: the crews' levels, then the person's. Assumes nothing.
 use mathlib.Core.Path.{_≡_, refl, sym, _∙_}
 use mathlib.Core.Bool.{Bool, true≢false, false}
 use mathlib.Core.List.{List}
@@ -101,24 +101,23 @@ slice-aggregate-crew-levels-7 c = refl
 crew-levels-requires : tie.Need-crew-levels-requires
 unfolding contentsOf
 crew-levels-requires c κs =
-    let at-first-rows = after-first-rows (c .before .before) in (
+    let at-first-rows = after-first-rows (c .before .before) in
+    let reached = at-first-rows .before .before .before .fill-reach .ensures in (
+      record {
+        accepted = start c .pre .0 .0;
+        moves = start c .pre .0 .1 .0;
+        reach-size = reached .0;
+        reaching = reached .1;
+        same-juniors = refl;
+        same-facts = refl;
+      },
       (
-        start c .pre .0 .0,
         (
-          start c .pre .0 .1 .0,
-          (
-            at-first-rows .before .before .before .fill-reach .ensures .0,
-            (at-first-rows .before .before .before .fill-reach .ensures .1, (refl, refl)),
-          ),
+          record { room-added = refl; room-deleted = refl },
+          record { size = refl; blank = λ j h. getD-replicate 5280 j false false (omega arith) },
         ),
-      ),
-      (
-        record { size = refl; blank = λ j h. getD-replicate 5280 j false false (omega arith) },
-        (
-          drive-first (contentsOf (start c .args .b)) (start c .pre .0 .0) _ _ _ (at-first-rows .first-rows .ensures)
-              (start c .pre .1 .0) (start c .pre .1 .1),
-          (refl, refl),
-        ),
+        drive-first (contentsOf (start c .args .b)) (start c .pre .0 .0) _ _ _ (at-first-rows .first-rows .ensures)
+            (start c .pre .1 .0) (start c .pre .1 .1),
       ),
     )
 
@@ -151,7 +150,12 @@ person-level-requires c κs =
     let at-else1 = else1 (c .before .before) in
     let at-crew-levels = after-crew-levels (at-else1 .before) in
     let at-start = start (at-crew-levels .before) in (
-      (at-start .pre .0 .0, (at-start .pre .0 .1 .1, (after-table2 (at-else1 .before) .table2 .given, refl))),
+      record {
+        accepted = at-start .pre .0 .0;
+        moves = at-start .pre .0 .1 .1;
+        rows = after-table2 (at-else1 .before) .table2 .given;
+        same-facts = refl;
+      },
       at-crew-levels .crew-levels .ensures .settled (was-found _ (at-else1 .if1 .left)),
     )
 

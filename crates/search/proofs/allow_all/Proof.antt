@@ -1,4 +1,4 @@
--- `planner::allow_all` meets its contract: the invariant says that the flags below f are true; the measure is how many are left. Assumes nothing.
+-- `search::allow_all` meets its contract: the invariant says that the flags below f are true; the measure is how many are left. Assumes nothing.
 use mathlib.Core.Path.{_≡_, sym, _∙_}
 use mathlib.Core.Bool.{true, false}
 use mathlib.Core.Logic.{dite}

@@ -1,4 +1,4 @@
--- `planner::crew_levels` meets its contract: crew after crew, until one is stuck. The names that the crews hand on stay 160. Assumes nothing.
+-- `search::crew_levels` meets its contract: crew after crew, until one is stuck. The names that the crews hand on stay 160. Assumes nothing.
 use mathlib.Core.Path.{_≡_, sym, subst, _∙_}
 use mathlib.Core.Bool.{Bool, true, true≢false}
 use mathlib.Core.List.{List}
@@ -7,6 +7,7 @@ use lib.ListN.{length}
 use Rattle.frames.specs.Book.{Contents, contentsOf}
 use Rattle.search.specs.Inner.Drive.{Driving}
 use Rattle.search.specs.Inner.Scan.{BlankTable, Scanned}
+use Rattle.search.specs.Inner.Given.{Names}
 use Rattle.search.proofs.StepLaws.{no-found, was-found}
 use borrow.Author.Needs.{needs}
 use native.Mathlib.Omega.{arith}
@@ -25,7 +26,7 @@ scanned {b} {k} {n} {rows} {ups} {at} {up} {down} d e = record { settled = λ f.
 
 abbrev Inv-loop : tie.InvT-loop
 Inv-loop b facts juniors adds dels added₀ deleted₀ reach rows₀ table₀ up₀ down₀ n ups₀ at₀ k₀ added deleted rows table up down ups at k =
-    (k ≤ n) × (BlankTable table × (Driving (contentsOf b) k rows ups up at down × ((length added ≡ 160) × (length deleted ≡ 160))))
+    (k ≤ n) × ((Names added deleted × BlankTable table) × Driving (contentsOf b) k rows ups up at down)
 
 abbrev μ-loop : tie.MeasureT-loop
 μ-loop b facts juniors adds dels added₀ deleted₀ reach rows₀ table₀ up₀ down₀ n ups₀ at₀ k₀ added deleted rows table up down ups at k = n - k
@@ -57,38 +58,37 @@ loop-holds c = (omega arith, start c .pre .1)
 
 crew-level-requires : tie.Need-crew-level-requires Inv-loop μ-loop
 crew-level-requires c κs =
-    let pre = start (loop-turn c .before .before) .pre .0 in
-    ((pre .0, (loop-turn c .loop-test .taken, pre .1)), loop-turn c .before .loop .inv .1)
+    ((start (loop-turn c .before .before) .pre .0, loop-turn c .loop-test .taken), loop-turn c .before .loop .inv .1)
 
 same-length : tie.Need-same-length Inv-loop μ-loop
 same-length c =
     after-deleted (c .before) .before .before .added .given ∙
-    (loop-head (c .before) .loop .inv .1 .1 .1 .0 ∙ sym (start (loop-head (c .before) .before) .pre .1 .1 .1 .0))
+    (loop-head (c .before) .loop .inv .1 .0 .0 .room-added ∙ sym (start (loop-head (c .before) .before) .pre .1 .0 .0 .room-added))
 
 same-length-2 : tie.Need-same-length-2 Inv-loop μ-loop
 same-length-2 c =
     after-deleted (c .before) .deleted .given ∙
-    (loop-head (c .before) .loop .inv .1 .1 .1 .1 ∙ sym (start (loop-head (c .before) .before) .pre .1 .1 .1 .1))
+    (loop-head (c .before) .loop .inv .1 .0 .0 .room-deleted ∙ sym (start (loop-head (c .before) .before) .pre .1 .0 .0 .room-deleted))
 
 same-length-3 : tie.Need-same-length-3 Inv-loop μ-loop
 same-length-3 c =
     after-rows c .rows .given ∙
-    (loop-head (c .before) .loop .inv .1 .1 .0 .rows-right .size ∙ sym (start (loop-head (c .before) .before) .pre .1 .1 .0 .rows-right .size))
+    (loop-head (c .before) .loop .inv .1 .1 .rows-right .size ∙ sym (start (loop-head (c .before) .before) .pre .1 .1 .rows-right .size))
 
 same-length-4 : tie.Need-same-length-4 Inv-loop μ-loop
 same-length-4 c =
     after-up (c .before) .before .before .table .given ∙
-    (loop-head (c .before) .loop .inv .1 .0 .size ∙ sym (start (loop-head (c .before) .before) .pre .1 .0 .size))
+    (loop-head (c .before) .loop .inv .1 .0 .1 .size ∙ sym (start (loop-head (c .before) .before) .pre .1 .0 .1 .size))
 
 same-length-5 : tie.Need-same-length-5 Inv-loop μ-loop
 same-length-5 c =
     after-up (c .before) .up .given ∙
-    (loop-head (c .before) .loop .inv .1 .1 .0 .size-up ∙ sym (start (loop-head (c .before) .before) .pre .1 .1 .0 .size-up))
+    (loop-head (c .before) .loop .inv .1 .1 .size-up ∙ sym (start (loop-head (c .before) .before) .pre .1 .1 .size-up))
 
 same-length-6 : tie.Need-same-length-6 Inv-loop μ-loop
 same-length-6 c =
     c .before .before .before .down .given ∙
-    (loop-head (c .before) .loop .inv .1 .1 .0 .size-down ∙ sym (start (loop-head (c .before) .before) .pre .1 .1 .0 .size-down))
+    (loop-head (c .before) .loop .inv .1 .1 .size-down ∙ sym (start (loop-head (c .before) .before) .pre .1 .1 .size-down))
 
 returns : tie.Need-returns Inv-loop μ-loop
 returns c =
@@ -106,7 +106,7 @@ add-ups c =
     omega (
       arith,
       few (at-crew-level .crew-level .ensures .0 .settled (was-found _ (c .before .if1 .left)) .few-up)
-          (at-loop-turn .loop-test .taken) (start (at-loop-turn .before .before) .pre .0 .0 .sized .crews-most),
+          (at-loop-turn .loop-test .taken) (start (at-loop-turn .before .before) .pre .0 .accepted .sized .crews-most),
     )
 
 add-k : tie.Need-add-k Inv-loop μ-loop
@@ -114,7 +114,7 @@ unfolding contentsOf
 add-k c =
     let at-crew-level = after-crew-level (after-deleted (c .before .before)) in
     let at-loop-turn = loop-turn (at-crew-level .before) in
-    omega (arith, small (at-loop-turn .loop-test .taken) (start (at-loop-turn .before .before) .pre .0 .0 .sized .crews-most))
+    omega (arith, small (at-loop-turn .loop-test .taken) (start (at-loop-turn .before .before) .pre .0 .accepted .sized .crews-most))
 
 loop-less : tie.Need-loop-less Inv-loop μ-loop
 loop-less c = search needs
@@ -124,37 +124,40 @@ loop-again c =
     let at-deleted = after-deleted (c .before .before) in
     let at-crew-level = after-crew-level at-deleted in
     let at-loop-turn = loop-turn (at-crew-level .before) in
-    let names = at-loop-turn .before .loop .inv .1 .1 .1 in (
+    let names = at-loop-turn .before .loop .inv .1 .0 .0 in (
       omega (arith, at-loop-turn .loop-test .taken),
       (
-        at-crew-level .crew-level .ensures .1,
         (
-          at-crew-level .crew-level .ensures .0 .settled (was-found _ (c .before .if1 .left)),
-          (at-deleted .before .before .added .given ∙ names .0, at-deleted .deleted .given ∙ names .1),
+          record {
+            room-added = at-deleted .before .before .added .given ∙ names .room-added;
+            room-deleted = at-deleted .deleted .given ∙ names .room-deleted;
+          },
+          at-crew-level .crew-level .ensures .1,
         ),
+        at-crew-level .crew-level .ensures .0 .settled (was-found _ (c .before .if1 .left)),
       ),
     )
 
 same-length-7 : tie.Need-same-length-7 Inv-loop μ-loop
-same-length-7 c = c .before .loop .inv .1 .1 .1 .0 ∙ sym (start (c .before .before) .pre .1 .1 .1 .0)
+same-length-7 c = c .before .loop .inv .1 .0 .0 .room-added ∙ sym (start (c .before .before) .pre .1 .0 .0 .room-added)
 
 same-length-8 : tie.Need-same-length-8 Inv-loop μ-loop
-same-length-8 c = c .before .loop .inv .1 .1 .1 .1 ∙ sym (start (c .before .before) .pre .1 .1 .1 .1)
+same-length-8 c = c .before .loop .inv .1 .0 .0 .room-deleted ∙ sym (start (c .before .before) .pre .1 .0 .0 .room-deleted)
 
 same-length-9 : tie.Need-same-length-9 Inv-loop μ-loop
-same-length-9 c = c .before .loop .inv .1 .1 .0 .rows-right .size ∙ sym (start (c .before .before) .pre .1 .1 .0 .rows-right .size)
+same-length-9 c = c .before .loop .inv .1 .1 .rows-right .size ∙ sym (start (c .before .before) .pre .1 .1 .rows-right .size)
 
 same-length-10 : tie.Need-same-length-10 Inv-loop μ-loop
-same-length-10 c = c .before .loop .inv .1 .0 .size ∙ sym (start (c .before .before) .pre .1 .0 .size)
+same-length-10 c = c .before .loop .inv .1 .0 .1 .size ∙ sym (start (c .before .before) .pre .1 .0 .1 .size)
 
 same-length-11 : tie.Need-same-length-11 Inv-loop μ-loop
-same-length-11 c = c .before .loop .inv .1 .1 .0 .size-up ∙ sym (start (c .before .before) .pre .1 .1 .0 .size-up)
+same-length-11 c = c .before .loop .inv .1 .1 .size-up ∙ sym (start (c .before .before) .pre .1 .1 .size-up)
 
 same-length-12 : tie.Need-same-length-12 Inv-loop μ-loop
-same-length-12 c = c .before .loop .inv .1 .1 .0 .size-down ∙ sym (start (c .before .before) .pre .1 .1 .0 .size-down)
+same-length-12 c = c .before .loop .inv .1 .1 .size-down ∙ sym (start (c .before .before) .pre .1 .1 .size-down)
 
 returns-2 : tie.Need-returns-2 Inv-loop μ-loop
-returns-2 c = scanned (c .before .loop .inv .1 .1 .0) (omega (arith, c .before .loop .inv .0, c .loop-test .left))
+returns-2 c = scanned (c .before .loop .inv .1 .1) (omega (arith, c .before .loop .inv .0, c .loop-test .left))
 
 pub crew-levels-spec : {M : Type 1} → statement M
 crew-levels-spec =

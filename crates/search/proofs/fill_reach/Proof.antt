@@ -1,4 +1,4 @@
--- `planner::fill_reach` meets its contract: row by row, from the crews below. Assumes nothing.
+-- `search::fill_reach` meets its contract: row by row, from the crews below. Assumes nothing.
 use mathlib.Core.Path.{_≡_, refl, sym, _∙_}
 use Prim.Native.Nat.{_-_, _≤_}
 use native.Mathlib.Omega.{arith}

@@ -1,4 +1,4 @@
--- `planner::search` meets its contract: the moves of all four sides in one buffer, then the levels with a part of it for each side.
+-- `search::search` meets its contract: the moves of all four sides in one buffer, then the levels with a part of it for each side.
 -- Assumes nothing.
 use mathlib.Core.Path.{refl, sym}
 use native.Mathlib.Omega.{arith}

@@ -4,6 +4,7 @@ use mathlib.Core.Bool.{Bool, true, false}
 use mathlib.Core.List.{List, map}
 use Prim.Native.Nat.{ℕ, _-_, _<_, _≤_}
 use lib.ListN.{length, getD}
+use Rattle.widths.specs.Inner.Widths.{levelSize, rowsSize, tableSize, depotSize, draftSize}
 use Rattle.frames.specs.declared.Book.{Book}
 use Rattle.frames.specs.Book.{Contents}
 use Rattle.theory.specs.Inner.Facts.{Clear}
@@ -30,13 +31,13 @@ pub record NoRun (b : Contents) : Type 0 where
 
 -- Every fact of a level may be added.
 pub record AllAllowed (u : List Bool) : Type 0 where
-  pub size : length u ≡ 160
-  pub at : (f : ℕ) → f < 160 → getD u f false ≡ true
+  pub size : length u ≡ levelSize
+  pub at : (f : ℕ) → f < levelSize → getD u f false ≡ true
 
 -- Every flag of a table is false, but those of its last row.
 pub record BlankTable (table : List Bool) : Type 0 where
-  pub size : length table ≡ 5280
-  pub blank : (j : ℕ) → j < 5120 → getD table j false ≡ false
+  pub size : length table ≡ tableSize
+  pub blank : (j : ℕ) → j < rowsSize → getD table j false ≡ false
 
 -- The levels below k are settled, or no run ends clear.
 pub record Scanned (b : Contents) (k : ℕ) (rows : List Bool) (up down : List ℕ) (found : Bool) (ups at : ℕ) : Type 0 where
@@ -49,11 +50,11 @@ pub record BestWritten (b : Contents) (up down : List ℕ) (ups at : ℕ) : Type
   pub ds : List Ask
   pub best : Best (depot b) (bad b) (starts b) us ds
   pub bytes-up : map bytesOf us ≡ map bytesOf (asks up 0 ups)
-  pub bytes-down : map bytesOf ds ≡ map bytesOf (asks down at (5280 - at))
-  pub few-up : ups ≤ 5280
-  pub most-down : at ≤ 5280
-  pub size-up : length up ≡ 26400
-  pub size-down : length down ≡ 26400
+  pub bytes-down : map bytesOf ds ≡ map bytesOf (asks down at (depotSize - at))
+  pub few-up : ups ≤ depotSize
+  pub most-down : at ≤ depotSize
+  pub size-up : length up ≡ draftSize
+  pub size-down : length down ≡ draftSize
 
 pub record Searched (b : Contents) (up down : List ℕ) (found : Bool) (ups at : ℕ) : Type 0 where
   pub written : found ≡ true → BestWritten b up down ups at

@@ -1,0 +1,144 @@
+-- `search::settle_level` meets its contract: the forbidden flags are the level's by `bad-all`, the starting flags by `start-flags`, and the rounds
+-- come to what `settle` says of them. Assumes nothing.
+use mathlib.Core.Path.{refl, sym}
+use borrow.Author.Needs.{needs}
+use Rattle.frames.specs.Book.{contentsOf}
+use Rattle.flags.proofs.FlagLaws.{small-wants, start-flags}
+use Rattle.flags.proofs.BadLaws.{bad-all}
+use Rattle.search.proofs.StepLaws.{starts-allowed}
+use Rattle.search.proofs.settle_level.Statement.{statement}
+use Rattle.search.proofs.settle_level.Tie as tie
+
+-- The places that the answers name, each seen from a later one.
+abbrev entry : tie.After-bad → tie.Start
+entry c = c .before .before .before .before .before .before .before .before .before .before .before
+
+abbrev after-bad-flags : tie.After-allow-all → tie.After-bad-flags
+after-bad-flags c = c .before .before .before .before .before .before
+
+abbrev after-start-flags : tie.After-allow-all → tie.After-start-flags
+after-start-flags c = c .before .before .before
+
+abbrev after-allow-all : tie.After-bad3 → tie.After-allow-all
+after-allow-all c = c .before .before .before .before
+
+abbrev lent-bad : tie.After-settle-arg5 → tie.After-bad3
+lent-bad c = c .before .before .before .before .before .before .before
+
+abbrev after-settle : tie.After-slice-known10 → tie.After-settle
+after-settle c = c .before .before .before .before .before .before .before .before .before .before .before .before .before
+
+slice-aggregate-bad-flags : tie.Need-slice-aggregate-bad-flags
+slice-aggregate-bad-flags c = refl
+
+bad-flags-requires : tie.Need-bad-flags-requires
+unfolding contentsOf
+bad-flags-requires c κs = (small-wants (entry c .pre .accepted), refl)
+
+slice-aggregate-start-flags : tie.Need-slice-aggregate-start-flags
+slice-aggregate-start-flags c = refl
+
+start-flags-requires : tie.Need-start-flags-requires
+start-flags-requires c κs = refl
+
+slice-aggregate-allow-all : tie.Need-slice-aggregate-allow-all
+slice-aggregate-allow-all c = refl
+
+allow-all-requires : tie.Need-allow-all-requires
+allow-all-requires c κs = refl
+
+slice-aggregate-settle : tie.Need-slice-aggregate-settle
+slice-aggregate-settle c = sym (after-bad-flags (after-allow-all c) .bad-flags .ensures .size)
+
+slice-aggregate-settle-2 : tie.Need-slice-aggregate-settle-2
+slice-aggregate-settle-2 c = sym (after-start-flags (after-allow-all (c .before)) .start-flags .ensures .size)
+
+slice-aggregate-settle-3 : tie.Need-slice-aggregate-settle-3
+slice-aggregate-settle-3 c = sym (after-allow-all (c .before .before) .allow-all .ensures .size)
+
+slice-aggregate-settle-4 : tie.Need-slice-aggregate-settle-4
+slice-aggregate-settle-4 c = refl
+
+slice-aggregate-settle-5 : tie.Need-slice-aggregate-settle-5
+slice-aggregate-settle-5 c = refl
+
+settle-requires : tie.Need-settle-requires
+settle-requires c κs =
+    let at-allow-all = after-allow-all (lent-bad c) in
+    let at-bad-flags = after-bad-flags at-allow-all in
+    let pre = entry (at-bad-flags .before) .pre in
+    record {
+      sound-adds = pre .sound-adds;
+      sound-dels = pre .sound-dels;
+      lengths = record {
+        rows = pre .rows;
+        size-bad = at-bad-flags .bad-flags .ensures .size;
+        size-s = after-start-flags at-allow-all .start-flags .ensures .size;
+        size-u = at-allow-all .allow-all .ensures .size;
+        size-x = pre .size-x;
+        size-y = refl;
+        size-d = refl;
+        room-up = pre .room-up;
+        below = pre .room-below;
+        room-down = pre .room-down;
+      };
+      allowed = starts-allowed _ (at-allow-all .allow-all .ensures);
+      names-added = pre .names .room-added;
+      names-deleted = pre .names .room-deleted;
+    }
+
+same-length : tie.Need-same-length
+same-length c = search needs
+
+same-length-2 : tie.Need-same-length-2
+same-length-2 c = search needs
+
+same-length-3 : tie.Need-same-length-3
+same-length-3 c = search needs
+
+same-length-4 : tie.Need-same-length-4
+same-length-4 c = search needs
+
+same-length-5 : tie.Need-same-length-5
+same-length-5 c = search needs
+
+returns : tie.Need-returns
+unfolding contentsOf
+returns c =
+    let at-allow-all = after-allow-all (lent-bad (after-settle c .before)) in
+    let at-bad-flags = after-bad-flags at-allow-all in
+    let start = entry (at-bad-flags .before) in
+    let pre = start .pre in
+    record {
+      bads = _;
+      s = _;
+      u = _;
+      forbidden = bad-all (contentsOf (start .args .b)) (small-wants (pre .accepted)) (start .args .k) (start .args .below)
+          (pre .level) (pre .listed) refl (at-bad-flags .bad-flags .ensures);
+      started = start-flags (start .args .b) (pre .same-facts) (pre .level) refl (after-start-flags at-allow-all .start-flags .ensures);
+      allowed = at-allow-all .allow-all .ensures;
+      result = after-settle c .settle .ensures;
+    }
+
+pub settle-level-spec : {M : Type 1} → statement M
+settle-level-spec =
+    tie.close
+    (tie.spec
+    slice-aggregate-bad-flags
+    bad-flags-requires
+    slice-aggregate-start-flags
+    start-flags-requires
+    slice-aggregate-allow-all
+    allow-all-requires
+    slice-aggregate-settle
+    slice-aggregate-settle-2
+    slice-aggregate-settle-3
+    slice-aggregate-settle-4
+    slice-aggregate-settle-5
+    settle-requires
+    same-length
+    same-length-2
+    same-length-3
+    same-length-4
+    same-length-5
+    returns)

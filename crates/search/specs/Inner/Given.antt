@@ -1,0 +1,63 @@
+-- What the functions of the levels are given, and what a level comes to. No part of what plan promises.
+use mathlib.Core.Path.{_≡_}
+use mathlib.Core.Bool.{Bool}
+use mathlib.Core.List.{List}
+use Prim.Native.Nat.{ℕ, _+_, _*_, _≤_, _<_}
+use lib.ListN.{length}
+use Rattle.widths.specs.Inner.Widths.{levelSize, flagsSize, rowsSize, tableSize}
+use Rattle.frames.specs.declared.Book.{Book}
+use Rattle.frames.specs.Book.{Contents, contentsOf}
+use Rattle.frames.specs.Inner.Fits.{Admitted}
+use Rattle.level.specs.Inner.Moves.{Moves, Sound, movesIn}
+use Rattle.level.specs.Inner.Settle.{Result}
+use Rattle.reach.specs.Inner.Goal.{belowListed}
+use Rattle.flags.specs.Inner.Flags.{Reaching, BadFlags, StartFlags}
+use Rattle.search.specs.Inner.Scan.{SideMoves, AllAllowed}
+
+-- Room for the names of the moves that a level tries first.
+pub record Names (added deleted : List ℕ) : Type 0 where
+  pub room-added : length added ≡ levelSize
+  pub room-deleted : length deleted ≡ levelSize
+
+-- The levels of the crews: an accepted book with its facts and juniors, the moves on crews, and which crews each crew reaches.
+pub record CrewsGiven (b : Book) (facts juniors adds dels : List ℕ) (reach : List Bool) : Type 0 where
+  pub accepted : Admitted (contentsOf b)
+  pub moves : SideMoves b 3 3 4 4 (movesIn adds) (movesIn dels)
+  pub reach-size : length reach ≡ rowsSize
+  pub reaching : Reaching (b .juniors) reach
+  pub same-juniors : juniors ≡ b .juniors
+  pub same-facts : facts ≡ b .facts
+
+-- The level of the query's person: an accepted book with its facts, the moves on the person, and room for a table.
+pub record PersonGiven (b : Book) (facts adds dels : List ℕ) (table : List Bool) : Type 0 where
+  pub accepted : Admitted (contentsOf b)
+  pub moves : SideMoves b 1 5 2 6 (movesIn adds) (movesIn dels)
+  pub rows : length table ≡ tableSize
+  pub same-facts : facts ≡ b .facts
+
+-- Any level, once its table stands: whether a crew's level lies below a listed crew, and room for the names, the flags and the requests.
+pub record LevelGiven (b : Book) (facts : List ℕ) (k : ℕ) (below : Bool) (adds dels added deleted : List ℕ) (table x : List Bool)
+    (ups : ℕ) (up : List ℕ) (at : ℕ) (down : List ℕ) : Type 0 where
+  pub accepted : Admitted (contentsOf b)
+  pub same-facts : facts ≡ b .facts
+  pub level : k ≤ b .sizes .crews
+  pub listed : k < b .sizes .crews → below ≡ belowListed (contentsOf b) k
+  pub sound-adds : Sound (movesIn adds)
+  pub sound-dels : Sound (movesIn dels)
+  pub names : Names added deleted
+  pub rows : length table ≡ tableSize
+  pub size-x : length x ≡ flagsSize
+  pub room-up : 5 * (ups + levelSize) ≤ length up
+  pub room-below : levelSize ≤ at
+  pub room-down : 5 * at ≤ length down
+
+-- What the level comes to, by its starting and its forbidden facts, leave being given to add every fact.
+pub record LevelSettled (b : Contents) (k : ℕ) (adds dels : Moves) (p : ℕ) (T x : List Bool)
+    (ups : ℕ) (up₀ up : List ℕ) (at : ℕ) (down₀ down : List ℕ) (found : Bool) (n at′ : ℕ) : Type 0 where
+  pub bads : List Bool
+  pub s : List Bool
+  pub u : List Bool
+  pub forbidden : BadFlags b k bads
+  pub started : StartFlags b k s
+  pub allowed : AllAllowed u
+  pub result : Result adds dels p T bads s u x ups up₀ up at down₀ down found n at′
