@@ -53,9 +53,9 @@ returns-3 : tie.Need-returns-3
 unfolding showIn contentsOf crewSet viewOf
 returns-3 c =
     let known-person = c .before .before .before .before .before in
-    let at-is-suitable = known-person .before .before .before .before in
+    let suited = known-person .before .before .before in
     rw (
-      sym (at-is-suitable .is-suitable .ensures) ∙ not-false _ (known-person .before .before .before .if1 .left),
+      sym (suited .before .is-suitable .ensures) ∙ not-false _ (suited .if1 .left),
       lt-ltb _ _ (known-person .if2 .left),
       ← c .before .before .value-sets .ensures,
       ← c .crews-below .ensures,
