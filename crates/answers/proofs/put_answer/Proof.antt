@@ -10,18 +10,18 @@ use borrow.Author.Needs.{needs}
 use Rattle.answers.proofs.put_answer.Statement.{statement}
 use Rattle.answers.proofs.put_answer.Tie as tie
 
--- The places that the answers name, each seen from a later one.
+-- The places that the answers name, each from a later one: the start, the three arms of the match, and within the last two what is put.
 abbrev entry : tie.After-slice-known → tie.Start
 entry c = c .before .before
 
-abbrev after-answer2 : tie.After-refusal-number → tie.After-answer2
-after-answer2 c = c .before .before
+abbrev refused-arm : tie.After-refusal-number → tie.After-answer2
+refused-arm c = c .before .before
 
-abbrev after-enum-told : tie.After-text → tie.After-enum-told
-after-enum-told c = c .before .before .before .before
+abbrev no-way-arm : tie.After-text → tie.After-enum-told
+no-way-arm c = c .before .before .before .before
 
-abbrev after-answer : tie.After-slice-known3 → tie.After-answer
-after-answer c = c .before .before .before .before .before .before .before .before
+abbrev plan-arm : tie.After-slice-known3 → tie.After-answer
+plan-arm c = c .before .before .before .before .before .before .before .before
 
 abbrev after-refusal-line : tie.After-text4 → tie.After-refusal-line
 after-refusal-line c = c .before .before .before
@@ -55,23 +55,23 @@ put-line-requires-2 c κs = search needs
 
 mul-end : tie.Need-mul-end
 mul-end c =
-    let at-answer = after-answer c in
-    let answer = at-answer .answer .given in
-    omega (arith, entry (at-answer .before .before) .pre .requests (answer .0 .0) (answer .1) .0)
+    let arm = plan-arm c in
+    let answer = arm .answer .given in
+    omega (arith, entry (arm .before .before) .pre .requests (answer .0 .0) (answer .1) .0)
 
 slice-aggregate-put-requests : tie.Need-slice-aggregate-put-requests
 slice-aggregate-put-requests c =
-    let at-answer = after-answer (c .before) in
-    let start = entry (at-answer .before .before) in
-    let answer = at-answer .answer .given in
+    let arm = plan-arm (c .before) in
+    let start = entry (arm .before .before) in
+    let answer = arm .answer .given in
     sym (length-take-le (5 * answer .0 .0) (start .args .plan .now) (start .pre .requests (answer .0 .0) (answer .1) .0))
 
 put-requests-requires : tie.Need-put-requests-requires
 unfolding hexLine hex
 put-requests-requires c κs =
-    let at-answer = after-answer (c .before .before) in
-    let start = entry (at-answer .before .before) in
-    let answer = at-answer .answer .given in
+    let arm = plan-arm (c .before .before) in
+    let start = entry (arm .before .before) in
+    let answer = arm .answer .given in
     let room = start .pre .requests (answer .0 .0) (answer .1) in
     let below = room-behind 7 (11 * answer .0 .0) (after-put-line2 c .put-line2 .ensures) refl (room .1) in
     omega (arith, below, room .0, length-take (5 * answer .0 .0) (start .args .plan .now))
@@ -93,8 +93,8 @@ same-length c = search needs
 
 returns : tie.Need-returns
 returns c =
-    let at-told = after-enum-told (c .before) in
-    no-way-written (entry (at-told .before .before) .args .plan .now) (at-told .enum-told .given .1)
+    let arm = no-way-arm (c .before) in
+    no-way-written (entry (arm .before .before) .args .plan .now) (arm .enum-told .given .1)
     (c .before .before .put-line .ensures)
 
 same-length-2 : tie.Need-same-length-2
@@ -106,9 +106,9 @@ returns-2 c =
     let at-line = after-put-line2 (at-requests .before) in
     let at-low = at-line .before .before .before in
     let at-high = at-low .before in
-    let at-answer = at-high .before .before in
-    let plan = entry (at-answer .before .before) .args .plan .now in
-    let answer = at-answer .answer .given in
+    let arm = at-high .before .before in
+    let plan = entry (arm .before .before) .args .plan .now in
+    let answer = arm .answer .given in
     plan-written plan (answer .0 .0) (answer .1) (at-high .high-byte .ensures) (at-low .low-byte .ensures)
     (at-line .put-line2 .ensures)
     (at-requests .put-requests .ensures)
@@ -119,9 +119,9 @@ same-length-3 c = search needs
 returns-3 : tie.Need-returns-3
 returns-3 c =
     let at-refusal-line = after-refusal-line (c .before) in
-    let at-answer2 = after-answer2 (at-refusal-line .before) in
-    let answer = at-answer2 .answer2 .given in
-    refused-written (entry (at-answer2 .before .before) .args .plan .now) (answer .0 .0) (answer .1)
+    let arm = refused-arm (at-refusal-line .before) in
+    let answer = arm .answer2 .given in
+    refused-written (entry (arm .before .before) .args .plan .now) (answer .0 .0) (answer .1)
     (at-refusal-line .before .refusal-number .ensures) (at-refusal-line .refusal-line .ensures)
     (c .before .before .put-refused .ensures)
 

@@ -11,35 +11,36 @@ use borrow.Author.Needs.{needs}
 use Rattle.answers.proofs.put_book.Statement.{statement}
 use Rattle.answers.proofs.put_book.Tie as tie
 
--- The places that the answers name, each seen from a later one.
+-- The places that the answers name, each from a later one: the facts are counted, the start, then the sizes, the edges, the rules and
+-- the facts are written.
 abbrev after-fact-count : tie.After-put-bytes → tie.After-fact-count
 after-fact-count c = c .before .before .before .before
 
 abbrev start : tie.After-put-bytes → tie.Start
 start c = after-fact-count c .before .before .before .before .before
 
-abbrev after-put-bytes : tie.After-put-count → tie.After-put-bytes
-after-put-bytes c = c .before .before .before .before
+abbrev after-sizes : tie.After-put-count → tie.After-put-bytes
+after-sizes c = c .before .before .before .before
 
-abbrev after-put-count : tie.After-put-count2 → tie.After-put-count
-after-put-count c = c .before .before .before .before
+abbrev after-edges : tie.After-put-count2 → tie.After-put-count
+after-edges c = c .before .before .before .before
 
-abbrev after-put-count2 : tie.After-put-count3 → tie.After-put-count2
-after-put-count2 c = c .before .before .before .before
+abbrev after-rules : tie.After-put-count3 → tie.After-put-count2
+after-rules c = c .before .before .before .before
 
-abbrev after-put-count3 : tie.After-put-line-arg2 → tie.After-put-count3
-after-put-count3 c = c .before .before .before .before
+abbrev after-facts : tie.After-put-line-arg2 → tie.After-put-count3
+after-facts c = c .before .before .before .before
 
 -- The sizes and the counts are 25 characters: there is room for the four behind them.
 counted-room : (c : tie.After-put-count3) → c .put-count3 .result + 4 ≤ length (c .put-count3 .last .1 .0)
 unfolding hex count
 counted-room c =
-    let at-put-count2 = after-put-count2 c in
-    let at-put-count = after-put-count at-put-count2 in
-    let at-put-bytes = after-put-bytes at-put-count in
-    let edged = written-more (at-put-bytes .put-bytes .ensures) (at-put-count .put-count .ensures) in
-    let counted = written-more (written-more edged (at-put-count2 .put-count2 .ensures)) (c .put-count3 .ensures) in
-    room-behind 25 4 counted refl (omega (arith, start at-put-bytes .pre))
+    let at-rules = after-rules c in
+    let at-edges = after-edges at-rules in
+    let at-sizes = after-sizes at-edges in
+    let edged = written-more (at-sizes .put-bytes .ensures) (at-edges .put-count .ensures) in
+    let counted = written-more (written-more edged (at-rules .put-count2 .ensures)) (c .put-count3 .ensures) in
+    room-behind 25 4 counted refl (omega (arith, start at-sizes .pre))
 
 edge-count-requires : tie.Need-edge-count-requires
 edge-count-requires c κs = search needs
@@ -62,20 +63,20 @@ put-count-requires c κs =
 put-count-requires-2 : tie.Need-put-count-requires-2
 unfolding hex count
 put-count-requires-2 c κs =
-    let at-put-bytes = after-put-bytes (c .before .before .before) in
-    let sized = at-put-bytes .put-bytes .ensures in
+    let at-sizes = after-sizes (c .before .before .before) in
+    let sized = at-sizes .put-bytes .ensures in
     let edged = written-more sized (c .before .before .before .put-count .ensures) in
-    room-behind 15 5 edged refl (omega (arith, start at-put-bytes .pre))
+    room-behind 15 5 edged refl (omega (arith, start at-sizes .pre))
 
 put-count-requires-3 : tie.Need-put-count-requires-3
 unfolding hex count
 put-count-requires-3 c κs =
-    let at-put-count = after-put-count (c .before .before .before) in
-    let at-put-bytes = after-put-bytes at-put-count in
-    let sized = at-put-bytes .put-bytes .ensures in
-    let edged = written-more sized (at-put-count .put-count .ensures) in
+    let at-edges = after-edges (c .before .before .before) in
+    let at-sizes = after-sizes at-edges in
+    let sized = at-sizes .put-bytes .ensures in
+    let edged = written-more sized (at-edges .put-count .ensures) in
     let ruled = written-more edged (c .before .before .before .put-count2 .ensures) in
-    room-behind 20 5 ruled refl (omega (arith, start at-put-bytes .pre))
+    room-behind 20 5 ruled refl (omega (arith, start at-sizes .pre))
 
 slice-write-text : tie.Need-slice-write-text
 slice-write-text c = omega (arith, counted-room (c .before .before))
@@ -87,35 +88,35 @@ slice-aggregate-put-line : tie.Need-slice-aggregate-put-line
 slice-aggregate-put-line c = search needs
 
 put-line-requires : tie.Need-put-line-requires
-put-line-requires c κs = simp length-set (omega (arith, counted-room (after-put-count3 c)))
+put-line-requires c κs = simp length-set (omega (arith, counted-room (after-facts c)))
 
 same-length : tie.Need-same-length
 same-length c =
-    let at-put-count3 = after-put-count3 (c .before .before .before) in
-    let at-put-count2 = after-put-count2 at-put-count3 in
-    let at-put-count = after-put-count at-put-count2 in
-    let sized = after-put-bytes at-put-count .put-bytes .ensures in
-    let edged = at-put-count .put-count .ensures in
-    let ruled = at-put-count2 .put-count2 .ensures in
-    let counted = at-put-count3 .put-count3 .ensures in
+    let at-facts = after-facts (c .before .before .before) in
+    let at-rules = after-rules at-facts in
+    let at-edges = after-edges at-rules in
+    let sized = after-sizes at-edges .put-bytes .ensures in
+    let edged = at-edges .put-count .ensures in
+    let ruled = at-rules .put-count2 .ensures in
+    let counted = at-facts .put-count3 .ensures in
     let whole = written-more (written-more (written-more sized edged) ruled) counted in
-    c .before .before .put-line .ensures .size ∙ length-set (at-put-count3 .put-count3 .last .1 .0) _ 32 ∙ whole .size
+    c .before .before .put-line .ensures .size ∙ length-set (at-facts .put-count3 .last .1 .0) _ 32 ∙ whole .size
 
 returns : tie.Need-returns
 unfolding contentsOf
 returns c =
-    let at-put-count3 = after-put-count3 (c .before .before .before) in
-    let at-put-count2 = after-put-count2 at-put-count3 in
-    let at-put-count = after-put-count at-put-count2 in
-    let at-put-bytes = after-put-bytes at-put-count in
-    let at-start = start at-put-bytes in
-    let at-fact-count = after-fact-count at-put-bytes in
-    let sized = at-put-bytes .put-bytes .ensures in
-    let edged = at-put-count .put-count .ensures in
-    let ruled = at-put-count2 .put-count2 .ensures in
-    let counted = at-put-count3 .put-count3 .ensures in
+    let at-facts = after-facts (c .before .before .before) in
+    let at-rules = after-rules at-facts in
+    let at-edges = after-edges at-rules in
+    let at-sizes = after-sizes at-edges in
+    let at-start = start at-sizes in
+    let at-fact-count = after-fact-count at-sizes in
+    let sized = at-sizes .put-bytes .ensures in
+    let edged = at-edges .put-count .ensures in
+    let ruled = at-rules .put-count2 .ensures in
+    let counted = at-facts .put-count3 .ensures in
     book-written (contentsOf (at-start .args .b)) sized (at-fact-count .before .before .edge-count .ensures) edged ruled
-    (at-fact-count .fact-count .ensures) counted (omega (arith, counted-room at-put-count3))
+    (at-fact-count .fact-count .ensures) counted (omega (arith, counted-room at-facts))
     (c .before .before .put-line .ensures)
 
 pub put-book-spec : {M : Type 1} → statement M

@@ -8,8 +8,8 @@ use Rattle.answers.proofs.put_reading.Tie as tie
 abbrev start : tie.After-outcome → tie.Start
 start c = c .before .before .before
 
-abbrev after-enum-told : tie.After-text2 → tie.After-enum-told
-after-enum-told c = c .before .before .before .before
+abbrev accepted-arm : tie.After-text2 → tie.After-enum-told
+accepted-arm c = c .before .before .before .before
 
 abbrev after-refusal-line : tie.After-text → tie.After-refusal-line
 after-refusal-line c = c .before .before .before
@@ -48,8 +48,8 @@ same-length-2 c = search needs
 
 returns-2 : tie.Need-returns-2
 returns-2 c =
-    let at-enum-told = after-enum-told (c .before) in
-    accepted-answered (at-enum-told .before .before .before .args .r) (at-enum-told .enum-told .given .1)
+    let arm = accepted-arm (c .before) in
+    accepted-answered (arm .before .before .before .args .r) (arm .enum-told .given .1)
     (c .before .before .put-book .ensures)
 
 pub put-reading-spec : {M : Type 1} → statement M
