@@ -66,7 +66,9 @@ module _ {sets before : List ℕ} {i : ℕ} {view : List ℕ} (eight : length se
   front-length = twos-length (take i sets) ∙ ap (λ (n : ℕ). 2 * n) (length-take-le i sets (omega (arith, w .few)))
 
   pub view-length : length view ≡ length before
-  view-length = ap length (w .front) ∙ length-append (twos (take i sets)) (drop (2 * i) before) ∙ omega (arith, front-length, length-drop (2 * i) before, w .few)
+  view-length =
+      ap length (w .front) ∙ length-append (twos (take i sets)) (drop (2 * i) before)
+      ∙ omega (arith, front-length, length-drop (2 * i) before, w .few)
 
   pub sets-more : i < 8 → {after : List ℕ} → after ≡ putTwo view (2 * i) (getD sets i 0) → SetsWritten sets before (i + 1) after
   sets-more h put =
@@ -110,7 +112,8 @@ module _ (s : Shown) (v : View) (e : viewOf s ≡ v) where
   view-shown o = sym e ∙ ap (λ (w : Outcome). record { answer = said w; sets = s .sets; crews = s .crews }) o
 
 module _ (v : View) (before : List ℕ) (n : ℕ) where
-  pub hidden-coded : (r : Refusal) → v .answer ≡ refusal (refusalNumber r) (refusalLine r) → n ≡ code 1 (refusalNumber r) (refusalLine r) → coded n before ≡ viewCoded v before
+  pub hidden-coded : (r : Refusal) → v .answer ≡ refusal (refusalNumber r) (refusalLine r) → n ≡ code 1 (refusalNumber r) (refusalLine r)
+      → coded n before ≡ viewCoded v before
   hidden-coded r e is = rw (e, is) refl
 
   pub no-room-coded : (sets : List ℕ) (crews : ℕ) → v ≡ shown sets crews → length before < 20 → n ≡ code 7 0 0 → coded n before ≡ viewCoded v before

@@ -32,11 +32,11 @@ code-of-requires c κs = search needs
 
 returns : tie.Need-returns
 returns c =
-    let at-outcome = c .before .before .before .before in
-    let start = at-outcome .before .before .before .before .before .before in
-    let s = at-outcome .before .before .show in
-    let r = at-outcome .outcome .given .0 .0 in
-    hidden-coded _ (start .args .view .now) _ r (view-hidden (s .result) _ (s .ensures) r (at-outcome .outcome .given .1))
+    let refused = c .before .before .before .before in
+    let start = refused .before .before .before .before .before .before in
+    let s = refused .before .before .show in
+    let r = refused .outcome .given .0 .0 in
+    hidden-coded _ (start .args .view .now) _ r (view-hidden (s .result) _ (s .ensures) r (refused .outcome .given .1))
     (c .code-of .ensures ∙ rw (c .before .before .refusal-number .ensures, c .before .refusal-line .ensures) refl)
 
 enum-told : tie.Need-enum-told

@@ -27,8 +27,8 @@ returns c = rw (c .before .enum-told .given .1) (c .code-of .ensures)
 
 returns-2 : tie.Need-returns-2
 returns-2 c =
-    let at-o = c .before .before .before .before in
-    rw (at-o .o .given .1)
+    let refused = c .before .before .before .before in
+    rw (refused .o .given .1)
     (c .code-of2 .ensures ∙ rw (c .before .before .refusal-number .ensures, c .before .refusal-line .ensures) refl)
 
 pub outcome-code-spec : {M : Type 1} → statement M

@@ -36,8 +36,8 @@ returns-2 c = rw (c .before .before .a .given .1) (c .code-of2 .ensures)
 
 returns-3 : tie.Need-returns-3
 returns-3 c =
-    let at-a2 = c .before .before .before .before in
-    rw (at-a2 .a2 .given .1)
+    let refused = c .before .before .before .before in
+    rw (refused .a2 .given .1)
     (c .code-of3 .ensures ∙ rw (c .before .before .refusal-number .ensures, c .before .refusal-line .ensures) refl)
 
 pub plan-code-spec : {M : Type 1} → statement M

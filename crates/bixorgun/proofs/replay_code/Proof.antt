@@ -27,8 +27,8 @@ returns c = rw (c .before .before .a .given .1) (c .judgement-code .ensures)
 
 returns-2 : tie.Need-returns-2
 returns-2 c =
-    let at-a2 = c .before .before .before .before in
-    rw (at-a2 .a2 .given .1)
+    let refused = c .before .before .before .before in
+    rw (refused .a2 .given .1)
     (c .code-of .ensures ∙ rw (c .before .before .refusal-number .ensures, c .before .refusal-line .ensures) refl)
 
 pub replay-code-spec : {M : Type 1} → statement M
