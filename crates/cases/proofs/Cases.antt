@@ -31,7 +31,8 @@ unfolding table d1 d2 d3 d4 d5 d6 d7 d8 d9 d10-senior d10-junior d11 d12 codes w
     test passesOn passes isReaches showsIn doneIn sameBytes among named namedBelow allNamed candidates join stepped spread reached stays closed unmet shut
     bit member put within subset memberAt putAt numberAt fits setAt setWidth memberOf holds putFact noFacts
     digit isDigit malformed frameOf byteAt extend lines
-    allBelow valuesOf pairAt quadAt misplaced lengthOf mislengthed sizesVerdict edgeVerdict ruleGood foreign ruleVerdict factVerdict queryGood queryVerdict fieldsVerdict verdict lineVerdict
+    allBelow valuesOf pairAt quadAt misplaced lengthOf mislengthed sizesVerdict edgeVerdict
+    ruleGood foreign ruleVerdict factVerdict queryGood queryVerdict fieldsVerdict verdict lineVerdict
     termAt termsOf ruleOf juniorsAfter factOf factsAfter rulesAfter wantAt wantsOf queryOf queryAfter knownAfter nothing enter walk bookOf
     isJunior anyBelow downWithin downward crewHolds personIn personHolds aimed requestOf fieldsGood wellFormed
     all any subjectOf aOf vOf directly effectively inDirectly inEffectively termHolds names permits permitted

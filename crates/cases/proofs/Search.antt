@@ -150,7 +150,8 @@ module _ (z : Sizes) (op role s a v : ℕ) where
   aimed-a = by-op (leb op 2) (leb op 4)
     where
       by-op : (x y : Bool)
-          → aOf (cond x (Holds (record { 0 = s }) (record { 0 = a }) v) (cond y (CrewHolds (record { 0 = s }) (record { 0 = a }) v) (Member (record { 0 = s }) (record { 0 = a })))) ≡ a
+          → aOf (cond x (Holds (record { 0 = s }) (record { 0 = a }) v)
+          (cond y (CrewHolds (record { 0 = s }) (record { 0 = a }) v) (Member (record { 0 = s }) (record { 0 = a })))) ≡ a
       by-op true y = refl
       by-op false true = refl
       by-op false false = refl
@@ -166,8 +167,10 @@ module _ (z : Sizes) (op role s a v : ℕ) where
   aimed-v e = by-op (leb op 2) (leb op 4) (leb 1 op) (leb 3 op) e
     where
       by-op : (x y lo mid : Bool)
-          → ((lo && x && isPerson z s && isValue z a v) || (mid && y && isCrew z s && isValue z a v) || (between 5 6 op && isPerson z s && isCrewField z a v)) && leb role 15 ≡ true
-          → vOf (cond x (Holds (record { 0 = s }) (record { 0 = a }) v) (cond y (CrewHolds (record { 0 = s }) (record { 0 = a }) v) (Member (record { 0 = s }) (record { 0 = a })))) ≡ v
+          → ((lo && x && isPerson z s && isValue z a v) || (mid && y && isCrew z s && isValue z a v)
+          || (between 5 6 op && isPerson z s && isCrewField z a v)) && leb role 15 ≡ true
+          → vOf (cond x (Holds (record { 0 = s }) (record { 0 = a }) v)
+          (cond y (CrewHolds (record { 0 = s }) (record { 0 = a }) v) (Member (record { 0 = s }) (record { 0 = a })))) ≡ v
       by-op true y lo mid f = refl
       by-op false true lo mid f = refl
       by-op false false true true f = assigned-v f
@@ -180,7 +183,8 @@ module _ (z : Sizes) (op role s a v : ℕ) where
   aimed-subject e = by-op (leb op 2) (leb op 4) e
     where
       by-op : (x y : Bool)
-          → inSizes z (cond x (Holds (record { 0 = s }) (record { 0 = a }) v) (cond y (CrewHolds (record { 0 = s }) (record { 0 = a }) v) (Member (record { 0 = s }) (record { 0 = a })))) ≡ true
+          → inSizes z (cond x (Holds (record { 0 = s }) (record { 0 = a }) v)
+          (cond y (CrewHolds (record { 0 = s }) (record { 0 = a }) v) (Member (record { 0 = s }) (record { 0 = a })))) ≡ true
           → s < z .persons + z .crews
       by-op true y f = omega (arith, ltb-true s (z .persons) (and-both (isPerson z s) (isValue z a v) f .0))
       by-op false true f = omega (arith, ltb-true s (z .crews) (and-both (isCrew z s) (isValue z a v) f .0))
