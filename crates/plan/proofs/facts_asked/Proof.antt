@@ -31,7 +31,9 @@ add-result c = search needs
 
 mul-result : tie.Need-mul-result
 mul-result c =
-    omega (arith, cells-fit (c .before .before .size-at .result) (c .before .size-at2 .result) (c .before .before .size-at .ensures) (c .before .size-at2 .ensures))
+    let fit = cells-fit (c .before .before .size-at .result) (c .before .size-at2 .result) (c .before .before .size-at .ensures)
+    (c .before .size-at2 .ensures) in
+    omega (arith, fit)
 
 abbrev room : (c : tie.After-size-at3) → (1 + c .before .before .size-at .result) * c .before .size-at2 .result * c .size-at3 .result ≤ 81483087600
 room c =

@@ -15,11 +15,11 @@ use Rattle.plan_books.proofs.plan.Tie as tie
 abbrev after-put-answer : tie.After-text4 → tie.After-put-answer
 after-put-answer c = c .before .before .before .before
 
-abbrev after-text4 : tie.After-known-told → tie.After-text4
-after-text4 c = c .before .before .before .before
+abbrev after-line-end : tie.After-known-told → tie.After-text4
+after-line-end c = c .before .before .before .before
 
 abbrev after-plan : tie.After-known-told → tie.After-plan
-after-plan c = after-put-answer (after-text4 c) .before .before .before .before
+after-plan c = after-put-answer (after-line-end c) .before .before .before .before
 
 open-read-requires : tie.Need-open-read-requires
 open-read-requires c κs = search needs
