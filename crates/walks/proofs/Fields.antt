@@ -1,4 +1,5 @@
--- An array of records that is a field of a record: the field's relation is over the records' tuples, and is the array's own relation over the records. So what a function copies out of the field it can use as any array. It says nothing of any crate.
+-- An array of records that is a field of a record: the field's relation is over the records' tuples, and is the array's own
+-- relation over the records. So what a function copies out of the field it can use as any array. It says nothing of any crate.
 --     array-of-field       from the field's relation (one of `denote.Struct.Laws`'s `owed`) to that of `[T; n]`
 -- Assumes nothing.
 use mathlib.Core.Path.{sym, _∙_}
@@ -13,7 +14,8 @@ use denote.Struct.Struct.{Struct}
 use denote.Struct.Declared.{Declared, shape, row}
 
 module _ (T : Declared) where
-  eachs : (xs : List (T .D)) (us : List Val) → shadow (each (Struct (shape T) .Denot) (Struct (shape T) .own) (map (T .to) xs) us) → shadow (each (T .D) (row T .own) xs us)
+  eachs : (xs : List (T .D)) (us : List Val)
+      → shadow (each (Struct (shape T) .Denot) (Struct (shape T) .own) (map (T .to) xs) us) → shadow (each (T .D) (row T .own) xs us)
   eachs [] [] e = e
   eachs [] (u ∷ us) e = e
   eachs (x ∷ xs) [] e = e

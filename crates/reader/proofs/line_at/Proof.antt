@@ -7,15 +7,16 @@ use borrow.Author.Needs.{needs}
 use Rattle.reader.proofs.line_at.Statement.{statement}
 use Rattle.reader.proofs.line_at.Tie as tie
 
--- The places that the answers name, each seen from a later one.
+-- The places that the answers name, each seen from a later one: the start from after the call of `decode_front`, and that call from the
+-- branch where 0A stands behind the digits and from the end of the other branch.
 abbrev entry : tie.After-decode-front → tie.Start
 entry c = c .before .before .before .before .before .before
 
-abbrev after-decode-front : tie.Then1 → tie.After-decode-front
-after-decode-front c = c .before .before .before .before
+abbrev front-of-ended : tie.Then1 → tie.After-decode-front
+front-of-ended c = c .before .before .before .before
 
-abbrev after-decode-front-from-frame2 : tie.After-frame2 → tie.After-decode-front
-after-decode-front-from-frame2 c = c .before .before .before .before .before .before .before
+abbrev front-of-other : tie.After-frame2 → tie.After-decode-front
+front-of-other c = c .before .before .before .before .before .before .before
 
 sub-x : tie.Need-sub-x
 sub-x c = search needs
@@ -37,11 +38,11 @@ is-end-requires c κs = search needs
 
 add-t15 : tie.Need-add-t15
 add-t15 c =
-    let start = entry (after-decode-front c) .args in
+    let start = entry (front-of-ended c) .args in
     omega (
       arith,
       front-inside (start .book .now) (start .at) _ (rest-of (start .book .now) (start .at)) _
-          (after-decode-front c .decode-front .result) _ (after-decode-front c .decode-front .ensures)
+          (front-of-ended c .decode-front .result) _ (front-of-ended c .decode-front .ensures)
           (sym (c .before .is-end .ensures) ∙ c .if1 .taken),
     )
 
@@ -50,9 +51,9 @@ same-length c = search needs
 
 returns : tie.Need-returns
 returns c =
-    let at-start = entry (after-decode-front c) in
+    let at-start = entry (front-of-ended c) in
     front-read _ _ _ (rest-of (at-start .args .book .now) (at-start .args .at)) _ _ _
-    (after-decode-front c .decode-front .ensures) (sym (c .before .is-end .ensures) ∙ c .if1 .taken)
+    (front-of-ended c .decode-front .ensures) (sym (c .before .is-end .ensures) ∙ c .if1 .taken)
 
 any-line-at-requires : tie.Need-any-line-at-requires
 any-line-at-requires c κs = search needs
@@ -62,7 +63,7 @@ same-length-2 c = search needs
 
 returns-2 : tie.Need-returns-2
 returns-2 c =
-    read-over _ _ _ _ _ _ (after-decode-front-from-frame2 (c .before) .decode-front .ensures .size)
+    read-over _ _ _ _ _ _ (front-of-other (c .before) .decode-front .ensures .size)
     (c .before .before .any-line-at .ensures)
 
 pub line-at-spec : {M : Type 1} → statement M
