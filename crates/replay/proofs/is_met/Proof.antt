@@ -34,7 +34,8 @@ unlisted true d a e z = absurd (true≢false z)
 unlisted false true a e z = absurd (true≢false z)
 unlisted false false a e _ = refl
 
-by-mode : (m d : Bool) (f g : Want → Bool) (ws : List Want) → (not (not m) || d) ≡ true → all (λ w. cond (not m) (f w) (g w)) ws ≡ cond m (all g ws) (d && all f ws)
+by-mode : (m d : Bool) (f g : Want → Bool) (ws : List Want) → (not (not m) || d) ≡ true
+    → all (λ w. cond (not m) (f w) (g w)) ws ≡ cond m (all g ws) (d && all f ws)
 by-mode true d f g ws _ = refl
 by-mode false true f g ws _ = refl
 by-mode false false f g ws z = absurd (true≢false (sym z))

@@ -397,7 +397,8 @@ module _ {M : Type 1} (𝓤 : URA M) (H : Heap 𝓤) (A : Atoms 𝓤) (W : Given
         (λ r ws. Said (i .0) l r (ws .1 .1 .1 .1 .0)) (λ r ws. id⊢ 𝓤 _) (λ r ws said. move ! (1 ∷ []) $
         facts ! Boolean (Is Boolean) (shows 𝓤 H A Boolean) r (w ∷ []) (λ is.
         -- [the tokens; what is said of the last values; the rules; the juniors; the requests; what is kept of the ledger; _12; …]
-        land ! (from ! (stop !)) (init ! 10 refl (bool-lawful 𝓤 H A W .typed r _ is .0)) $ rewrite ! 10 (λ (u : Val). ‵ (fat fullShare tyBool l₁₀ 0 u)) (ap only is) refl $
+        land ! (from ! (stop !)) (init ! 10 refl (bool-lawful 𝓤 H A W .typed r _ is .0)) $
+        rewrite ! 10 (λ (u : Val). ‵ (fat fullShare tyBool l₁₀ 0 u)) (ap only is) refl $
         move ! (1 ∷ []) $ fsplit ! $ drop ! $ fsplit ! $ drop ! $ fsplit ! $ drop ! $ fsplit ! $ drop ! $ fsplit ! $ fsplit ! $ move ! (1 ∷ []) $
         feqL ! (λ same.
         -- the lifetime ends, and the ledger is back at its last list

@@ -45,7 +45,7 @@ use denote.Triple.Entry.{Vals, onEntry}
 use denote.Triple.Spec.{Meets, tripleOf}
 use denote.Triple.Table.{entered, cited}
 use denote.Triple.Walked.{says, needs, Stays, stay-dropped, gave-slice, walkOf, Walks, ends-at, walked, goes-dropped, goes-gave-slice, walk-meets}
-use Rattle.walks.proofs.Walk.{returned}
+use Rattle.walks.proofs.Walk.{returned, frees-all}
 use Rattle.walks.proofs.Last.{returned-last}
 use Rattle.walks.proofs.Shared.{LentShared, lends-shared, back-shared}
 use Rattle.facts.specs.Facts.{holds}
@@ -335,7 +335,8 @@ module _ {M : Type 1} (𝓤 : URA M) (H : Heap 𝓤) (A : Atoms 𝓤) (W : Given
         (and-then ! (load ! (from ! (stop !)) (look ! 26 refl)) (and-then ! (load ! (from ! (stop !)) (look ! 24 refl)) (no-more !))))) (λ t.
         returned ! tt is-due.ended (is-due.clauses 𝓤 H A mem run) to-due t T₃ (id⊢ 𝓤 _) (λ d. d ≡ due z ρ five) (λ d ws. id⊢ 𝓤 _) (λ d ed.
         move ! (1 ∷ []) $ facts ! Boolean (Is Boolean) (shows 𝓤 H A Boolean) d (t ∷ []) (λ isd.
-        land ! (from ! (stop !)) (init ! 22 refl (bool-lawful 𝓤 H A W .typed d _ isd .0)) $ rewrite ! 22 (λ (u : Val). ‵ (fat fullShare tyBool l₈ 0 u)) (ap only isd) refl $
+        land ! (from ! (stop !)) (init ! 22 refl (bool-lawful 𝓤 H A W .typed d _ isd .0)) $
+        rewrite ! 22 (λ (u : Val). ‵ (fat fullShare tyBool l₈ 0 u)) (ap only isd) refl $
         use2 W (raw (RequestAt 𝓤 H A mem run .pre to-request)) asked-request $
         calls-at ! fm (RequestAt 𝓤 H A mem run) known-request to-request
         (and-then ! (load ! (from ! (stop !)) (look ! 25 refl)) (and-then ! (load ! (from ! (stop !)) (look ! 23 refl)) (no-more !))) (λ u.
@@ -389,10 +390,8 @@ module _ {M : Type 1} (𝓤 : URA M) (H : Heap 𝓤) (A : Atoms 𝓤) (W : Given
         returns ! (look ! 37 refl) $ forget ! 7 refl $ forget ! 9 refl $ forget ! 11 refl $ forget ! 13 refl $ forget ! 15 refl $ forget ! 17 refl $
         forget ! 19 refl $ forget ! 21 refl $ forget ! 23 refl $ forget ! 25 refl $ forget ! 27 refl $ forget ! 29 refl $ forget ! 31 refl $
         forget ! 33 refl $ forget ! 35 refl $ forget ! 37 refl $
-        move ! (37 ∷ 38 ∷ []) $ free1 ! $ move ! (35 ∷ 36 ∷ []) $ free1 ! $ move ! (33 ∷ 34 ∷ []) $ free1 ! $ move ! (31 ∷ 32 ∷ []) $ free1 ! $
-        move ! (29 ∷ 30 ∷ []) $ free1 ! $ move ! (27 ∷ 28 ∷ []) $ free1 ! $ move ! (25 ∷ 26 ∷ []) $ free1 ! $ move ! (23 ∷ 24 ∷ []) $ free1 ! $
-        move ! (21 ∷ 22 ∷ []) $ free1 ! $ move ! (19 ∷ 20 ∷ []) $ free1 ! $ move ! (17 ∷ 18 ∷ []) $ free1 ! $ move ! (15 ∷ 16 ∷ []) $ free1 ! $
-        move ! (13 ∷ 14 ∷ []) $ free1 ! $ move ! (11 ∷ 12 ∷ []) $ free1 ! $ move ! (9 ∷ 10 ∷ []) $ free1 ! $ move ! (7 ∷ 8 ∷ []) $ free1 ! $ free0 ! $
+        move ! (37 ∷ 38 ∷ 35 ∷ 36 ∷ 33 ∷ 34 ∷ 31 ∷ 32 ∷ 29 ∷ 30 ∷ 27 ∷ 28 ∷ 25 ∷ 26 ∷ 23 ∷ 24 ∷ 21 ∷ 22 ∷ 19 ∷ 20 ∷ 17 ∷ 18 ∷ 15 ∷ 16 ∷ 13 ∷ 14 ∷ 11
+        ∷ 12 ∷ 9 ∷ 10 ∷ 7 ∷ 8 ∷ []) $ frees-all ! _ $
         keep ! (5 ∷ 4 ∷ 3 ∷ 6 ∷ 1 ∷ 0 ∷ []) $
         by ! (exits r p (ws .1 .1 .1 .1 .0) (step-done z (now s₁) (now s₀) ρ ys five d f q r (ws .1 .1 .1 .1 .0) ed eq ef said)
         same))))))))))))))))))))))))))))))))
