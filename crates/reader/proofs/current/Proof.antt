@@ -43,7 +43,7 @@ use denote.Triple.Entry.{Vals, onEntry}
 use denote.Triple.Spec.{Meets, tripleOf}
 use denote.Triple.Table.{entered, cited}
 use denote.Triple.Walked.{says, needs, Stays, stay-dropped, gave-slice, walkOf, Walks, ends-at, walked, goes-dropped, goes-gave-slice, walk-meets}
-use Rattle.walks.proofs.Walk.{goes}
+use Rattle.walks.proofs.Walk.{goes, frees-all}
 use Rattle.walks.proofs.Last.{returned-last}
 use Rattle.lines.specs.Inner.Front.{Tabled}
 use Rattle.reader.specs.Inner.Reading.{LineRead}
@@ -202,9 +202,7 @@ module _ {M : Type 1} (𝓤 : URA M) (H : Heap 𝓤) (A : Atoms 𝓤) (W : Given
         land ! (from ! (stop !)) (init ! 23 refl (LL.lawful L.the-type L′.the-laws 𝓤 H A W .typed l _ is .0)) $
         returns ! (look ! 23 refl) $ forget ! 9 refl $ forget ! 11 refl $ forget ! 13 refl $ forget ! 15 refl $ forget ! 17 refl $ forget ! 19 refl $
         forget ! 21 refl $ forget ! 23 refl $
-        move ! (23 ∷ 24 ∷ []) $ free1 ! $ move ! (21 ∷ 22 ∷ []) $ free1 ! $ move ! (19 ∷ 20 ∷ []) $ free1 ! $ move ! (17 ∷ 18 ∷ []) $ free1 ! $
-        move ! (15 ∷ 16 ∷ []) $ free1 ! $ move ! (13 ∷ 14 ∷ []) $ free1 ! $ move ! (11 ∷ 12 ∷ []) $ free1 ! $ move ! (9 ∷ 10 ∷ []) $ free1 ! $
-        free0 ! $
+        move ! (23 ∷ 24 ∷ 21 ∷ 22 ∷ 19 ∷ 20 ∷ 17 ∷ 18 ∷ 15 ∷ 16 ∷ 13 ∷ 14 ∷ 11 ∷ 12 ∷ 9 ∷ 10 ∷ []) $ frees-all ! _ $
         keep ! (6 ∷ 0 ∷ 5 ∷ []) $ by ! (exits l u (zs .1 .1 .1 .0) said n))))))))))))))
       where
         wt : Holds (hasTy (T′.mir (named 0)) mach) × WT mach

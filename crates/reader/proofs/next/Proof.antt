@@ -22,7 +22,7 @@ use contract.Running.{givenOf, tables, tablesOf}
 use types.Kit.{Given, Item, ‵, raw, _⊛_, given, ⋆, _$_, _∵_, !, qed, by, move, keep, use1, use2, use3, split, join, learn, fsplit, fjoin, frame, done}
 use types.Part.{whole, sub, look-in}
 use types.Run.{look, init, forget, stop, fld, from, load, of-opd, and-then, no-more, assigns, land, returns, enter, alloc1, alloc0, params1, pass1}
-use types.Run.{pass0, free1, free0}
+use types.Run.{pass0}
 use sound.WpLaws.{FmC, fmOf, WpFn-mono}
 use denote.RattleType.{owns}
 use denote.Laws.{Is, shows}
@@ -40,7 +40,7 @@ use denote.Triple.Entry.{Vals, onEntry}
 use denote.Triple.Spec.{Meets, tripleOf}
 use denote.Triple.Table.{entered, cited}
 use denote.Triple.Walked.{says, needs, Stays, walkOf, Walks, walked, walk-meets}
-use Rattle.walks.proofs.Walk.{drops, goes, leaves, returned}
+use Rattle.walks.proofs.Walk.{drops, goes, leaves, returned, frees-all}
 use Rattle.lines.specs.declared.Cursor.{Cursor}
 use Rattle.lines.specs.Inner.Cursors.{following}
 use Rattle.lines.proofs.Cursor as K
@@ -192,8 +192,7 @@ module _ {M : Type 1} (𝓤 : URA M) (H : Heap 𝓤) (A : Atoms 𝓤) (W : Given
         land ! (from ! (stop !)) (init ! 17 refl (LL.lawful (T.the-type α) (T′.the-laws α) 𝓤 H A W .typed r _ is₃ .0)) $
         returns ! (look ! 17 refl) $ forget ! 5 refl $ forget ! 7 refl $ forget ! 9 refl $ forget ! 11 refl $ forget ! 13 refl $ forget ! 15 refl $
         forget ! 17 refl $
-        move ! (17 ∷ 18 ∷ []) $ free1 ! $ move ! (15 ∷ 16 ∷ []) $ free1 ! $ move ! (13 ∷ 14 ∷ []) $ free1 ! $ move ! (11 ∷ 12 ∷ []) $ free1 ! $
-        move ! (9 ∷ 10 ∷ []) $ free1 ! $ move ! (7 ∷ 8 ∷ []) $ free1 ! $ move ! (5 ∷ 6 ∷ []) $ free1 ! $ free0 ! $ keep ! (1 ∷ 0 ∷ []) $
+        move ! (17 ∷ 18 ∷ 15 ∷ 16 ∷ 13 ∷ 14 ∷ 11 ∷ 12 ∷ 9 ∷ 10 ∷ 7 ∷ 8 ∷ 5 ∷ 6 ∷ []) $ frees-all ! _ $ keep ! (1 ∷ 0 ∷ []) $
         by ! (leaves 𝓤 H A W next.ended (next.clauses 𝓤 H A mem run) y u₃ r (tt, (tt, tt)) (factI 𝓤 _ (emp 𝓤) (moved c₁ c₂ r e₁ e₂ e₃))))))))))))))))))))
       where
         -- what the three calls say together
