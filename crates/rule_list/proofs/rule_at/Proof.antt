@@ -23,7 +23,7 @@ use contract.Running.{givenOf, tables, tablesOf}
 use types.Kit.{Given, Item, ‵, _⊛_, _$_, _∵_, !, qed, by, move, keep, split, join, rewrite, fsplit}
 use types.Part.{whole, sub, look-in}
 use types.Run.{look, look-raw, init, forget, stop, hop, fld, from, load, lit, of-opd, bin, assigns, returns, enter, alloc1, alloc0, params1, pass1}
-use types.Run.{pass0, free1, free0}
+use types.Run.{pass0}
 use sound.WpLaws.{WpFn-mono}
 use denote.RattleType.{owns}
 use denote.Laws.{Is, shows}
@@ -38,7 +38,7 @@ use denote.Triple.Entry.{Vals, onEntry}
 use denote.Triple.Spec.{Meets, tripleOf}
 use denote.Triple.Table.{entered}
 use denote.Triple.Walked.{needs, Stays, walkOf, Walks, walked, walk-meets}
-use Rattle.walks.proofs.Walk.{drops, goes, leaves}
+use Rattle.walks.proofs.Walk.{drops, goes, leaves, frees-all}
 use Rattle.frames.specs.declared.Rule.{Rule}
 use Rattle.frames.specs.Book.{noRule}
 use Rattle.frames.proofs.Rule as T
@@ -110,8 +110,7 @@ module _ {M : Type 1} (𝓤 : URA M) (H : Heap 𝓤) (A : Atoms 𝓤) (W : Given
         (init ! 19 refl (LL.lawful T.the-type T′.the-laws 𝓤 H A W .typed elem _ g .0)) $
         elem-back ! T.the-row q′ ys i noRule (vals elem) b o l $ shuts-slice ! tt T.the-row q′ ys b o $
         returns ! (look ! 16 refl) $ forget ! 6 refl $ forget ! 8 refl $ forget ! 10 refl $ forget ! 12 refl $ forget ! 14 refl $ forget ! 16 refl $
-        move ! (16 ∷ 17 ∷ []) $ free1 ! $ move ! (14 ∷ 15 ∷ []) $ free1 ! $ move ! (12 ∷ 13 ∷ []) $ free1 ! $ move ! (10 ∷ 11 ∷ []) $ free1 ! $
-        move ! (8 ∷ 9 ∷ []) $ free1 ! $ move ! (6 ∷ 7 ∷ []) $ free1 ! $ free0 ! $
+        move ! (16 ∷ 17 ∷ 14 ∷ 15 ∷ 12 ∷ 13 ∷ 10 ∷ 11 ∷ 8 ∷ 9 ∷ 6 ∷ 7 ∷ []) $ frees-all ! _ $
         -- [the token; the fractured borrow; true; …]
         keep ! (0 ∷ 2 ∷ []) $ join ! $ owned ! T.the-row (Is T.the-row) (LL.makes T.the-type T′.the-plain 𝓤 H A) elem _ g $ move ! (1 ∷ 0 ∷ []) $
         by ! (leaves 𝓤 H A W rule-at.ended (rule-at.clauses 𝓤 H A mem run) y mach elem (tt, (tt, tt)) (factI 𝓤 _ (emp 𝓤) refl))))))))))
