@@ -41,7 +41,8 @@ module _ {A : Type 0} where
   all-any p q [] e f = absurd (true≢false (sym f))
   all-any p q (x ∷ xs) e f = by-head (q x) refl f (λ g. all-any p q xs (and-both (p x) (all p xs) e .1) g)
     where
-      by-head : (h : Bool) → q x ≡ h → (h || any q xs) ≡ true → (any q xs ≡ true → (y : A) × ((p y ≡ true) × (q y ≡ true))) → (y : A) × ((p y ≡ true) × (q y ≡ true))
+      by-head : (h : Bool) → q x ≡ h → (h || any q xs) ≡ true → (any q xs ≡ true → (y : A) × ((p y ≡ true) × (q y ≡ true)))
+          → (y : A) × ((p y ≡ true) × (q y ≡ true))
       by-head true i g next = (x, (and-both (p x) (all p xs) e .0, i))
       by-head false i g next = next g
 

@@ -44,7 +44,7 @@ use denote.Triple.Entry.{Vals, onEntry}
 use denote.Triple.Spec.{Meets, tripleOf}
 use denote.Triple.Table.{entered, cited}
 use denote.Triple.Walked.{says, Stays, walkOf, Walks, walked, walk-meets}
-use Rattle.walks.proofs.Walk.{drops, goes, leaves, returned}
+use Rattle.walks.proofs.Walk.{drops, goes, leaves, returned, frees-all}
 use Rattle.walks.proofs.Asked.{needs-two}
 use Rattle.walks.proofs.Lent as lent
 use Rattle.rule_list.proofs.ByValue as list
@@ -236,8 +236,7 @@ module _ {M : Type 1} (𝓤 : URA M) (H : Heap 𝓤) (A : Atoms 𝓤) (W : Given
         (lent.room-back T.the-row tt 512 n xs l₆ 𝓤 H A W (α ∷ []) (list.filled rs is-rs)) $ await ! tt $
         returns ! (look ! 17 refl) $ forget ! 2 refl $ forget ! 4 refl $ forget ! 7 refl $ forget ! 9 refl $ forget ! 11 refl $ forget ! 13 refl $
         forget ! 15 refl $ forget ! 17 refl $
-        move ! (17 ∷ 18 ∷ 15 ∷ 16 ∷ 13 ∷ 14 ∷ 11 ∷ 12 ∷ 9 ∷ 10 ∷ 7 ∷ 8 ∷ 0 ∷ 6 ∷ 4 ∷ 5 ∷ 2 ∷ 3 ∷ []) $ free1 ! $ free1 ! $ free1 ! $ free1 ! $
-        free1 ! $ free1 ! $ free1 ! $ free1 ! $ free1 ! $ free0 ! $ by ! (exits r u is e)))))))))))))))
+        move ! (17 ∷ 18 ∷ 15 ∷ 16 ∷ 13 ∷ 14 ∷ 11 ∷ 12 ∷ 9 ∷ 10 ∷ 7 ∷ 8 ∷ 0 ∷ 6 ∷ 4 ∷ 5 ∷ 2 ∷ 3 ∷ []) $ frees-all ! _ $ by ! (exits r u is e)))))))))))))))
 
 module _ {M : Type 1} (𝓤 : URA M) (H : Heap 𝓤) (A : Atoms 𝓤) (W : Given 𝓤 H A) (mem : Memory → SProp 𝓤) (run : Routine → Fun 𝓤) (𝓣 : Tables 𝓤 H)
     (known : Triple 𝓤 (𝓣 .C #rules·first-permitting) (Trial 𝓤 H A mem run)) where
