@@ -194,7 +194,10 @@ module _ (rs : Rules) (fits : rs .count ≤ length (rs .rules)) where
   front-moves w = record {
     fits = omega arith;
     few = omega (arith, counted, w .few);
-    each = λ k l. let (j, lj, ej, oj) = w .each k l in let l′ : j < rs .count = omega (arith, counted) in (j, l′, rw (sym (same-at j l′)) ej, rw (sym (same-at j l′)) oj);
+    each = λ k l.
+        let (j, lj, ej, oj) = w .each k l in
+        let l′ : j < rs .count = omega (arith, counted) in
+        (j, l′, rw (sym (same-at j l′)) ej, rw (sym (same-at j l′)) oj);
     every = λ j l f. let (k, lk, ok) = w .every j (omega (arith, counted)) (rw (same-at j l) f) in (k, lk, rw (sym (same-at j l)) ok);
   }
 
