@@ -8,7 +8,7 @@ use Rattle.frames.specs.declared.Refusal.{Refusal}
 use Rattle.frames.specs.declared.Outcome.the-variants.{Accepted, Refused}
 use Rattle.frames.specs.declared.Reading.{Reading}
 use Rattle.answers.specs.Answers.{hex, hexLine, refusedBytes, total, count, bookLine, answerLine}
-use Rattle.answers.specs.Written.{Written}
+use Rattle.answers.specs.Inner.Written.{Written}
 use Rattle.answers.proofs.WrittenLaws.{written-char, written-as, written-more}
 
 -- The sizes, the three counts, a blank and q, one behind the other.

@@ -13,8 +13,8 @@ use Rattle.planner.specs.declared.Planned.{Planned}
 use Rattle.planner.specs.declared.Planned.the-variants.{NoWay, Plan, Refused}
 use Rattle.planner.specs.declared.Refusal.{Refusal}
 use Rattle.planner.specs.Answer.{refusalNumber, refusalLine, said}
-use Rattle.answers.specs.Answers.{hex, hexLine, noWayBytes, countBytes, refusedBytes, requestLines, count}
-use Rattle.answers.specs.Written.{answerText, Written}
+use Rattle.answers.specs.Answers.{hex, hexLine, noWayBytes, countBytes, refusedBytes, requestLines, count, answerText}
+use Rattle.answers.specs.Inner.Written.{Written}
 use Rattle.answers.proofs.AnswerLaws.{hex-append, hex-long, line-long}
 
 -- ---------------------------------------------------------------- characters behind characters

@@ -1,4 +1,4 @@
--- The line that answers a book: "in the book's hexadecimal and line ends".
+-- How answers are written: "in the book's hexadecimal and line ends".
 use Prim.Native.Nat.{ℕ, zero, suc, _+_, _/_, _%_}
 use mathlib.Core.Bool.{cond}
 use mathlib.Core.List.{List, [], _∷_, _++_}
@@ -6,6 +6,8 @@ use Rattle.lines.specs.Digits.{character}
 use Rattle.sets.specs.Sets.{member}
 use Rattle.frames.specs.Book.{Contents, Answer, refused, accepted, refusalNumber, refusalLine}
 use Rattle.frames.specs.declared.Refusal.{Refusal}
+use Rattle.replay.specs.Chains.{fives}
+use Rattle.planner.specs.Answer.{Said, said80, said81, said8F, front}
 
 -- "digits 0-9 and A-F, two a byte": the two digits of each byte.
 unfoldable pub hex : List ℕ → List ℕ
@@ -65,3 +67,9 @@ bookLine b =
 unfoldable pub answerLine : Answer → List ℕ
 answerLine (refused r) = hexLine (refusalBytes r)
 answerLine (accepted b) = bookLine b
+
+-- The text of an answer, by what plan says and the bytes of its buffer.
+abbrev pub answerText : Said → List ℕ → List ℕ
+answerText said80 plan = hexLine noWayBytes
+answerText (said81 n) plan = hexLine (countBytes n) ++ requestLines (fives (front n plan))
+answerText (said8F number line) plan = hexLine (refusedBytes number line)

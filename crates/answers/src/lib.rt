@@ -7,8 +7,9 @@ ghost use lib.ListN.{length};
 ghost use Rattle.frames.specs.Book.{contentsOf, toldBy};
 ghost use Rattle.replay.specs.Chains.{fives};
 ghost use Rattle.planner.specs.Answer.{said};
-ghost use Rattle.answers.specs.Answers.{hex, hexLine, refusedBytes, size, total, count, bookLine, answerLine, requestLines};
-ghost use Rattle.answers.specs.Written.{answerText, Written, Room};
+ghost use Rattle.answers.specs.Answers.{hex, hexLine, refusedBytes, size, total, count, bookLine, answerLine, requestLines, answerText};
+ghost use Rattle.answers.specs.Inner.Written.{Written, Room};
+use facts::LEDGER_SIZE;
 
 // How many numbers below w are members of x.
 fn size_of(x: u32, w: u8) -> usize
@@ -46,12 +47,12 @@ fn byte_size(b: u8) -> usize
 }
 
 // How many facts a ledger holds.
-fn fact_count(ledger: [u8; 1792]) -> usize
+fn facts_in(ledger: [u8; LEDGER_SIZE]) -> usize
     ensures { λ r. ⌜ r ≡ total 8 ledger ⌝ }
 {
     let mut n: usize = 0;
     let mut i: usize = 0;
-    while i < 1792 {
+    while i < LEDGER_SIZE {
         n += byte_size(ledger[i]);
         i += 1;
     }
@@ -173,7 +174,7 @@ fn put_book(b: frames::Book, text: &mut [u8]) -> usize
     let juniors = b.juniors;
     let edges = edge_count(juniors);
     let ledger = b.facts;
-    let facts = fact_count(ledger);
+    let facts = facts_in(ledger);
     let z = b.sizes;
     let sized = put_bytes(&[1, z.persons, z.crews, z.attrs, z.values], text, 0);
     let edged = put_count(edges, text, sized);

@@ -19,10 +19,12 @@ pub enum Fact {
     Member(Person, Crew),
 }
 
-// Where the attributes of crews begin in a ledger, and where the crews of persons.
-const CREWS_AT: usize = 1024;
+// A ledger's bytes; where the attributes of crews begin among them, and where the crews of persons.
+pub const LEDGER_SIZE: usize = 1792;
 
-const MEMBERS_AT: usize = 1536;
+pub const CREWS_AT: usize = 1024;
+
+pub const MEMBERS_AT: usize = 1536;
 
 // The place of a fact: the number v of the set of w bytes at a byte of the ledger.
 struct Place {

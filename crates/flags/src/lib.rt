@@ -12,6 +12,8 @@ ghost use Rattle.flags.specs.Inner.Flags.{SmallWants, badFlag, listedRea
 ghost use Rattle.flags.specs.Inner.Flags.{valueAt, lackingFlag, wantFlag, bannedFlag};
 ghost use Rattle.reach.specs.Inner.Goal.{belowListed};
 ghost use Rattle.widths.specs.Inner.Widths.{levelSize, flagsSize, rowsSize, tableSize};
+use facts::CREWS_AT;
+use facts::MEMBERS_AT;
 use facts::Person;
 use frames::Book;
 use frames::Query;
@@ -90,7 +92,7 @@ pub fn start_flags(facts: &[u8], crews: u8, person: Person, k: u8, s: &mut [bool
         if k >= 32 {
             return;
         }
-        write_values(facts, 1024 + 16 * (k as usize), s);
+        write_values(facts, CREWS_AT + 16 * (k as usize), s);
         return;
     }
     let p = person.0 as usize;
@@ -98,7 +100,7 @@ pub fn start_flags(facts: &[u8], crews: u8, person: Person, k: u8, s: &mut [bool
         return;
     }
     write_values(facts, 16 * p, s);
-    write_set(facts, 1536 + 4 * p, 4, s, 128);
+    write_set(facts, MEMBERS_AT + 4 * p, 4, s, 128);
 }
 
 // Adds row j of the crews to row 32 of the table.

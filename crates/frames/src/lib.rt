@@ -9,6 +9,7 @@ ghost use Rattle.frames.specs.Book.{queryAfter, noQuery, noRule, nothing
 use facts::Attr;
 use facts::Crew;
 use facts::Fact;
+use facts::LEDGER_SIZE;
 use facts::Person;
 use facts::Role;
 
@@ -56,7 +57,7 @@ pub struct Book {
     pub sizes: gate::Sizes,
     pub juniors: [u32; 32],
     pub rules: Rules,
-    pub facts: [u8; 1792],
+    pub facts: [u8; LEDGER_SIZE],
     pub query: Query,
 }
 
@@ -211,7 +212,7 @@ fn fact_of(k: u8, s: u8, a: u8, v: u8) -> Fact
 }
 
 // A fact's frame puts its fact in.
-fn enter_fact(m: &mut [u8; 1792], x: &[u8])
+fn enter_fact(m: &mut [u8; LEDGER_SIZE], x: &[u8])
     requires { ⌜ byteAt (now x) 0 ≡ 4 ⌝ }
     ensures { λ r. ⌜ now (m .exit) ≡ factsAfter (now (m .entry)) (now (x .entry)) ⌝ }
 {
@@ -334,7 +335,7 @@ fn turned_back(r: Refusal) -> Reading
         sizes,
         juniors: [0; 32],
         rules,
-        facts: [0; 1792],
+        facts: [0; LEDGER_SIZE],
         query,
     };
     Reading {
@@ -361,7 +362,7 @@ fn read_lines(book: &[u8]) -> Reading
     };
     let mut query = no_query();
     let mut juniors = [0u32; 32];
-    let mut facts = [0u8; 1792];
+    let mut facts = [0u8; LEDGER_SIZE];
     let none = no_rule();
     let mut rules = [none; 512];
     let mut frame = [0u8; 64];

@@ -2,9 +2,9 @@
 ghost use mathlib.Core.Path.{_≡_};
 ghost use Prim.Native.Nat.{_≤_, _<_};
 ghost use lib.ListN.{length};
-ghost use Rattle.facts.specs.Facts.{holds, putFact};
+ghost use Rattle.facts.specs.Facts.{ledgerSize, holds, putFact};
 ghost use Rattle.requests.specs.Requests.{adds};
-ghost use Rattle.gate.specs.Gate.{InRange};
+ghost use Rattle.gate.specs.Inner.Ranges.{InRange};
 ghost use Rattle.frames.specs.Book.{contentsOf};
 ghost use Rattle.frames.specs.Inner.Fits.{Admitted};
 ghost use Rattle.ledger.specs.Ledger.{refusalNumber, refusalLine, reply, openIn, openReply, allowed, requestIn, requestReply};
@@ -12,6 +12,7 @@ ghost use Rattle.ledger.specs.Show.{setBelow, valueSet, valueSets, crewS
 ghost use Rattle.inherit.specs.Inheritance.{personHolds, personIn};
 use facts::Attr;
 use facts::Crew;
+use facts::LEDGER_SIZE;
 use facts::Person;
 use frames::Book;
 
@@ -60,12 +61,12 @@ pub fn refusal_line(r: Refusal) -> usize
 }
 
 // The starting facts, byte by byte.
-fn copy_facts(facts: [u8; 1792], ledger: &mut [u8])
-    requires { ⌜ length (now ledger) ≡ 1792 ⌝ }
+fn copy_facts(facts: [u8; LEDGER_SIZE], ledger: &mut [u8])
+    requires { ⌜ length (now ledger) ≡ ledgerSize ⌝ }
     ensures { λ _. ⌜ now (ledger .exit) ≡ facts ⌝ }
 {
     let mut i: usize = 0;
-    while i < 1792 {
+    while i < LEDGER_SIZE {
         ledger[i] = facts[i];
         i += 1;
     }
@@ -74,7 +75,7 @@ fn copy_facts(facts: [u8; 1792], ledger: &mut [u8])
 fn open_in(b: Book, ledger: &mut [u8]) -> Outcome
     ensures { λ r. ⌜ reply r (now (ledger .exit)) ≡ openIn (contentsOf b) (now (ledger .entry)) ⌝ }
 {
-    if ledger.len() != 1792 {
+    if ledger.len() != LEDGER_SIZE {
         return Outcome::Refused(Refusal::BadLedger);
     }
     let facts = b.facts;

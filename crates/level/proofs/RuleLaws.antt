@@ -9,7 +9,8 @@ use native.Mathlib.Omega.{arith}
 use lib.Dec.{eqb, ltb, leb}
 use lib.ListN.{length, getD, take}
 use borrow.Author.Tests.{ltb-true, lt-ltb, le-ltb}
-use Rattle.gate.specs.Gate.{InRange, between, valuesOf, isCrew, isAttr, isValue, isCrewField, headGood, termGood}
+use Rattle.gate.specs.Gate.{between, valuesOf, isCrew, isAttr, isValue, isCrewField, headGood, termGood}
+use Rattle.gate.specs.Inner.Ranges.{InRange}
 use Rattle.quantifiers.specs.Quantifiers.{allBelow}
 use Rattle.gate.specs.declared.Sizes.{Sizes}
 use Rattle.gate.proofs.PassedLaws.{between-true}

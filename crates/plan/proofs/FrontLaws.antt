@@ -6,7 +6,7 @@ use native.Mathlib.Numerals.{add-one}
 use native.Mathlib.Omega.{arith}
 use lib.ListN.{length, take, drop, set, getD, length-drop, length-append}
 use lib.Seq.{take-suc, take-all, take-append-seam, length-take-le}
-use Rattle.answers.specs.Written.{Written}
+use Rattle.answers.specs.Inner.Written.{Written}
 use Rattle.answers.proofs.WrittenLaws.{written-char, written-as, written-more}
 
 module _ (front : List ℕ) {before text : List ℕ} {k : ℕ} (w : Written before 0 (take k front) text k) where

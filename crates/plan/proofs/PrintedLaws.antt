@@ -17,8 +17,8 @@ use Rattle.planner.specs.Promise.{NoWay}
 use Rattle.planner.specs.Answer.{Said, said80, said81, said8F, said, front, Decided, AnsweredFor, PlanPromise}
 use Rattle.planner.proofs.AnswerLaws.{facts-few}
 use Rattle.planner.proofs.PromiseLaws.{never-both}
-use Rattle.answers.specs.Answers.{hex, hexLine, noWayBytes, countBytes, refusedBytes, requestLines}
-use Rattle.answers.specs.Written.{answerText, Written}
+use Rattle.answers.specs.Answers.{hex, hexLine, noWayBytes, countBytes, refusedBytes, requestLines, answerText}
+use Rattle.answers.specs.Inner.Written.{Written}
 use Rattle.answers.proofs.AnswerLaws.{line-long}
 use Rattle.answers.proofs.WrittenLaws.{end-within}
 use Rattle.plan.specs.Printed.{PlanPrinted, PrintedFor, Printed}

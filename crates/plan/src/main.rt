@@ -6,7 +6,7 @@ ghost use Prim.Native.Nat.{_+_, _*_, _≤_, _<_};
 ghost use mathlib.Core.Path.{_≡_};
 ghost use lib.ListN.{length, take};
 ghost use Rattle.planner.specs.Answer.{said};
-ghost use Rattle.answers.specs.Written.{Written};
+ghost use Rattle.answers.specs.Inner.Written.{Written};
 ghost use Rattle.plan.specs.Printed.{Printed};
 ghost use Rattle.plan.specs.Inner.Front.{Begins};
 ghost use Rattle.plan.specs.Inner.Tried.{isShort, PrintedIfRoom};

@@ -8,7 +8,7 @@ use lib.ListN.{length, take, drop, length-map, length-append, length-drop}
 use lib.Seq.{take-append-seam, drop-append-seam, drop-append-add, drop-drop}
 use Rattle.facts.specs.Facts.{holds}
 use Rattle.gate.specs.declared.Sizes.{Sizes}
-use Rattle.gate.specs.Gate.{InRange}
+use Rattle.gate.specs.Inner.Ranges.{InRange}
 use Rattle.frames.specs.Book.{Contents, refused, accepted, bookOf}
 use Rattle.frames.specs.declared.Refusal as frames
 use Rattle.frames.specs.Inner.Fits.{Admitted}

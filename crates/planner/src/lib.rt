@@ -6,7 +6,7 @@ ghost use Rattle.frames.specs.Book.{contentsOf};
 ghost use Rattle.frames.specs.Inner.Fits.{Admitted};
 ghost use mathlib.Core.List.{_++_};
 ghost use Rattle.facts.specs.Facts.{holds};
-ghost use Rattle.gate.specs.Gate.{InRange};
+ghost use Rattle.gate.specs.Inner.Ranges.{InRange};
 ghost use Rattle.replay.specs.Met.{met};
 ghost use Rattle.drafts.specs.Inner.Drafts.{carried, flat};
 ghost use Rattle.planner.specs.Count.{factCount};

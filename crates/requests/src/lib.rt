@@ -8,8 +8,11 @@ ghost use Rattle.quantifiers.specs.Quantifiers.{allBelow};
 ghost use Rattle.requests.specs.Requests.{adds, aimed, requestOf, fieldsGood, wellFormed};
 ghost use Rattle.requests.specs.Suitable.{roomOf, valueSetGood, memberSetGood, suitable};
 use facts::Attr;
+use facts::CREWS_AT;
 use facts::Crew;
 use facts::Fact;
+use facts::LEDGER_SIZE;
+use facts::MEMBERS_AT;
 use facts::Person;
 use facts::Role;
 
@@ -19,13 +22,6 @@ pub struct Request {
     pub role: Role,
     pub fact: Fact,
 }
-
-// A ledger's bytes, and where in them the sets of crews and of persons' crews begin.
-const LEDGER_SIZE: usize = 1792;
-
-const CREWS_AT: usize = 1024;
-
-const MEMBERS_AT: usize = 1536;
 
 // How many sets of values a ledger has for persons, for crews, and how many sets of crews.
 const PERSON_SETS: usize = 512;
@@ -42,7 +38,7 @@ pub fn is_adding(op: u8) -> bool
 }
 
 // Byte i of a request; 0 past the end.
-fn byte_of(q: &[u8], i: usize) -> u8
+fn field_at(q: &[u8], i: usize) -> u8
     ensures { λ r. ⌜ r ≡ getD (now (q .entry)) i 0 ⌝ }
 {
     if i < q.len() {
@@ -68,11 +64,11 @@ fn aimed_fact(op: u8, s: u8, a: u8, v: u8) -> Fact
 pub fn request_of(q: &[u8]) -> Request
     ensures { λ r. ⌜ r ≡ requestOf (now (q .entry)) ⌝ }
 {
-    let op = byte_of(q, 0);
-    let role = byte_of(q, 1);
-    let s = byte_of(q, 2);
-    let a = byte_of(q, 3);
-    let v = byte_of(q, 4);
+    let op = field_at(q, 0);
+    let role = field_at(q, 1);
+    let s = field_at(q, 2);
+    let a = field_at(q, 3);
+    let v = field_at(q, 4);
     let fact = aimed_fact(op, s, a, v);
     Request {
         op,
@@ -97,11 +93,11 @@ fn are_fields(z: gate::Sizes, op: u8, role: u8, s: u8, a: u8, v: u8) -> bool
 pub fn is_request(z: gate::Sizes, q: &[u8]) -> bool
     ensures { λ r. ⌜ r ≡ wellFormed z (now (q .entry)) ⌝ }
 {
-    let op = byte_of(q, 0);
-    let role = byte_of(q, 1);
-    let s = byte_of(q, 2);
-    let a = byte_of(q, 3);
-    let v = byte_of(q, 4);
+    let op = field_at(q, 0);
+    let role = field_at(q, 1);
+    let s = field_at(q, 2);
+    let a = field_at(q, 3);
+    let v = field_at(q, 4);
     let good = are_fields(z, op, role, s, a, v);
     (q.len() == 5) & good
 }

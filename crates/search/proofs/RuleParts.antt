@@ -7,7 +7,8 @@ use native.Mathlib.Omega.{arith}
 use lib.Dec.{eqb, leb}
 use borrow.Author.Tests.{leb-true, ltb-true, eqb-true}
 use Rattle.gate.specs.declared.Sizes.{Sizes}
-use Rattle.gate.specs.Gate.{InRange, between, isCrew, isValue, isCrewField, headGood}
+use Rattle.gate.specs.Gate.{between, isCrew, isValue, isCrewField, headGood}
+use Rattle.gate.specs.Inner.Ranges.{InRange}
 use Rattle.quantifiers.specs.Quantifiers.{allBelow}
 use Rattle.gate.proofs.PassedLaws.{between-true}
 use Rattle.quantifiers.proofs.BoolLaws.{and-both, or-cases}

@@ -13,11 +13,11 @@ use Rattle.answers.proofs.put_book.Tie as tie
 
 -- The places that the answers name, each from a later one: the facts are counted, the start, then the sizes, the edges, the rules and
 -- the facts are written.
-abbrev after-fact-count : tie.After-put-bytes → tie.After-fact-count
-after-fact-count c = c .before .before .before .before
+abbrev after-facts-in : tie.After-put-bytes → tie.After-facts-in
+after-facts-in c = c .before .before .before .before
 
 abbrev start : tie.After-put-bytes → tie.Start
-start c = after-fact-count c .before .before .before .before .before
+start c = after-facts-in c .before .before .before .before .before
 
 abbrev after-sizes : tie.After-put-count → tie.After-put-bytes
 after-sizes c = c .before .before .before .before
@@ -45,8 +45,8 @@ counted-room c =
 edge-count-requires : tie.Need-edge-count-requires
 edge-count-requires c κs = search needs
 
-fact-count-requires : tie.Need-fact-count-requires
-fact-count-requires c κs = search needs
+facts-in-requires : tie.Need-facts-in-requires
+facts-in-requires c κs = search needs
 
 slice-aggregate-put-bytes : tie.Need-slice-aggregate-put-bytes
 slice-aggregate-put-bytes c = search needs
@@ -110,13 +110,13 @@ returns c =
     let at-edges = after-edges at-rules in
     let at-sizes = after-sizes at-edges in
     let at-start = start at-sizes in
-    let at-fact-count = after-fact-count at-sizes in
+    let at-facts-in = after-facts-in at-sizes in
     let sized = at-sizes .put-bytes .ensures in
     let edged = at-edges .put-count .ensures in
     let ruled = at-rules .put-count2 .ensures in
     let counted = at-facts .put-count3 .ensures in
-    book-written (contentsOf (at-start .args .b)) sized (at-fact-count .before .before .edge-count .ensures) edged ruled
-    (at-fact-count .fact-count .ensures) counted (omega (arith, counted-room at-facts))
+    book-written (contentsOf (at-start .args .b)) sized (at-facts-in .before .before .edge-count .ensures) edged ruled
+    (at-facts-in .facts-in .ensures) counted (omega (arith, counted-room at-facts))
     (c .before .before .put-line .ensures)
 
 pub put-book-spec : {M : Type 1} → statement M
@@ -124,7 +124,7 @@ put-book-spec =
     tie.close
     (tie.spec
     edge-count-requires
-    fact-count-requires
+    facts-in-requires
     slice-aggregate-put-bytes
     put-bytes-requires
     put-count-requires

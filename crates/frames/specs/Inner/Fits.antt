@@ -11,7 +11,8 @@ use Rattle.facts.specs.Facts.{holds, ledgerSize}
 use Rattle.facts.specs.declared.Fact.{Fact}
 use Rattle.facts.specs.declared.Fact.the-variants.{Holds, CrewHolds, Member}
 use Rattle.gate.specs.declared.Sizes.{Sizes}
-use Rattle.gate.specs.Gate.{InRange, between, isAttr, valuesOf, isPerson, isCrew, isValue, headGood, termGood}
+use Rattle.gate.specs.Gate.{between, isAttr, valuesOf, isPerson, isCrew, isValue, headGood, termGood}
+use Rattle.gate.specs.Inner.Ranges.{InRange}
 use Rattle.quantifiers.specs.Quantifiers.{allBelow}
 use Rattle.frames.specs.declared.Term.{Term}
 use Rattle.frames.specs.declared.Rule.{Rule}

@@ -3,7 +3,7 @@
 use Prim.Native.Nat.{_-_, _≤_}
 use native.Mathlib.Omega.{arith}
 use lib.ListN.{length, take}
-use Rattle.answers.specs.Written.{Written}
+use Rattle.answers.specs.Inner.Written.{Written}
 use Rattle.answers.proofs.WrittenLaws.{written-none}
 use Rattle.plan.proofs.FrontLaws.{front-more, front-all}
 use Rattle.plan.proofs.put_front.Statement.{statement}

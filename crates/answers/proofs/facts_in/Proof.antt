@@ -1,4 +1,4 @@
--- `answers::fact_count` meets its contract. The invariant: n and what the bytes from i on have are the whole. The measure is the bytes left.
+-- `answers::facts_in` meets its contract. The invariant: n and what the bytes from i on have are the whole. The measure is the bytes left.
 -- Assumes nothing.
 use mathlib.Core.Path.{_≡_}
 use Prim.Native.Nat.{_+_, _*_, _≤_, _-_}
@@ -7,8 +7,8 @@ use lib.ListN.{drop, length}
 use Rattle.answers.specs.Answers.{total}
 use borrow.Author.Needs.{needs}
 use Rattle.answers.proofs.AnswerLaws.{total-step, total-end}
-use Rattle.answers.proofs.fact_count.Statement.{statement}
-use Rattle.answers.proofs.fact_count.Tie as tie
+use Rattle.answers.proofs.facts_in.Statement.{statement}
+use Rattle.answers.proofs.facts_in.Tie as tie
 
 abbrev Inv-loop : tie.InvT-loop
 Inv-loop ledger n₀ i₀ n i = (i ≤ 1792) × ((n ≤ 8 * i) × (total 8 ledger ≡ n + total 8 (drop i ledger)))
@@ -47,8 +47,8 @@ returns c =
     let whole : length xs ≡ 1792 = c .before .before .good .0 .1 .0 .1 in
     omega (arith, total-end 8 xs (c .before .loop .i) (omega arith))
 
-pub fact-count-spec : {M : Type 1} → statement M
-fact-count-spec =
+pub facts-in-spec : {M : Type 1} → statement M
+facts-in-spec =
     tie.close
     (tie.spec
     Inv-loop
