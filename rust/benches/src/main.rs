@@ -81,7 +81,7 @@ fn child(task: &str, book: &str, list: &str) -> Result<(), String> {
 }
 
 fn compare(root: &Path, plan: &Path, reference: &Path) -> Result<(), String> {
-    let data = root.join("crates/plan_books/data");
+    let data = root.join("crates/books/data");
     let trivial = data.join(format!("{START}.book"));
     let results = Results {
         processes: [callgrind::process(plan, &trivial)?, callgrind::process(reference, &trivial)?],
@@ -106,6 +106,7 @@ fn clearing(text: Vec<u8>) -> Result<Cost, String> {
 fn books(data: &Path) -> Result<Vec<Measured>, String> {
     let entries = fs::read_dir(data).map_err(|why| format!("{}: {why}", data.display()))?;
     let mut paths: Vec<PathBuf> = entries.filter_map(|entry| entry.ok().map(|entry| entry.path())).collect();
+    paths.retain(|path| path.extension().is_some_and(|end| end == "book"));
     paths.sort_by_key(|path| (report::rank(&path.file_stem().unwrap_or_default().to_string_lossy()), path.clone()));
     let mut books = Vec::new();
     for path in paths {

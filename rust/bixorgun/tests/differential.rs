@@ -461,12 +461,9 @@ fn long_lines() {
 /// The repository's stored books, good and bad.
 #[test]
 fn stored() {
-    let mut files = Vec::new();
-    for name in ["plan_books", "judge_books"] {
-        let dir: PathBuf = [env!("CARGO_MANIFEST_DIR"), "..", "..", "crates", name, "data"].iter().collect();
-        let entries = fs::read_dir(&dir).unwrap_or_else(|error| panic!("{}: {error}", dir.display()));
-        files.extend(entries.map(|entry| entry.expect("an entry").path()));
-    }
+    let dir: PathBuf = [env!("CARGO_MANIFEST_DIR"), "..", "..", "crates", "books", "data"].iter().collect();
+    let entries = fs::read_dir(&dir).unwrap_or_else(|error| panic!("{}: {error}", dir.display()));
+    let mut files: Vec<_> = entries.map(|entry| entry.expect("an entry").path()).collect();
     files.sort();
     let mut counts = Counts::default();
     for (seed, file) in (0x0B1C_6000_0000..).zip(&files) {

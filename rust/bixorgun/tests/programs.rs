@@ -37,9 +37,9 @@ fn output(program: &str, parts: &[&[u8]]) -> String {
     String::from_utf8(ran.stdout).expect("digits and line ends")
 }
 
-/// The books stored for a test program, with their names.
-fn stored(program: &str) -> Vec<(String, Vec<u8>)> {
-    let data = repository().join("crates").join(program).join("data");
+/// The stored books, with their names. Those that end in `.book` are planned by the test program `books`, the others judged.
+fn stored() -> Vec<(String, Vec<u8>)> {
+    let data = repository().join("crates/books/data");
     let mut books: Vec<_> = fs::read_dir(&data)
         .unwrap_or_else(|error| panic!("{}: {error}", data.display()))
         .map(|entry| {
@@ -69,7 +69,7 @@ fn compare(name: &str, book: &[u8]) {
 
 #[test]
 fn plan_prints_what_the_library_answers_to_each_stored_book() {
-    let books = [stored("plan_books"), stored("judge_books")].concat();
+    let books = stored();
     assert!(books.len() >= 293, "{} books", books.len());
     for (name, book) in &books {
         compare(name, book);
@@ -107,11 +107,12 @@ fn plan_reads_what_comes_in_parts() {
 
 #[test]
 fn judge_prints_the_stored_line_of_each_book() {
-    let lines = fs::read_to_string(repository().join("crates/judge_books/stdout")).expect("the stored lines");
-    let books = stored("judge_books");
-    assert_eq!(lines.lines().count(), books.len());
-    for line in lines.lines() {
-        let (answer, name) = line.rsplit_once(' ').expect("an answer and a name");
+    let lines = fs::read_to_string(repository().join("crates/books/stdout")).expect("the stored lines");
+    let books: Vec<_> = stored().into_iter().filter(|(name, _)| !name.ends_with(".book")).collect();
+    let lines = lines.lines().map(|line| line.rsplit_once(' ').expect("an answer and a name"));
+    let judged: Vec<_> = lines.filter(|(_, name)| !name.ends_with(".book")).collect();
+    assert_eq!(judged.len(), books.len());
+    for (answer, name) in judged {
         let (_, book) = books.iter().find(|(stored, _)| stored == name).expect("a stored book");
         assert_eq!(output("judge", &[book]), format!("{answer}\n"), "{name}");
     }

@@ -82,11 +82,12 @@ fn on_stack(stack: usize, operation: Operation, case: &Arc<Case>) -> Done {
     thread.join().expect("no panic")
 }
 
-/// The stored books, two refused ones among them.
+/// The stored books that are planned, two refused ones among them.
 fn stored() -> Vec<Case> {
-    let data: PathBuf = [env!("CARGO_MANIFEST_DIR"), "..", "..", "crates", "plan_books", "data"].iter().collect();
+    let data: PathBuf = [env!("CARGO_MANIFEST_DIR"), "..", "..", "crates", "books", "data"].iter().collect();
     let paths = fs::read_dir(data).expect("the stored books").map(|entry| entry.expect("a name").path());
-    paths.map(|path| Case::new(&path.display().to_string(), fs::read(&path).expect("a stored book"))).collect()
+    let planned = paths.filter(|path| path.extension().is_some_and(|end| end == "book"));
+    planned.map(|path| Case::new(&path.display().to_string(), fs::read(&path).expect("a stored book"))).collect()
 }
 
 /// A chain of all 32 crews. The person is in the topmost and in the lowest, gets 16 values by terms on what the lowest

@@ -1,37 +1,40 @@
 //! The stored books of the repository and their stored answers.
 
 use std::fs;
-use std::path::{Path, PathBuf};
+use std::path::PathBuf;
 
 use reference::book;
 use reference::plan::{closure, demand, printed};
 
-fn crate_dir(name: &str) -> PathBuf {
-    [env!("CARGO_MANIFEST_DIR"), "..", "..", "crates", name].iter().collect()
+fn stored(name: &str) -> PathBuf {
+    [env!("CARGO_MANIFEST_DIR"), "..", "..", "crates", "books", name].iter().collect()
 }
 
-fn stdout(dir: &Path) -> String {
-    fs::read_to_string(dir.join("stdout")).unwrap_or_else(|error| panic!("{}: {error}", dir.display()))
+fn characters(name: &str) -> Vec<u8> {
+    fs::read(stored("data").join(name)).unwrap_or_else(|error| panic!("{name}: {error}"))
 }
 
-fn characters(dir: &Path, name: &str) -> Vec<u8> {
-    fs::read(dir.join("data").join(name)).unwrap_or_else(|error| panic!("{name}: {error}"))
-}
-
-fn names(dir: &Path) -> usize {
-    fs::read_dir(dir.join("data")).expect("a directory of books").count()
+/// The stored lines of the books that are planned, whose names end in `.book`, or of those that are only judged. There is
+/// one for each stored book of the kind.
+fn lines(planned: bool) -> Vec<String> {
+    let text = fs::read_to_string(stored("stdout")).expect("the stored lines");
+    let is_kind = |name: &str| name.ends_with(".book") == planned;
+    let lines: Vec<_> = text.lines().filter(|line| is_kind(line)).map(str::to_owned).collect();
+    let entries = fs::read_dir(stored("data")).expect("a directory of books");
+    let books = entries.filter(|entry| is_kind(&entry.as_ref().expect("a name").file_name().to_string_lossy())).count();
+    assert_eq!(lines.len(), books);
+    lines
 }
 
 /// Each line: the answer's first line, what replay says, the book's name. The plan is left open, the answer is not.
 #[test]
-fn plan_books() {
-    let dir = crate_dir("plan_books");
-    let (mut books, mut other_counts) = (0, Vec::new());
-    for line in stdout(&dir).lines() {
+fn planned_books() {
+    let (stored, mut other_counts) = (lines(true), Vec::new());
+    for line in &stored {
         let [answer, verdict, name] = line.split(' ').collect::<Vec<_>>()[..] else {
             panic!("{line}");
         };
-        let text = characters(&dir, name);
+        let text = characters(name);
         let given = printed(&text);
         let given = given.lines().next().expect("a line");
         assert_eq!(given[..2], answer[..2], "{name}");
@@ -46,20 +49,17 @@ fn plan_books() {
         } else {
             assert_eq!((given, verdict), (answer, "-"), "{name}");
         }
-        books += 1;
     }
-    assert_eq!(books, names(&dir));
-    println!("{books} books; plans of another count: {other_counts:?}");
+    println!("{} books; plans of another count: {other_counts:?}", stored.len());
 }
 
 /// Each line: `8F`, number and line; or the first frame, distinct edges, rules, distinct starting facts, q; the name.
 #[test]
-fn judge_books() {
-    let dir = crate_dir("judge_books");
-    let mut books = 0;
-    for line in stdout(&dir).lines() {
+fn judged_books() {
+    let stored = lines(false);
+    for line in &stored {
         let (answer, name) = line.rsplit_once(' ').expect("a name");
-        let given = match book::read(&characters(&dir, name)) {
+        let given = match book::read(&characters(name)) {
             Err(refusal) => format!("8F{:02X}{:04X}", refusal.number(), refusal.line),
             Ok(book) => {
                 let s = book.sizes;
@@ -77,8 +77,6 @@ fn judge_books() {
             }
         };
         assert_eq!(given, answer, "{name}");
-        books += 1;
     }
-    assert_eq!(books, names(&dir));
-    println!("{books} books");
+    println!("{} books", stored.len());
 }

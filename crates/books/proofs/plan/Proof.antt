@@ -1,4 +1,4 @@
--- `plan_books::plan` is safe: each answer fits its text, the text's first line ends within it, and a plan's requests lie within the buffer.
+-- `books::plan` is safe: each answer fits its text, the text's first line ends within it, and a plan's requests lie within the buffer.
 -- Assumes nothing.
 use mathlib.Core.Path.{_≡_, sym}
 use Prim.Native.Nat.{_*_}
@@ -8,8 +8,8 @@ use lib.Seq.{length-take-le}
 use Rattle.lines.proofs.LineLaws.{end-within}
 use Rattle.planner.proofs.RoomLaws.{plan-room}
 use borrow.Author.Needs.{needs}
-use Rattle.plan_books.proofs.plan.Statement.{statement}
-use Rattle.plan_books.proofs.plan.Tie as tie
+use Rattle.books.proofs.plan.Statement.{statement}
+use Rattle.books.proofs.plan.Tie as tie
 
 -- The places that the answers name, each seen from a later one.
 abbrev after-put-answer : tie.After-text4 → tie.After-put-answer
@@ -21,32 +21,8 @@ after-line-end c = c .before .before .before .before
 abbrev after-plan : tie.After-known-told → tie.After-plan
 after-plan c = after-put-answer (after-line-end c) .before .before .before .before
 
-open-read-requires : tie.Need-open-read-requires
-open-read-requires c κs = search needs
-
-fail-requires : tie.Need-fail-requires
-fail-requires c κs = search needs
-
-returns : tie.Need-returns
-returns c = search needs
-
-slice-aggregate-read-full : tie.Need-slice-aggregate-read-full
-slice-aggregate-read-full c = search needs
-
-read-full-requires : tie.Need-read-full-requires
-read-full-requires c κs = search needs
-
-close-requires : tie.Need-close-requires
-close-requires c κs = search needs
-
-array-share-prefix-buf : tie.Need-array-share-prefix-buf
-array-share-prefix-buf c = search needs
-
 slice-aggregate-plan : tie.Need-slice-aggregate-plan
 slice-aggregate-plan c = search needs
-
-slice-aggregate-plan-2 : tie.Need-slice-aggregate-plan-2
-slice-aggregate-plan-2 c = search needs
 
 plan-requires : tie.Need-plan-requires
 plan-requires c κs = search needs
@@ -104,22 +80,15 @@ mul-requests c =
     let answer = c .before .answer .given in
     omega (arith, plan-room (answer .0 .0) (answer .1) (after-plan c .plan .ensures))
 
-array-share-prefix-buf-2 : tie.Need-array-share-prefix-buf-2
-array-share-prefix-buf-2 c = search needs
-
-slice-aggregate-replay : tie.Need-slice-aggregate-replay
-slice-aggregate-replay c = search needs
-
 array-share-prefix-out : tie.Need-array-share-prefix-out
 array-share-prefix-out c =
-    let answer = c .before .before .answer .given in
-    omega (arith, plan-room (answer .0 .0) (answer .1) (after-plan (c .before) .plan .ensures))
+    let answer = c .before .answer .given in
+    omega (arith, plan-room (answer .0 .0) (answer .1) (after-plan c .plan .ensures))
 
-slice-aggregate-replay-2 : tie.Need-slice-aggregate-replay-2
-slice-aggregate-replay-2 c =
-    let answer = c .before .before .before .answer .given in
-    sym (length-take-le (5 * answer .0 .0) _
-    (plan-room (answer .0 .0) (answer .1) (after-plan (c .before .before) .plan .ensures)))
+slice-aggregate-replay : tie.Need-slice-aggregate-replay
+slice-aggregate-replay c =
+    let answer = c .before .before .answer .given in
+    sym (length-take-le (5 * answer .0 .0) _ (plan-room (answer .0 .0) (answer .1) (after-plan (c .before) .plan .ensures)))
 
 replay-requires : tie.Need-replay-requires
 replay-requires c κs = search needs
@@ -136,31 +105,20 @@ slice-aggregate-write-all-3 c = search needs
 write-all-requires-3 : tie.Need-write-all-requires-3
 write-all-requires-3 c κs = search needs
 
-write-all-requires-4 : tie.Need-write-all-requires-4
-write-all-requires-4 c κs = search needs
-
-slice-aggregate-write-all-4 : tie.Need-slice-aggregate-write-all-4
-slice-aggregate-write-all-4 c = search needs
-
-write-all-requires-5 : tie.Need-write-all-requires-5
-write-all-requires-5 c κs = search needs
+returns : tie.Need-returns
+returns c = search needs
 
 returns-2 : tie.Need-returns-2
 returns-2 c = search needs
+
+returns-3 : tie.Need-returns-3
+returns-3 c = search needs
 
 pub plan-spec : {M : Type 1} → statement M
 plan-spec =
     tie.close
     (tie.spec
-    open-read-requires
-    fail-requires
-    returns
-    slice-aggregate-read-full
-    read-full-requires
-    close-requires
-    array-share-prefix-buf
     slice-aggregate-plan
-    slice-aggregate-plan-2
     plan-requires
     slice-aggregate-put-answer
     slice-aggregate-put-answer-2
@@ -175,16 +133,13 @@ plan-spec =
     write-all-requires-2
     enum-known-answer
     mul-requests
-    array-share-prefix-buf-2
-    slice-aggregate-replay
     array-share-prefix-out
-    slice-aggregate-replay-2
+    slice-aggregate-replay
     replay-requires
     write-replayed-requires
     enum-known-answer-2
     slice-aggregate-write-all-3
     write-all-requires-3
-    write-all-requires-4
-    slice-aggregate-write-all-4
-    write-all-requires-5
-    returns-2)
+    returns
+    returns-2
+    returns-3)

@@ -1,8 +1,8 @@
--- `plan_books::main` is safe and ends. The invariant: k is 1 at least. The measure is the arguments left. Assumes nothing.
+-- `books::main` is safe and ends. The invariant: k is 1 at least. The measure is the arguments left. Assumes nothing.
 use Prim.Native.Nat.{_≤_, _-_}
 use borrow.Author.Needs.{needs}
-use Rattle.plan_books.proofs.main.Statement.{statement}
-use Rattle.plan_books.proofs.main.Tie as tie
+use Rattle.books.proofs.main.Statement.{statement}
+use Rattle.books.proofs.main.Tie as tie
 
 abbrev Inv-loop : tie.InvT-loop
 Inv-loop count k₀ k = 1 ≤ k
@@ -16,8 +16,8 @@ arg-count-requires c κs = search needs
 loop-holds : tie.Need-loop-holds Inv-loop μ-loop
 loop-holds c = search needs
 
-plan-argument-requires : tie.Need-plan-argument-requires Inv-loop μ-loop
-plan-argument-requires c κs = search needs
+answer-argument-requires : tie.Need-answer-argument-requires Inv-loop μ-loop
+answer-argument-requires c κs = search needs
 
 add-k : tie.Need-add-k Inv-loop μ-loop
 add-k c = search needs
@@ -39,7 +39,7 @@ main-spec =
     μ-loop
     arg-count-requires
     loop-holds
-    plan-argument-requires
+    answer-argument-requires
     add-k
     loop-less
     loop-again
