@@ -12,6 +12,7 @@ ghost use Rattle.search.specs.Inner.Scan.{SideMoves, AllAllowed, BlankTa
 ghost use Rattle.search.specs.Inner.Given.{Names, CrewsGiven, PersonGiven, LevelGiven, LevelSettled};
 ghost use Rattle.widths.specs.Inner.Widths.{levelSize, rowsSize, depotSize, draftSize};
 use frames::Book;
+use frames::Query;
 use level::LevelOutcome;
 use widths::DEPOT_SIZE;
 use widths::FLAGS_SIZE;
@@ -35,7 +36,8 @@ fn allow_all(u: &mut [bool])
 
 // What a level comes to, once its table stands: its forbidden and its starting facts, leave to add every fact, and the rounds.
 fn settle_level(
-    b: Book,
+    q: Query,
+    crews: u8,
     facts: &[u8],
     k: u8,
     subject: u8,
@@ -51,16 +53,14 @@ fn settle_level(
     at: usize,
     down: &mut [u8],
 ) -> LevelOutcome
-    requires { ⌜ LevelGiven b (now facts) k below (now adds) (now dels) (now added) (now deleted) (now table) (now x) ups (now up) at (now down) ⌝ }
-    ensures { λ r. ⌜ LevelSettled (contentsOf b) k (movesIn (now (adds .entry))) (movesIn (now (dels .entry))) subject (now (table .entry)) (now (x .exit)) ups (now (up .entry)) (now (up .exit)) at (now (down .entry)) (now (down .exit)) (r .found) (r .ups) (r .at) ⌝ }
+    requires { ⌜ LevelGiven q (now adds) (now dels) (now added) (now deleted) (now table) (now x) ups (now up) at (now down) ⌝ }
+    ensures { λ r. ⌜ LevelSettled q crews (now (facts .entry)) k below (movesIn (now (adds .entry))) (movesIn (now (dels .entry))) subject (now (table .entry)) (now (x .exit)) ups (now (up .entry)) (now (up .exit)) at (now (down .entry)) (now (down .exit)) (r .found) (r .ups) (r .at) ⌝ }
 {
     let mut bad = [false; LEVEL_SIZE];
     let mut s = [false; LEVEL_SIZE];
     let mut u = [false; LEVEL_SIZE];
     let mut y = [false; FLAGS_SIZE];
     let mut d = [false; LEVEL_SIZE];
-    let q = b.query;
-    let crews = b.sizes.crews;
     flags::bad_flags(q, crews, k, below, &mut bad);
     flags::start_flags(facts, crews, q.person, k, &mut s);
     allow_all(&mut u);
@@ -108,10 +108,13 @@ fn crew_level(
     ensures { λ r. ⌜ Scanned (contentsOf b) (k + 1) (now (rows .exit)) (now (up .exit)) (now (down .exit)) (r .found) (ups + r .ups) (r .at) × BlankTable (now (table .exit)) ⌝ }
 {
     let below = flags::is_below_listed(b, reach, k);
+    let q = b.query;
+    let crews = b.sizes.crews;
     let mut x = [false; FLAGS_SIZE];
     flags::crew_table(juniors, k, rows, table);
     let r = settle_level(
-        b,
+        q,
+        crews,
         facts,
         k,
         k,
@@ -224,14 +227,16 @@ fn person_level(
     requires { ⌜ Driving (contentsOf b) (b .sizes .crews) (now rows) ups (now up) at (now down) ⌝ }
     ensures { λ r. ⌜ Searched (contentsOf b) (now (up .exit)) (now (down .exit)) (r .found) (ups + r .ups) (r .at) ⌝ }
 {
+    let q = b.query;
     let k = b.sizes.crews;
-    let person = b.query.person.0;
+    let person = q.person.0;
     let mut x = [false; FLAGS_SIZE];
     let mut added = [512u16; LEVEL_SIZE];
     let mut deleted = [512u16; LEVEL_SIZE];
     flags::person_table(rows, table);
     settle_level(
-        b,
+        q,
+        k,
         facts,
         k,
         person,

@@ -6,7 +6,8 @@ use native.Mathlib.Omega.{arith}
 use lib.ListN.{length}
 use borrow.Author.Needs.{needs}
 use Rattle.frames.specs.Book.{contentsOf}
-use Rattle.flags.proofs.FlagLaws.{filled-row}
+use Rattle.flags.proofs.FlagLaws.{small-wants, start-flags, filled-row}
+use Rattle.flags.proofs.BadLaws.{bad-all}
 use Rattle.search.proofs.StepLaws.{room-up, room-below, room-down, table-same, row-same, crew-scanned}
 use Rattle.search.proofs.crew_level.Statement.{statement}
 use Rattle.search.proofs.crew_level.Tie as tie
@@ -16,7 +17,7 @@ abbrev entry : tie.After-slice-known6 → tie.Start
 entry c = c .before .before .before .before .before .before .before .before .before .before .before
 
 abbrev after-is-below-listed : tie.After-crew-table-arg2 → tie.After-is-below-listed
-after-is-below-listed c = c .before .before
+after-is-below-listed c = c .before .before .before
 
 abbrev after-crew-table : tie.After-settle-level-arg5 → tie.After-crew-table
 after-crew-table c = c .before .before .before .before .before .before .before .before
@@ -51,17 +52,13 @@ slice-aggregate-settle-level c = refl
 settle-level-requires : tie.Need-settle-level-requires
 unfolding contentsOf
 settle-level-requires c κs =
-    let at-below = after-is-below-listed (after-crew-table c .before) in
-    let start = entry (at-below .before) in
+    let start = entry (after-is-below-listed (after-crew-table c .before) .before) in
     let pre = start .pre in
     let given = pre .0 .0 in
     let drive = pre .1 .1 in
     let low : start .args .k ≤ 32 = omega (arith, given .accepted .sized .crews-most, pre .0 .1) in
     record {
-      accepted = given .accepted;
-      same-facts = given .same-facts;
-      level = omega (arith, pre .0 .1);
-      listed = λ h. at-below .is-below-listed .ensures;
+      wants = small-wants (given .accepted);
       sound-adds = given .moves .sound-adds;
       sound-dels = given .moves .sound-dels;
       names = pre .1 .0 .0;
@@ -108,14 +105,18 @@ returns c =
     let filling = c .before .before .before in
     let at-settle-level = after-settle-level filling in
     let at-crew-table = after-crew-table (at-settle-level .before) in
-    let start = entry (after-is-below-listed (at-crew-table .before) .before) in
+    let at-below = after-is-below-listed (at-crew-table .before) in
+    let start = entry (at-below .before) in
     let pre = start .pre in
     let given = pre .0 .0 in
     let drive = pre .1 .1 in
     let made = at-crew-table .crew-table .ensures in
-    let level = at-settle-level .settle-level .ensures in (
+    let level = at-settle-level .settle-level .ensures in
+    let bads = bad-all (contentsOf (start .args .b)) (small-wants (given .accepted)) (start .args .k) (at-below .is-below-listed .result)
+    (omega (arith, pre .0 .1)) (λ h. at-below .is-below-listed .ensures) (level .size) (level .forbidden) in
+    let begun = start-flags (start .args .b) (given .same-facts) (omega (arith, pre .0 .1)) (level .size) (level .started) in (
       crew-scanned (start .args .b) (given .accepted) (start .args .k) (pre .0 .1) (given .moves) drive (pre .1 .0 .1)
-          (table-same (given .same-juniors) made) (level .forbidden) (level .started) (level .allowed) (level .result)
+          (table-same (given .same-juniors) made) bads begun (level .allowed) (level .result)
           (row-same (given .same-juniors) (filled-row (drive .rows-right .size) made (c .before .before .fill-row .ensures)))
           (after-up filling .up .given ∙ drive .size-up) (after-down filling .down .given ∙ drive .size-down),
       record { size = made .size; blank = λ j h. made .kept j h ∙ pre .1 .0 .1 .blank j h },

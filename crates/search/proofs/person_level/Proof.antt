@@ -1,16 +1,19 @@
 -- `search::person_level` meets its contract: the table is the person's, and the level comes to the best plan or is stuck (`person-searched`).
 -- Assumes nothing.
 use mathlib.Core.Path.{refl, _∙_}
+use mathlib.Core.Bool.{false}
 use native.Mathlib.Omega.{arith}
 use borrow.Author.Needs.{needs}
 use Rattle.frames.specs.Book.{contentsOf}
+use Rattle.flags.proofs.FlagLaws.{small-wants, start-flags}
+use Rattle.flags.proofs.BadLaws.{bad-all}
 use Rattle.search.proofs.StepLaws.{room-up, room-below, room-down, person-searched}
 use Rattle.search.proofs.person_level.Statement.{statement}
 use Rattle.search.proofs.person_level.Tie as tie
 
 -- The places that the answers name, each seen from a later one.
 abbrev entry : tie.After-person-table-arg → tie.Start
-entry c = c .before .before .before .before .before .before .before .before
+entry c = c .before .before .before .before .before .before .before .before .before
 
 abbrev after-person-table : tie.After-settle-level-arg3 → tie.After-person-table
 after-person-table c = c .before .before .before .before .before .before .before .before
@@ -38,10 +41,7 @@ settle-level-requires c κs =
     let drive = pre .1 in
     let low = given .accepted .sized .crews-most in
     record {
-      accepted = given .accepted;
-      same-facts = given .same-facts;
-      level = omega arith;
-      listed = λ h. absurd (omega arith);
+      wants = small-wants (given .accepted);
       sound-adds = given .moves .sound-adds;
       sound-dels = given .moves .sound-dels;
       names = record { room-added = refl; room-deleted = refl };
@@ -69,8 +69,11 @@ returns c =
     let given = start .pre .0 in
     let drive = start .pre .1 in
     let level = after-settle-level c .settle-level .ensures in
+    let bads = bad-all (contentsOf (start .args .b)) (small-wants (given .accepted)) (start .args .b .sizes .crews) false (omega arith)
+    (λ h. absurd (omega arith)) (level .size) (level .forbidden) in
+    let begun = start-flags (start .args .b) (given .same-facts) (omega arith) (level .size) (level .started) in
     person-searched (start .args .b) (given .accepted) (given .moves) drive (at-person-table .person-table .ensures)
-    (level .forbidden) (level .started) (level .allowed) (level .result)
+    bads begun (level .allowed) (level .result)
     (c .before .before .before .up .given ∙ drive .size-up) (c .before .down .given ∙ drive .size-down)
 
 pub person-level-spec : {M : Type 1} → statement M

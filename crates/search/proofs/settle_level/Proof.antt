@@ -1,17 +1,14 @@
--- `search::settle_level` meets its contract: the forbidden flags are the level's by `bad-all`, the starting flags by `start-flags`, and the rounds
--- come to what `settle` says of them. Assumes nothing.
+-- `search::settle_level` meets its contract: the flags written are those of the query and of the facts, and the rounds come to what `settle` says
+-- of them. Assumes nothing.
 use mathlib.Core.Path.{refl, sym}
 use borrow.Author.Needs.{needs}
-use Rattle.frames.specs.Book.{contentsOf}
-use Rattle.flags.proofs.FlagLaws.{small-wants, start-flags}
-use Rattle.flags.proofs.BadLaws.{bad-all}
 use Rattle.search.proofs.StepLaws.{starts-allowed}
 use Rattle.search.proofs.settle_level.Statement.{statement}
 use Rattle.search.proofs.settle_level.Tie as tie
 
 -- The places that the answers name, each seen from a later one.
 abbrev entry : tie.After-bad → tie.Start
-entry c = c .before .before .before .before .before .before .before .before .before .before .before
+entry c = c .before .before .before .before .before .before .before .before .before .before
 
 abbrev after-bad-flags : tie.After-allow-all → tie.After-bad-flags
 after-bad-flags c = c .before .before .before .before .before .before
@@ -32,8 +29,7 @@ slice-aggregate-bad-flags : tie.Need-slice-aggregate-bad-flags
 slice-aggregate-bad-flags c = refl
 
 bad-flags-requires : tie.Need-bad-flags-requires
-unfolding contentsOf
-bad-flags-requires c κs = (small-wants (entry c .pre .accepted), refl)
+bad-flags-requires c κs = (entry c .pre .wants, refl)
 
 slice-aggregate-start-flags : tie.Need-slice-aggregate-start-flags
 slice-aggregate-start-flags c = refl
@@ -103,19 +99,16 @@ same-length-5 : tie.Need-same-length-5
 same-length-5 c = search needs
 
 returns : tie.Need-returns
-unfolding contentsOf
 returns c =
     let at-allow-all = after-allow-all (lent-bad (after-settle c .before)) in
-    let at-bad-flags = after-bad-flags at-allow-all in
-    let start = entry (at-bad-flags .before) in
-    let pre = start .pre in
     record {
+      blank = _;
       bads = _;
       s = _;
       u = _;
-      forbidden = bad-all (contentsOf (start .args .b)) (small-wants (pre .accepted)) (start .args .k) (start .args .below)
-          (pre .level) (pre .listed) refl (at-bad-flags .bad-flags .ensures);
-      started = start-flags (start .args .b) (pre .same-facts) (pre .level) refl (after-start-flags at-allow-all .start-flags .ensures);
+      size = refl;
+      forbidden = after-bad-flags at-allow-all .bad-flags .ensures;
+      started = after-start-flags at-allow-all .start-flags .ensures;
       allowed = at-allow-all .allow-all .ensures;
       result = after-settle c .settle .ensures;
     }

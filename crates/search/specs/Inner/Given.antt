@@ -6,12 +6,12 @@ use Prim.Native.Nat.{ℕ, _+_, _*_, _≤_, _<_}
 use lib.ListN.{length}
 use Rattle.widths.specs.Inner.Widths.{levelSize, flagsSize, rowsSize, tableSize}
 use Rattle.frames.specs.declared.Book.{Book}
-use Rattle.frames.specs.Book.{Contents, contentsOf}
+use Rattle.frames.specs.declared.Query.{Query}
+use Rattle.frames.specs.Book.{contentsOf}
 use Rattle.frames.specs.Inner.Fits.{Admitted}
 use Rattle.level.specs.Inner.Moves.{Moves, Sound, movesIn}
 use Rattle.level.specs.Inner.Settle.{Result}
-use Rattle.reach.specs.Inner.Goal.{belowListed}
-use Rattle.flags.specs.Inner.Flags.{Reaching, BadFlags, StartFlags}
+use Rattle.flags.specs.Inner.Flags.{FlagsWritten, Reaching, SmallWants, startFlag, badFlag}
 use Rattle.search.specs.Inner.Scan.{SideMoves, AllAllowed}
 
 -- Room for the names of the moves that a level tries first.
@@ -35,13 +35,9 @@ pub record PersonGiven (b : Book) (facts adds dels : List ℕ) (table : List Boo
   pub rows : length table ≡ tableSize
   pub same-facts : facts ≡ b .facts
 
--- Any level, once its table stands: whether a crew's level lies below a listed crew, and room for the names, the flags and the requests.
-pub record LevelGiven (b : Book) (facts : List ℕ) (k : ℕ) (below : Bool) (adds dels added deleted : List ℕ) (table x : List Bool)
-    (ups : ℕ) (up : List ℕ) (at : ℕ) (down : List ℕ) : Type 0 where
-  pub accepted : Admitted (contentsOf b)
-  pub same-facts : facts ≡ b .facts
-  pub level : k ≤ b .sizes .crews
-  pub listed : k < b .sizes .crews → below ≡ belowListed (contentsOf b) k
+-- Any level, once its table stands: a query of at most eight sets, sound moves, and room for the names, the flags and the requests.
+pub record LevelGiven (q : Query) (adds dels added deleted : List ℕ) (table x : List Bool) (ups : ℕ) (up : List ℕ) (at : ℕ) (down : List ℕ) : Type 0 where
+  pub wants : SmallWants q
   pub sound-adds : Sound (movesIn adds)
   pub sound-dels : Sound (movesIn dels)
   pub names : Names added deleted
@@ -51,13 +47,15 @@ pub record LevelGiven (b : Book) (facts : List ℕ) (k : ℕ) (below : Bool) (ad
   pub room-below : levelSize ≤ at
   pub room-down : 5 * at ≤ length down
 
--- What the level comes to, by its starting and its forbidden facts, leave being given to add every fact.
-pub record LevelSettled (b : Contents) (k : ℕ) (adds dels : Moves) (p : ℕ) (T x : List Bool)
+-- What the level comes to, by its forbidden and its starting facts, leave being given to add every fact.
+pub record LevelSettled (q : Query) (crews : ℕ) (facts : List ℕ) (k : ℕ) (below : Bool) (adds dels : Moves) (p : ℕ) (T x : List Bool)
     (ups : ℕ) (up₀ up : List ℕ) (at : ℕ) (down₀ down : List ℕ) (found : Bool) (n at′ : ℕ) : Type 0 where
+  pub blank : List Bool
   pub bads : List Bool
   pub s : List Bool
   pub u : List Bool
-  pub forbidden : BadFlags b k bads
-  pub started : StartFlags b k s
+  pub size : length blank ≡ levelSize
+  pub forbidden : FlagsWritten blank 0 (badFlag q crews k below) levelSize bads
+  pub started : FlagsWritten blank 0 (startFlag facts crews (q .person) k) levelSize s
   pub allowed : AllAllowed u
   pub result : Result adds dels p T bads s u x ups up₀ up at down₀ down found n at′
