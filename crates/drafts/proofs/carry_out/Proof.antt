@@ -19,6 +19,16 @@ Inv-loop ledger₀ draft from n i₀ ledger i = (i ≤ n) × (ledger ≡ carried
 abbrev μ-loop : tie.MeasureT-loop
 μ-loop ledger₀ draft from n i₀ ledger i = n - i
 
+-- The places that the answers name, each seen from a later one.
+abbrev entry : tie.At-loop Inv-loop μ-loop → tie.Start Inv-loop μ-loop
+entry c = c .before .before .before
+
+abbrev loop-turn : tie.After-request-of Inv-loop μ-loop → tie.In-loop Inv-loop μ-loop
+loop-turn c = c .before .before
+
+abbrev after-is-adding : tie.After-ledger Inv-loop μ-loop → tie.After-is-adding Inv-loop μ-loop
+after-is-adding c = c .before .before .before
+
 loop-holds : tie.Need-loop-holds Inv-loop μ-loop
 loop-holds c = (omega arith, carry-first (c .before .before .args .ledger .now) (c .before .before .args .draft .now) (c .before .before .args .from))
 
@@ -57,17 +67,31 @@ loop-less c = search needs
 
 loop-again : tie.Need-loop-again Inv-loop μ-loop
 loop-again c =
-    let start = c .before .before .before .before .before .before .before .before .before .before .before in
-    let i = c .before .before .before .before .before .before .before .before .loop .i in
+    let at-is-adding = after-is-adding (c .before) in
+    let at-loop-turn = loop-turn (at-is-adding .before) in
+    let start = entry (at-loop-turn .before) in
+    let i = at-loop-turn .before .loop .i in
     let from = start .args .from in
-    let five : 5 * (from + i) + 5 - 5 * (from + i) ≡ 5 = omega arith in
-    (omega (arith, c .before .before .before .before .before .before .before .loop-test .taken), carry-more (start .args .ledger .now) (c .before .before .before .before .before .before .before .before .loop .ledger) _ (start .args .draft .now) from i (5 * (from + i) + 5 - 5 * (from + i)) _ _ (omega (arith, c .before .before .before .before .before .before .before .loop-test .taken, start .pre)) five (c .before .before .before .before .before .request-of .ensures) (c .before .before .before .before .is-adding .ensures) (c .before .before .put-fact .ensures) (c .before .before .before .before .before .before .before .before .loop .inv .1))
+    let five : 5 * (from + i) + 5 - 5 * (from + i) ≡ 5 = omega arith in (
+      omega (arith, at-loop-turn .loop-test .taken),
+      carry-more (start .args .ledger .now) (at-loop-turn .before .loop .ledger) _
+          (start .args .draft .now) from i (5 * (from + i) + 5 - 5 * (from + i)) _ _
+          (omega (arith, at-loop-turn .loop-test .taken, start .pre)) five (at-is-adding .before .request-of .ensures)
+          (at-is-adding .is-adding .ensures) (c .before .before .put-fact .ensures) (at-loop-turn .before .loop .inv .1),
+    )
 
 same-length : tie.Need-same-length Inv-loop μ-loop
-same-length c = let start = c .before .before .before .before in ap length (c .before .loop .inv .1) ∙ carried-length (start .args .ledger .now) (map bytesOf (asks (start .args .draft .now) (start .args .from) (c .before .loop .i)))
+same-length c =
+    let start = entry (c .before) in
+    ap length (c .before .loop .inv .1) ∙ carried-length (start .args .ledger .now)
+    (map bytesOf (asks (start .args .draft .now) (start .args .from) (c .before .loop .i)))
 
 returns : tie.Need-returns Inv-loop μ-loop
-returns c = let start = c .before .before .before .before in carry-all (start .args .ledger .now) (c .before .loop .ledger) (start .args .draft .now) (start .args .from) (c .before .loop .i) (start .args .n) (omega (arith, c .before .loop .inv .0, c .loop-test .left)) (c .before .loop .inv .1)
+returns c =
+    let start = entry (c .before) in
+    carry-all (start .args .ledger .now) (c .before .loop .ledger) (start .args .draft .now) (start .args .from)
+    (c .before .loop .i) (start .args .n) (omega (arith, c .before .loop .inv .0, c .loop-test .left))
+    (c .before .loop .inv .1)
 
 pub carry-out-spec : {M : Type 1} → statement M
 carry-out-spec =

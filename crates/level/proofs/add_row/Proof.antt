@@ -12,6 +12,10 @@ Inv-loop table c x₀ k₀ x k = RowSoFar table c x₀ x k
 abbrev μ-loop : tie.MeasureT-loop
 μ-loop table c x₀ k₀ x k = 160 - k
 
+-- The places that the answers name, each seen from a later one.
+abbrev loop-head : tie.After-either Inv-loop μ-loop → tie.At-loop Inv-loop μ-loop
+loop-head c = c .before .before .before .before
+
 loop-holds : tie.Need-loop-holds Inv-loop μ-loop
 loop-holds c =
     let at-start = c .before .before in
@@ -42,7 +46,7 @@ add-x c = omega arith
 
 slice-write-x : tie.Need-slice-write-x Inv-loop μ-loop
 slice-write-x c =
-    let at-loop = c .before .before .before .before in
+    let at-loop = loop-head c in
     omega (arith, at-loop .loop .inv .size)
 
 add-k : tie.Need-add-k Inv-loop μ-loop

@@ -12,15 +12,22 @@ Inv-loop table d x₀ f₀ x f = BuiltSoFar table d x f
 abbrev μ-loop : tie.MeasureT-loop
 μ-loop table d x₀ f₀ x f = 160 - f
 
+-- The places that the answers name, each seen from a later one.
+abbrev start : tie.After-blank-arg Inv-loop μ-loop → tie.Start Inv-loop μ-loop
+start c = c .before .before .before .before
+
+abbrev start-from-loop : tie.After-loop Inv-loop μ-loop → tie.Start Inv-loop μ-loop
+start-from-loop c = c .before .before .before .before .before .before .before .before .before
+
 blank-requires : tie.Need-blank-requires Inv-loop μ-loop
 blank-requires c κs =
-    let at-start = c .before .before .before .before in
+    let at-start = start c in
     (at-start .pre .0, at-start .pre .1 .0)
 
 loop-holds : tie.Need-loop-holds Inv-loop μ-loop
 loop-holds c =
     let at-blank = c .before .before in
-    let at-start = at-blank .before .before .before .before .before in
+    let at-start = start (at-blank .before) in
     build-first (at-start .args .d .now) (at-blank .blank .ensures)
 
 shared-slice-read-if1 : tie.Need-shared-slice-read-if1 Inv-loop μ-loop
@@ -60,7 +67,7 @@ loop-again-2 c =
 
 same-length : tie.Need-same-length Inv-loop μ-loop
 same-length c =
-    let at-start = c .before .before .before .before .before .before .before .before .before in
+    let at-start = start-from-loop c in
     c .before .loop .inv .whole .size ∙ sym (at-start .pre .0)
 
 returns : tie.Need-returns Inv-loop μ-loop

@@ -13,6 +13,10 @@ Inv-loop a b k₀ k = NoneSoFar a b k
 abbrev μ-loop : tie.MeasureT-loop
 μ-loop a b k₀ k = 160 - k
 
+-- The places that the answers name, each seen from a later one.
+abbrev loop-turn : tie.After-without Inv-loop μ-loop → tie.In-loop Inv-loop μ-loop
+loop-turn c = c .before .before .before
+
 loop-holds : tie.Need-loop-holds Inv-loop μ-loop
 loop-holds c =
     let at-start = c .before .before in
@@ -29,7 +33,7 @@ without-requires c κs = search needs
 
 returns : tie.Need-returns Inv-loop μ-loop
 returns c =
-    let at-loop-test = c .before .before .before .before in
+    let at-loop-test = loop-turn (c .before) in
     let at-loop = at-loop-test .before in
     none-found (at-loop .loop .inv) (at-loop-test .loop-test .taken) (sym (c .before .without .ensures) ∙ c .if1 .taken)
 
@@ -41,7 +45,7 @@ loop-less c = omega arith
 
 loop-again : tie.Need-loop-again Inv-loop μ-loop
 loop-again c =
-    let at-loop-test = c .before .before .before .before in
+    let at-loop-test = loop-turn (c .before) in
     let at-loop = at-loop-test .before in
     none-more (at-loop .loop .inv) (at-loop-test .loop-test .taken) (sym (c .before .without .ensures) ∙ c .if1 .left)
 

@@ -139,7 +139,9 @@ shared-slice-read-t16-2 c = search needs
 
 returns : tie.Need-returns
 unfolding moveAt moveFrom
-returns c = rw (c .before .before .before .before .before .before .wide .ensures, c .before .before .before .before .wide2 .ensures) refl
+returns c =
+    let at-wide2 = c .before .before .before .before in
+    rw (at-wide2 .before .before .wide .ensures, at-wide2 .wide2 .ensures) refl
 
 pub move-at-spec : {M : Type 1} → statement M
 move-at-spec =

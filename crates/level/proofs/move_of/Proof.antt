@@ -13,6 +13,10 @@ Inv-loop r n terms₀ j₀ terms j = PlacesSoFar r terms j
 abbrev μ-loop : tie.MeasureT-loop
 μ-loop r n terms₀ j₀ terms j = n - j
 
+-- The places that the answers name, each seen from a later one.
+abbrev start : tie.After-place Inv-loop μ-loop → tie.Start Inv-loop μ-loop
+start c = c .before .before .before .before
+
 cast-n : tie.Need-cast-n Inv-loop μ-loop
 cast-n c = search needs
 
@@ -29,10 +33,10 @@ place-requires : tie.Need-place-requires Inv-loop μ-loop
 place-requires c κs = search needs
 
 mul-terms : tie.Need-mul-terms Inv-loop μ-loop
-mul-terms c = omega (arith, c .before .before .before .before .pre .few)
+mul-terms c = omega (arith, start c .pre .few)
 
 array-write-terms : tie.Need-array-write-terms Inv-loop μ-loop
-array-write-terms c = omega (arith, c .before .before .before .before .pre .few)
+array-write-terms c = omega (arith, start c .pre .few)
 
 add-j : tie.Need-add-j Inv-loop μ-loop
 add-j c = omega arith
@@ -41,7 +45,9 @@ loop-less : tie.Need-loop-less Inv-loop μ-loop
 loop-less c = omega arith
 
 loop-again : tie.Need-loop-again Inv-loop μ-loop
-loop-again c = places-more (c .before .before .before .loop .inv) (c .before .before .before .before .pre) (c .place .result) (c .before .before .loop-test .taken) (c .place .ensures)
+loop-again c =
+    places-more (c .before .before .before .loop .inv) (start c .pre) (c .place .result) (c .before .before .loop-test .taken)
+    (c .place .ensures)
 
 aim-requires : tie.Need-aim-requires Inv-loop μ-loop
 aim-requires c κs = search needs
@@ -59,7 +65,15 @@ cast-t23 : tie.Need-cast-t23 Inv-loop μ-loop
 cast-t23 c = search needs
 
 returns : tie.Need-returns Inv-loop μ-loop
-returns c = move-made (c .before .before .loop .inv) (c .before .before .before .pre) (c .before .loop-test .left) (omega (arith, c .before .before .before .good), (omega (arith, c .before .before .before .good), (omega (arith, c .before .before .before .good), omega (arith, c .before .before .before .good)))) (c .aim .result) (c .aim .ensures)
+returns c =
+    move-made (c .before .before .loop .inv) (c .before .before .before .pre) (c .before .loop-test .left) (
+      omega (arith, c .before .before .before .good),
+      (
+        omega (arith, c .before .before .before .good),
+        (omega (arith, c .before .before .before .good), omega (arith, c .before .before .before .good)),
+      ),
+    ) (c .aim .result)
+    (c .aim .ensures)
 
 pub move-of-spec : {M : Type 1} → statement M
 move-of-spec =

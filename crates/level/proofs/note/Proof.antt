@@ -6,6 +6,10 @@ use borrow.Author.Needs.{needs}
 use Rattle.level.proofs.note.Statement.{statement}
 use Rattle.level.proofs.note.Tie as tie
 
+-- The places that the answers name, each seen from a later one.
+abbrev start : tie.After-struct-known4 → tie.Start
+start c = c .before .before .before .before
+
 mul-at : tie.Need-mul-at
 mul-at c = search needs
 
@@ -52,7 +56,9 @@ same-length : tie.Need-same-length
 same-length c = search needs
 
 returns : tie.Need-returns
-returns c = noted (c .before .before .before .before .args .out .now) (c .before .before .before .before .args .k) (c .before .before .before .before .args .subject) (c .before .before .before .before .args .m) (c .before .before .before .before .pre .0) (c .before .before .before .before .pre .1)
+returns c =
+    noted (start c .args .out .now) (start c .args .k) (start c .args .subject) (start c .args .m) (start c .pre .0)
+    (start c .pre .1)
 
 pub note-spec : {M : Type 1} → statement M
 note-spec =

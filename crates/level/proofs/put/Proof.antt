@@ -7,6 +7,10 @@ use borrow.Author.Needs.{needs}
 use Rattle.level.proofs.put.Statement.{statement}
 use Rattle.level.proofs.put.Tie as tie
 
+-- The places that the answers name, each seen from a later one.
+abbrev start : tie.After-add-row → tie.Start
+start c = c .before .before .before .before .before
+
 slice-write-x : tie.Need-slice-write-x
 slice-write-x c = search needs
 
@@ -35,8 +39,9 @@ same-length-2 c =
 returns-2 : tie.Need-returns-2
 returns-2 c =
     let at-add-row = c .before .before in
-    let at-start = at-add-row .before .before .before .before .before in
-    put-crew (at-start .args .table .now) (at-start .args .x .now) (at-start .args .f) (omega arith) (at-start .pre .0) (at-start .pre .1 .0) (at-add-row .add-row .ensures)
+    let at-start = start at-add-row in
+    put-crew (at-start .args .table .now) (at-start .args .x .now) (at-start .args .f) (omega arith) (at-start .pre .0)
+    (at-start .pre .1 .0) (at-add-row .add-row .ensures)
 
 pub put-spec : {M : Type 1} → statement M
 put-spec =

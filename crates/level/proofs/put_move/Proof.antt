@@ -12,6 +12,10 @@ Inv-loop k ms₀ row j₀ ms j = Putting ms₀ k row j ms
 abbrev μ-loop : tie.MeasureT-loop
 μ-loop k ms₀ row j₀ ms j = 14 - j
 
+-- The places that the answers name, each seen from a later one.
+abbrev start : tie.In-loop Inv-loop μ-loop → tie.Start Inv-loop μ-loop
+start c = c .before .before .before .before
+
 numbers-of-requires : tie.Need-numbers-of-requires Inv-loop μ-loop
 numbers-of-requires c κs = search needs
 
@@ -34,7 +38,7 @@ mul-ms-3 : tie.Need-mul-ms-3 Inv-loop μ-loop
 mul-ms-3 c = search needs
 
 slice-write-ms : tie.Need-slice-write-ms Inv-loop μ-loop
-slice-write-ms c = omega (arith, c .before .loop .inv .size, c .before .before .before .before .pre .1 .0, c .before .before .before .before .pre .1 .1)
+slice-write-ms c = omega (arith, c .before .loop .inv .size, start c .pre .1 .0, start c .pre .1 .1)
 
 add-j : tie.Need-add-j Inv-loop μ-loop
 add-j c = search needs
@@ -43,7 +47,8 @@ loop-less : tie.Need-loop-less Inv-loop μ-loop
 loop-less c = search needs
 
 loop-again : tie.Need-loop-again Inv-loop μ-loop
-loop-again c = put-more (c .before .loop .inv) (c .loop-test .taken) (omega (arith, c .before .before .before .before .pre .1 .0, c .before .before .before .before .pre .1 .1))
+loop-again c =
+    put-more (c .before .loop .inv) (c .loop-test .taken) (omega (arith, start c .pre .1 .0, start c .pre .1 .1))
 
 same-length : tie.Need-same-length Inv-loop μ-loop
 same-length c = c .before .loop .inv .size

@@ -15,6 +15,13 @@ Inv-loop x bad d₀ k₀ d k = SoFar (λ j. getD x j false && not (getD bad j fa
 abbrev μ-loop : tie.MeasureT-loop
 μ-loop x bad d₀ k₀ d k = 160 - k
 
+-- The places that the answers name, each seen from a later one.
+abbrev start : tie.After-loop Inv-loop μ-loop → tie.Start Inv-loop μ-loop
+start c = c .before .before .before .before .before
+
+abbrev loop-head : tie.After-without Inv-loop μ-loop → tie.At-loop Inv-loop μ-loop
+loop-head c = c .before .before .before .before
+
 loop-holds : tie.Need-loop-holds Inv-loop μ-loop
 loop-holds c =
     let at-start = c .before .before .before in
@@ -31,7 +38,7 @@ without-requires c κs = search needs
 
 slice-write-d : tie.Need-slice-write-d Inv-loop μ-loop
 slice-write-d c =
-    let at-loop = c .before .before .before .before in
+    let at-loop = loop-head c in
     omega (arith, at-loop .loop .inv .size)
 
 add-k : tie.Need-add-k Inv-loop μ-loop
@@ -48,7 +55,7 @@ loop-again c =
 
 same-length : tie.Need-same-length Inv-loop μ-loop
 same-length c =
-    let at-start = c .before .before .before .before .before in
+    let at-start = start c in
     c .before .loop .inv .size ∙ sym (at-start .pre .1 .1)
 
 returns : tie.Need-returns Inv-loop μ-loop
