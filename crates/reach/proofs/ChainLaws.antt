@@ -46,11 +46,14 @@ module _ (b : Contents) (ok : Admitted b) where
     terms-held : (f : Fact) → tracked b f ≡ true → (t : Term)
         → termHolds (b .juniors) (holds l) (subjectOf f) t ≡ termHolds (b .juniors) (lift b (track b (holds l))) (subjectOf f) t
     terms-held (Holds p a v) e t =
-        rw (subject-value p a v) (term-of-person (b .juniors) (holds l) (lift b (track b (holds l))) p (person-held b ok (holds l) (kept .inside) p (tracked-value b p a v e .0)) t)
+        rw (subject-value p a v) (term-of-person (b .juniors) (holds l) (lift b (track b (holds l))) p
+        (person-held b ok (holds l) (kept .inside) p (tracked-value b p a v e .0)) t)
     terms-held (CrewHolds c a v) e t =
-        rw (subject-crew c a v) (term-of-crew (b .juniors) (holds l) (lift b (track b (holds l))) c (record { crew = λ x a′ v′ le. crew-held b ok (holds l) (kept .inside) x a′ v′ }) t)
+        rw (subject-crew c a v) (term-of-crew (b .juniors) (holds l) (lift b (track b (holds l))) c
+        (record { crew = λ x a′ v′ le. crew-held b ok (holds l) (kept .inside) x a′ v′ }) t)
     terms-held (Member p c) e t =
-        rw (subject-member p c) (term-of-person (b .juniors) (holds l) (lift b (track b (holds l))) p (person-held b ok (holds l) (kept .inside) p (tracked-member b p c e .0)) t)
+        rw (subject-member p c) (term-of-person (b .juniors) (holds l) (lift b (track b (holds l))) p
+        (person-held b ok (holds l) (kept .inside) p (tracked-member b p c e .0)) t)
 
     -- So does a permission.
     pub permitted-held : (r : Request) → tracked b (r .fact) ≡ true
@@ -117,11 +120,14 @@ module _ (b : Contents) (ok : Admitted b) where
 
   pub chain-ran : (chain : List (List ℕ)) (l : List ℕ) (k : ℕ) (last : List ℕ) → Kept b l → run b (b .query .roles) l k chain ≡ ends last → Ran l chain last
   unfolding trackedOf askFor
-  chain-ran [] l k last kept e = let same = one-end l last (sym (run-none b (b .query .roles) l k) ∙ e) in record { runs = tt; ends-at = ap (λ (x : List ℕ). track b (holds x)) same; kept = subst (Kept b) same kept }
+  chain-ran [] l k last kept e =
+      let same = one-end l last (sym (run-none b (b .query .roles) l k) ∙ e) in
+      record { runs = tt; ends-at = ap (λ (x : List ℕ). track b (holds x)) same; kept = subst (Kept b) same kept }
   chain-ran (q ∷ qs) l k last kept e =
       let parts = run-parts b (b .query .roles) l k q qs last e in
       let formed = goes-parts b (b .query .roles) l q (parts .0) .0 in
-      by-tracked (tracked b (requestOf q .fact)) refl (parts .0) formed (chain-ran qs (after l (requestOf q)) (k + 1) last (kept-after l kept q formed) (parts .1))
+      by-tracked (tracked b (requestOf q .fact)) refl (parts .0) formed
+      (chain-ran qs (after l (requestOf q)) (k + 1) last (kept-after l kept q formed) (parts .1))
     where
       by-tracked : (t : Bool) → tracked b (requestOf q .fact) ≡ t → goes b (b .query .roles) l q ≡ true → wellFormed (b .sizes) q ≡ true
           → Ran (after l (requestOf q)) qs last → Ran l (q ∷ qs) last
@@ -153,7 +159,8 @@ module _ (b : Contents) (ok : Admitted b) where
       let may = ok .0 in
       let next : track b (holds (after l (asked q))) ≡ update (track b (holds l)) (q .fact) on =
       track-after l kept (bytesOf q) (may .formed) (may .of-fact) ∙ rw (may .number, adding-of q (may .adding)) refl in
-      let rest = run-chained rs (after l (asked q)) (k + 1) (kept-after l kept (bytesOf q) (may .formed)) (subst (λ (S : State). Runs (depot b .May) S rs) (sym next) (ok .1)) in
+      let rest = run-chained rs (after l (asked q)) (k + 1) (kept-after l kept (bytesOf q) (may .formed))
+      (subst (λ (S : State). Runs (depot b .May) S rs) (sym next) (ok .1)) in
       record {
         last = rest .last;
         led = run-goes b (b .query .roles) l k (bytesOf q) (map fiveOf rs) (may-goes l kept on q may) ∙ rest .led;

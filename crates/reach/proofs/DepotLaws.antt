@@ -46,7 +46,8 @@ module _ (b : Contents) (S T : State) where
   terms-agree (Holds p a v) e agree t =
       let h = tracked-value b p a v e in
       let k : (160 * personLevel b + (16 * a .0 + v)) / 160 ≡ personLevel b = omega (arith, h .1 .0, h .1 .1) in
-      rw (subject-value p a v) (term-of-person (b .juniors) (lift b S) (lift b T) p (all-of p (λ f i. agree (numberOf b f) (omega (arith, level-low b f i, k)))) t)
+      rw (subject-value p a v) (term-of-person (b .juniors) (lift b S) (lift b T) p
+      (all-of p (λ f i. agree (numberOf b f) (omega (arith, level-low b f i, k)))) t)
     where
       all-of : (p : Person) → ((f : Fact) → tracked b f ≡ true → S (numberOf b f) ≡ T (numberOf b f)) → SameOf (lift b S) (lift b T) p
       all-of p h =
@@ -71,7 +72,8 @@ module _ (b : Contents) (S T : State) where
       (record {
         value = λ a v. lift-same b S T (Holds p a v) (λ i. agree (numberOf b (Holds p a v)) (omega (arith, level-low b (Holds p a v) i, k)));
         crew-of = λ d. lift-same b S T (Member p d) (λ i. agree (numberOf b (Member p d)) (omega (arith, level-low b (Member p d) i, k)));
-        crews = λ x a v. lift-same b S T (CrewHolds (record { 0 = x }) a v) (λ i. agree (numberOf b (CrewHolds (record { 0 = x }) a v)) (omega (arith, level-low b (CrewHolds (record { 0 = x }) a v) i, k)));
+        crews = λ x a v. lift-same b S T (CrewHolds (record { 0 = x }) a v)
+            (λ i. agree (numberOf b (CrewHolds (record { 0 = x }) a v)) (omega (arith, level-low b (CrewHolds (record { 0 = x }) a v) i, k)));
       }) t)
 
   -- So does a permission.

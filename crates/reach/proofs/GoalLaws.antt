@@ -36,7 +36,8 @@ use Rattle.replay.proofs.MetLaws.{direct-crews-mono, at-least-local, direct-cre
 use Rattle.theory.specs.Inner.Facts.{Clear}
 use Rattle.reach.specs.Inner.Tracked.{tracked, numberOf, lift, factAt, isNumber, track}
 use Rattle.reach.specs.Inner.Goal.{banned, belowListed, forbids, forbidden, goal, bad}
-use Rattle.reach.proofs.TrackLaws.{tracked-value, tracked-member, number-is, number-fact, fact-tracked, track-at, crew-in, value-in, member-in, person-held}
+use Rattle.reach.proofs.TrackLaws.{tracked-value, tracked-member, number-is, number-fact, fact-tracked}
+use Rattle.reach.proofs.TrackLaws.{track-at, crew-in, value-in, member-in, person-held}
 
 -- ---------------------------------------------------------------- tests
 
@@ -96,7 +97,8 @@ module _ (b : Contents) {F H : Fact → Bool} (sub : Subset F H) where
       (λ m f. rw m (at-least-mono b sub f))
       (λ m f.
       let both = and-both (subset (b .query .crews) (directCrews b F)) (metAtLeast b F) f in
-      rw m (and-from (subset (b .query .crews) (directCrews b H)) (metAtLeast b H) (direct-crews-mono b sub (b .query .crews) (both .0)) (at-least-mono b sub (both .1))))
+      rw m (and-from (subset (b .query .crews) (directCrews b H)) (metAtLeast b H) (direct-crews-mono b sub (b .query .crews) (both .0))
+      (at-least-mono b sub (both .1))))
 
 -- Where the query is met, its goal is reached.
 pub met-goal : (b : Contents) (F : Fact → Bool) → met b F ≡ true → goal b F ≡ true
@@ -187,18 +189,22 @@ module _ (b : Contents) (ok : Admitted b) where
       where
         refuted : any (λ w. eqb (w .attr .0) (a .0) && not (member (w .set) v)) (wants b) ≡ true → ⊥
         refuted found =
-            let w = all-any (λ w. eqb (effectiveSet b F (w .attr .0)) (w .set)) (λ w. eqb (w .attr .0) (a .0) && not (member (w .set) v)) (wants b) each found in
+            let w = all-any (λ w. eqb (effectiveSet b F (w .attr .0)) (w .set)) (λ w. eqb (w .attr .0) (a .0) && not (member (w .set) v))
+            (wants b) each found in
             let both = and-both (eqb (w .0 .attr .0) (a .0)) (not (member (w .0 .set) v)) (w .1 .1) in
             let attr : w .0 .attr .0 ≡ a .0 = eqb-true (w .0 .attr .0) (a .0) (both .0) in
             let set : effectiveSet b F (w .0 .attr .0) ≡ w .0 .set = eqb-true (effectiveSet b F (w .0 .attr .0)) (w .0 .set) (w .1 .0) in
             let has : member (effectiveSet b F (a .0)) v ≡ true =
-            member-value-set (b .sizes) (b .juniors) (b .query .person) (a .0) F v ∙ and-from (isValue (b .sizes) (a .0) v) (personHolds (b .juniors) F (b .query .person) a v) range e in
+            member-value-set (b .sizes) (b .juniors) (b .query .person) (a .0) F v
+            ∙ and-from (isValue (b .sizes) (a .0) v) (personHolds (b .juniors) F (b .query .person) a v) range e in
             let same : effectiveSet b F (a .0) ≡ w .0 .set = ap (effectiveSet b F) (sym attr) ∙ set in
             true≢false (sym has ∙ ap (λ (s : ℕ). member s v) same ∙ not-true (member (w .0 .set) v) (both .1))
 
     -- The crews that the person is in are the members of the direct crews.
     direct-from : (c : Crew) → F (Member (b .query .person) c) ≡ true → member (directCrews b F) (c .0) ≡ true
-    direct-from c e = rw (direct-crews-below b F) (set-below-from (λ x. F (Member (b .query .person) (record { 0 = x }))) (b .sizes .crews) (c .0) (member-bound (b .query .person) c (inside (Member (b .query .person) c) e)) e)
+    direct-from c e =
+        rw (direct-crews-below b F) (set-below-from (λ x. F (Member (b .query .person) (record { 0 = x }))) (b .sizes .crews) (c .0)
+        (member-bound (b .query .person) c (inside (Member (b .query .person) c) e)) e)
 
     direct-of : (c : ℕ) → member (directCrews b F) c ≡ true → F (Member (b .query .person) (record { 0 = c })) ≡ true
     direct-of c m = set-below-parts (λ x. F (Member (b .query .person) (record { 0 = x }))) (b .sizes .crews) c (rw (direct-crews-below b F) at m) .1
@@ -208,7 +214,8 @@ module _ (b : Contents) (ok : Admitted b) where
     unfolding forbids belowListed
     exactly-clear e (Holds p a v) t h =
         let held : F (Holds (b .query .person) a v) ≡ true = rw (tracked-value b p a v t .0) at h in
-        effective-free (exactly-parts b F e .1) a v (value-bound p a v (inside (Holds p a v) h)) (person-holds-direct (b .juniors) F (b .query .person) a v held)
+        effective-free (exactly-parts b F e .1) a v (value-bound p a v (inside (Holds p a v) h))
+        (person-holds-direct (b .juniors) F (b .query .person) a v held)
     exactly-clear e (CrewHolds c a v) t h = not-on (banned b (a .0) v && belowListed b (c .0)) refuted
       where
         refuted : (banned b (a .0) v && belowListed b (c .0)) ≡ true → ⊥
@@ -217,9 +224,11 @@ module _ (b : Contents) (ok : Admitted b) where
             let listed = any-cases (λ d. member (b .query .crews) d && downward (b .juniors) (λ x. eqb x (c .0)) d) 32 (both .1) in
             let d = listed .0 in
             let parts = and-both (member (b .query .crews) d) (downward (b .juniors) (λ x. eqb x (c .0)) d) (listed .1 .1) in
-            let direct : F (Member (b .query .person) (record { 0 = d })) ≡ true = direct-of d (ap (λ (s : ℕ). member s d) (exactly-parts b F e .0) ∙ parts .0) in
+            let direct : F (Member (b .query .person) (record { 0 = d })) ≡ true =
+            direct-of d (ap (λ (s : ℕ). member s d) (exactly-parts b F e .0) ∙ parts .0) in
             let holds = holds-above (b .juniors) F a v falling (reached (b .juniors) d (c .0) (parts .1)) h in
-            let free = effective-free (exactly-parts b F e .1) a v (crew-bound c a v (inside (CrewHolds c a v) h)) (person-holds-from (b .juniors) F (b .query .person) a v d (listed .1 .0) direct holds) in
+            let free = effective-free (exactly-parts b F e .1) a v (crew-bound c a v (inside (CrewHolds c a v) h))
+            (person-holds-from (b .juniors) F (b .query .person) a v d (listed .1 .0) direct holds) in
             true≢false (sym (both .0) ∙ free)
     exactly-clear e (Member p c) t h =
         let held : F (Member (b .query .person) c) ≡ true = rw (tracked-member b p c t .0) at h in
@@ -258,14 +267,16 @@ module _ (b : Contents) (ok : Admitted b) where
       unfolding forbids belowListed
       not-banned a v e =
           ⊎-elim
-          (λ (h : F (Holds (b .query .person) a v) ≡ true). free (Holds (b .query .person) a v) (value-in b ok (b .query .person) a v refl (inside (Holds (b .query .person) a v) h)) h)
+          (λ (h : F (Holds (b .query .person) a v) ≡ true). free (Holds (b .query .person) a v)
+          (value-in b ok (b .query .person) a v refl (inside (Holds (b .query .person) a v) h)) h)
           (λ (h : (d : ℕ) × ((d < 32) × ((F (Member (b .query .person) (record { 0 = d })) ≡ true) × (crewHolds (b .juniors) F a v d ≡ true)))).
           let d = h .0 in
           let s = source-within (b .juniors) F a v falling (suc d) d (omega arith) (h .1 .1 .1) in
           let f = CrewHolds (record { 0 = s .crew }) a v in
           let low : belowListed b (s .crew) ≡ true =
           any-from (λ x. member (b .query .crews) x && downward (b .juniors) (λ y. eqb y (s .crew)) x) 32 d
-          (and-from (member (b .query .crews) d) (downward (b .juniors) (λ y. eqb y (s .crew)) d) (listed-of d (h .1 .1 .0)) (reaches (b .juniors) falling (s .below))) (h .1 .0) in
+          (and-from (member (b .query .crews) d) (downward (b .juniors) (λ y. eqb y (s .crew)) d) (listed-of d (h .1 .1 .0))
+          (reaches (b .juniors) falling (s .below))) (h .1 .0) in
           not-both (banned b (a .0) v) (belowListed b (s .crew)) low (free f (crew-in b ok (record { 0 = s .crew }) a v (inside f (s .held))) (s .held)))
           (person-holds-cases (b .juniors) F (b .query .person) a v e)
         where
@@ -276,7 +287,8 @@ module _ (b : Contents) (ok : Admitted b) where
       values-exact : metAtLeast b F ≡ true → all (λ w. eqb (effectiveSet b F (w .attr .0)) (w .set)) (wants b) ≡ true
       unfolding banned
       values-exact least =
-          all-in (λ w. subset (w .set) (effectiveSet b F (w .attr .0))) (λ w. isAttr (b .sizes) (w .attr .0) && within (w .set) (valuesOf (b .sizes) (w .attr .0)))
+          all-in (λ w. subset (w .set) (effectiveSet b F (w .attr .0)))
+          (λ w. isAttr (b .sizes) (w .attr .0) && within (w .set) (valuesOf (b .sizes) (w .attr .0)))
           (λ w. eqb (effectiveSet b F (w .attr .0)) (w .set)) (wants b) (sym (at-least-each b F) ∙ least) wants-fit each-exact
         where
           each-exact : (w : Want) → subset (w .set) (effectiveSet b F (w .attr .0)) ≡ true
@@ -287,7 +299,8 @@ module _ (b : Contents) (ok : Admitted b) where
               let is = value-set-below (b .sizes) (b .juniors) (b .query .person) (w .attr .0) F (sizes .0) in
               let p = personHolds (b .juniors) F (b .query .person) (w .attr) in
               let outside : (v : ℕ) → member (w .set) v ≡ false → banned b (w .attr .0) v ≡ true =
-              λ v m. found (λ x. eqb (x .attr .0) (w .attr .0) && not (member (x .set) v)) (and-from (eqb (w .attr .0) (w .attr .0)) (not (member (w .set) v)) (eq-eqb (w .attr .0) (w .attr .0) refl) (rw m refl)) in
+              λ v m. found (λ x. eqb (x .attr .0) (w .attr .0) && not (member (x .set) v))
+              (and-from (eqb (w .attr .0) (w .attr .0)) (not (member (w .set) v)) (eq-eqb (w .attr .0) (w .attr .0) refl) (rw m refl)) in
               eq-eqb (effectiveSet b F (w .attr .0)) (w .set)
               (is ∙ same-set p (valuesOf (b .sizes) (w .attr .0)) (w .set) (values-most (w .attr .0)) (sizes .1)
               (λ v l h. not-off (member (w .set) v) (λ m. true≢false (sym (outside v m) ∙ not-banned (w .attr) v h)))

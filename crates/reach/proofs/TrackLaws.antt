@@ -95,7 +95,8 @@ number-fact b (Member p c) e =
     rw (k, i, le-ltb (personLevel b) (personLevel b) (omega arith), le-ltb (128 + c .0) 128 (omega arith), d, ← t .0) refl
 
 -- The fact of a number is tracked, and has that number.
-pub fact-tracked : (b : Contents) (g : ℕ) → isNumber b g ≡ true → (tracked b (factAt b (g / 160) (g % 160)) ≡ true) × (numberOf b (factAt b (g / 160) (g % 160)) ≡ g)
+pub fact-tracked : (b : Contents) (g : ℕ) → isNumber b g ≡ true
+    → (tracked b (factAt b (g / 160) (g % 160)) ≡ true) × (numberOf b (factAt b (g / 160) (g % 160)) ≡ g)
 unfolding isNumber factAt tracked numberOf
 fact-tracked b g e =
     dite (decLt (g / 160) (personLevel b))
@@ -116,8 +117,11 @@ fact-tracked b g e =
       omega (arith, k),
     ))
     (λ (crew : g % 160 < 128 → ⊥).
-    rw (le-ltb (g / 160) (personLevel b) (omega arith), le-ltb (g % 160) 128 (omega arith))
-    (and-from (isAsked b (b .query .person .0)) (ltb (g % 160 - 128) 32) (eq-eqb (b .query .person .0) (b .query .person .0) refl) (lt-ltb (g % 160 - 128) 32 (omega arith)), omega (arith, k))))
+    rw (le-ltb (g / 160) (personLevel b) (omega arith), le-ltb (g % 160) 128 (omega arith)) (
+      and-from (isAsked b (b .query .person .0)) (ltb (g % 160 - 128) 32) (eq-eqb (b .query .person .0) (b .query .person .0) refl)
+          (lt-ltb (g % 160 - 128) 32 (omega arith)),
+      omega (arith, k),
+    )))
 
 -- ---------------------------------------------------------------- states and sets of facts
 
@@ -139,7 +143,11 @@ lift-track b F f = by-tracked (tracked b f) refl
 pub lift-mono : (b : Contents) {S T : State} → S ⊆ T → Subset (lift b S) (lift b T)
 unfolding lift
 lift-mono b {S} {T} le =
-    record { each = λ f e. let both = and-both (tracked b f) (S (numberOf b f)) e in and-from (tracked b f) (T (numberOf b f)) (both .0) (le (numberOf b f) (both .1)) }
+    record {
+      each = λ f e.
+          let both = and-both (tracked b f) (S (numberOf b f)) e in
+          and-from (tracked b f) (T (numberOf b f)) (both .0) (le (numberOf b f) (both .1));
+    }
 
 -- States that agree at a tracked fact agree on it.
 pub lift-same : (b : Contents) (S T : State) (f : Fact) → (tracked b f ≡ true → S (numberOf b f) ≡ T (numberOf b f)) → lift b S f ≡ lift b T f
@@ -162,7 +170,8 @@ track-put b F H f on t here other = fun-ext at-number
         (λ (same : g ≡ numberOf b f). rw same (rw (number-is b f t, number-fact b f t, here) (sym (update-same (track b F) (numberOf b f) on))))
         (λ (apart : g ≡ numberOf b f → ⊥). by-number (isNumber b g) refl apart ∙ sym (update-other (track b F) (numberOf b f) on apart))
       where
-        by-number : (n : Bool) → isNumber b g ≡ n → (g ≡ numberOf b f → ⊥) → (n && H (factAt b (g / 160) (g % 160))) ≡ isNumber b g && F (factAt b (g / 160) (g % 160))
+        by-number : (n : Bool) → isNumber b g ≡ n → (g ≡ numberOf b f → ⊥)
+            → (n && H (factAt b (g / 160) (g % 160))) ≡ isNumber b g && F (factAt b (g / 160) (g % 160))
         by-number true i apart = rw i (other (factAt b (g / 160) (g % 160)) (λ e. apart (sym (fact-tracked b g i .1) ∙ ap (numberOf b) e)))
         by-number false i apart = rw i refl
 
@@ -187,7 +196,8 @@ module _ (b : Contents) (ok : Admitted b) where
   crew-in c a v e =
       let both = and-both (isCrew (b .sizes) (c .0)) (isValue (b .sizes) (a .0) v) e in
       let small = value-bounds (b .sizes) (a .0) v (ok .sized) (both .1) in
-      and-from (ltb (c .0) (b .sizes .crews)) (ltb (a .0) 8 && ltb v 16) (both .0) (and-from (ltb (a .0) 8) (ltb v 16) (lt-ltb (a .0) 8 (small .0)) (lt-ltb v 16 (small .1)))
+      and-from (ltb (c .0) (b .sizes .crews)) (ltb (a .0) 8 && ltb v 16) (both .0)
+      (and-from (ltb (a .0) 8) (ltb v 16) (lt-ltb (a .0) 8 (small .0)) (lt-ltb v 16 (small .1)))
 
   pub value-in : (p : Person) (a : Attr) (v : ℕ) → p ≡ b .query .person → inSizes (b .sizes) (Holds p a v) ≡ true → tracked b (Holds p a v) ≡ true
   unfolding inSizes tracked
