@@ -60,12 +60,14 @@ unfolding backsIn
 backs-in m T x y f e = direct-low x (m .fact) (f .fact) ∙ all-three (getD y (m .fact) false) (getD x (m .fact) false) (flagsWith m T y) e .1
 
 -- What is put back may be deleted again.
-pub backs-met : (m : Move) (x : List Bool) {T y : List Bool} → Whole T y → Fine m → backsIn m T x y ≡ true → moveShown T (update (direct y) (m .fact) true) m ≡ true
+pub backs-met : (m : Move) (x : List Bool) {T y : List Bool} → Whole T y → Fine m → backsIn m T x y ≡ true
+    → moveShown T (update (direct y) (m .fact) true) m ≡ true
 unfolding backsIn
 backs-met m x {T} {y} w f e = sym (flags-with w f) ∙ all-three (getD y (m .fact) false) (getD x (m .fact) false) (flagsWith m T y) e .2
 
 -- A move that does not fire puts nothing back.
-pub backs-none : (m : Move) (x : List Bool) {T y : List Bool} → Whole T y → Fine m → backsIn m T x y ≡ false → direct x (m .fact) ≡ true → moveShown T (update (direct y) (m .fact) true) m ≡ true → direct y (m .fact) ≡ true
+pub backs-none : (m : Move) (x : List Bool) {T y : List Bool} → Whole T y → Fine m → backsIn m T x y ≡ false → direct x (m .fact) ≡ true
+    → moveShown T (update (direct y) (m .fact) true) m ≡ true → direct y (m .fact) ≡ true
 unfolding backsIn
 backs-none m x {T} {y} w f e u h =
     direct-low y (m .fact) (f .fact)
@@ -91,7 +93,12 @@ module _ {ms : Moves} {p : ℕ} {T bad x y : List Bool} {end : ℕ} {out₀ out 
   pub back-left : {i : ℕ} {r : Bool} → i < ms .count → r ≡ backsIn (moveAt ms i) T x y → r ≡ true → end < at + 160
   back-left {i} l t h =
       let f = sound .fine i l in
-      omega (arith, back-room (world-lawful T ms ms p) (k .back) (f .fact) (backs-new (moveAt ms i) T x y f (sym t ∙ h)), asks-length out at (end - at), k .down)
+      omega (
+        arith,
+        back-room (world-lawful T ms ms p) (k .back) (f .fact) (backs-new (moveAt ms i) T x y f (sym t ∙ h)),
+        asks-length out at (end - at),
+        k .down,
+      )
 
   -- A move that fires keeps the invariant.
   pub back-add : {m : Move} {i : ℕ} {r : Bool} {z : List Bool} {out′ : List ℕ} → 160 ≤ end → i < ms .count → r ≡ backsIn (moveAt ms i) T x y → r ≡ true
@@ -120,7 +127,12 @@ module _ {ms : Moves} {p : ℕ} {T bad x y : List Bool} {end : ℕ} {out₀ out 
     size = k .size;
     down = k .down;
     stands = k .stands;
-    few = omega (arith, deletions-count (world-lawful T ms ms p) (direct y) (asks out at (end - at)) (k .back .brings .runs), asks-length out at (end - at), count-le (direct y) 160);
+    few = omega (
+      arith,
+      deletions-count (world-lawful T ms ms p) (direct y) (asks out at (end - at)) (k .back .brings .runs),
+      asks-length out at (end - at),
+      count-le (direct y) 160,
+    );
     back = k .back;
     closed = record {
       good = λ f u e. k .back .from f (rw (u, e));

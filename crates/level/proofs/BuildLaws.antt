@@ -29,7 +29,8 @@ pub blank-first : (T : List Bool) {x : List Bool} → length x ≡ 320 → Blank
 blank-first T e = record { size = e; fits = omega arith; low = λ k l. absurd (omega arith); high = λ k l. absurd (omega arith) }
 
 -- One place more.
-pub blank-more : {T x : List Bool} {i : ℕ} (b : Bool) → BlankSoFar T x i → i < 160 → b ≡ getD T (5120 + i) false → BlankSoFar T (set (set x i false) (160 + i) b) (i + 1)
+pub blank-more : {T x : List Bool} {i : ℕ} (b : Bool) → BlankSoFar T x i → i < 160 → b ≡ getD T (5120 + i) false
+    → BlankSoFar T (set (set x i false) (160 + i) b) (i + 1)
 blank-more {T} {x} {i} b r h e = record {
   size = simp length-set (r .size);
   fits = omega arith;
@@ -37,12 +38,14 @@ blank-more {T} {x} {i} b r h e = record {
       (λ _. getD-set-same x i false false (omega (arith, r .size))) (λ n l′. getD-set-other x i k false false n ∙ r .low k (omega arith)) l;
   high = λ k l. at (λ k. k < i + 1 → getD (set (set x i false) (160 + i) b) (160 + k) false ≡ getD T (5120 + k) false) i k
       (λ _. getD-set-same (set x i false) (160 + i) b false (simp length-set (omega (arith, r .size))) ∙ e)
-      (λ n l′. getD-set-other (set x i false) (160 + i) (160 + k) b false (omega arith) ∙ getD-set-other x i (160 + k) false false (omega arith) ∙ r .high k (omega arith)) l;
+      (λ n l′. getD-set-other (set x i false) (160 + i) (160 + k) b false (omega arith) ∙ getD-set-other x i (160 + k) false false (omega arith)
+      ∙ r .high k (omega arith)) l;
 }
 
 visible-none : (T : List Bool) (S : State) (k : ℕ) → ((f : ℕ) → S f ≡ false) → visible T S k ≡ cond (ltb k 160) false (row T 32 (k - 160))
 unfolding visible inherited
-visible-none T S k h = rw (h k, h (k - 160), any-false (λ c. S (128 + c) && row T c (k - 160)) 32 (λ c l. rw (h (128 + c)))) (go (ltb k 160) (row T 32 (k - 160)))
+visible-none T S k h =
+    rw (h k, h (k - 160), any-false (λ c. S (128 + c) && row T c (k - 160)) 32 (λ c l. rw (h (128 + c)))) (go (ltb k 160) (row T 32 (k - 160)))
   where
     go : (b r : Bool) → cond b false (r || false) ≡ cond b false r
     go true r = refl
@@ -62,7 +65,9 @@ blank-all {T} {x} {i} r h e = record { whole = record { size = r .size; rows = e
 
     shows : (k : ℕ) → k < 320 → getD x k false ≡ visible T (direct x) k
     shows k l = sym (visible-none T (direct x) k none ∙ dite (decLt k 160) (λ (m : k < 160). rw (lt-ltb k 160 m) (sym (r .low k (omega arith))))
-        (λ (m : k < 160 → ⊥). let q : 160 + (k - 160) ≡ k = omega arith in rw (le-ltb k 160 (omega arith)) (row-at T (k - 160) ∙ sym (r .high (k - 160) (omega arith)) ∙ ap (λ j. getD x j false) q)))
+        (λ (m : k < 160 → ⊥).
+        let q : 160 + (k - 160) ≡ k = omega arith in
+        rw (le-ltb k 160 (omega arith)) (row-at T (k - 160) ∙ sym (r .high (k - 160) (omega arith)) ∙ ap (λ j. getD x j false) q)))
 
 -- The direct facts below `f` are put in.
 pub record BuiltSoFar (T d x : List Bool) (f : ℕ) : Type 0 where
@@ -86,7 +91,10 @@ module _ {T d x : List Bool} {f : ℕ} (r : BuiltSoFar T d x f) (h : f < 160) wh
   }
     where
       wider : (g : ℕ) → g ≢ f → ltb g f ≡ ltb g (f + 1)
-      wider g n = by-cases (decLt g f) (λ l. lt-ltb g f l ∙ sym (lt-ltb g (f + 1) (omega arith))) (λ l. le-ltb g f (omega arith) ∙ sym (le-ltb g (f + 1) (omega arith)))
+      wider g n =
+          by-cases (decLt g f)
+          (λ l. lt-ltb g f l ∙ sym (lt-ltb g (f + 1) (omega arith)))
+          (λ l. le-ltb g f (omega arith) ∙ sym (le-ltb g (f + 1) (omega arith)))
 
   -- A fact that `d` lacks is left out.
   pub build-skip : getD d f false ≡ false → BuiltSoFar T d x (f + 1)
@@ -99,11 +107,20 @@ module _ {T d x : List Bool} {f : ℕ} (r : BuiltSoFar T d x f) (h : f < 160) wh
   }
     where
       wider : (g : ℕ) → g ≢ f → ltb g f ≡ ltb g (f + 1)
-      wider g n = by-cases (decLt g f) (λ l. lt-ltb g f l ∙ sym (lt-ltb g (f + 1) (omega arith))) (λ l. le-ltb g f (omega arith) ∙ sym (le-ltb g (f + 1) (omega arith)))
+      wider g n =
+          by-cases (decLt g f)
+          (λ l. lt-ltb g f l ∙ sym (lt-ltb g (f + 1) (omega arith)))
+          (λ l. le-ltb g f (omega arith) ∙ sym (le-ltb g (f + 1) (omega arith)))
 
 -- After the last fact.
 pub build-all : {T d x : List Bool} {f : ℕ} → BuiltSoFar T d x f → 160 ≤ f → Built T d x
-build-all {T} {d} {x} {f} r h = record { whole = r .whole; same = fun-ext λ g. r .so-far g ∙ dite (decLt g f) (λ (l : g < f). rw (lt-ltb g f l)) (λ (l : g < f → ⊥). rw (le-ltb g f (omega arith)) (sym (direct-high d g (omega arith)))) }
+build-all {T} {d} {x} {f} r h =
+    record {
+      whole = r .whole;
+      same = fun-ext λ g. r .so-far g
+          ∙ dite (decLt g f) (λ (l : g < f). rw (lt-ltb g f l))
+          (λ (l : g < f → ⊥). rw (le-ltb g f (omega arith)) (sym (direct-high d g (omega arith))));
+    }
 
 -- The first `i` places of `d` pass the test `p`.
 pub record SoFar (p : ℕ → Bool) (d : List Bool) (i : ℕ) : Type 0 where
@@ -125,12 +142,19 @@ so-far-more {p} {d} {i} b r h e = record {
 }
 
 -- After the last place the set is the state.
-pub so-far-all : {p : ℕ → Bool} {d : List Bool} {i : ℕ} (S : State) → SoFar p d i → 160 ≤ i → ((k : ℕ) → k < 160 → p k ≡ S k) → ((k : ℕ) → 160 ≤ k → S k ≡ false) → direct d ≡ S
-so-far-all {p} {d} {i} S r h low high = fun-ext λ g. dite (decLt g 160) (λ (l : g < 160). direct-low d g l ∙ r .below g (omega arith) ∙ low g l) (λ (l : g < 160 → ⊥). direct-high d g (omega arith) ∙ sym (high g (omega arith)))
+pub so-far-all : {p : ℕ → Bool} {d : List Bool} {i : ℕ} (S : State) → SoFar p d i → 160 ≤ i → ((k : ℕ) → k < 160 → p k ≡ S k)
+    → ((k : ℕ) → 160 ≤ k → S k ≡ false) → direct d ≡ S
+so-far-all {p} {d} {i} S r h low high =
+    fun-ext λ g. dite (decLt g 160) (λ (l : g < 160). direct-low d g l ∙ r .below g (omega arith) ∙ low g l)
+    (λ (l : g < 160 → ⊥). direct-high d g (omega arith) ∙ sym (high g (omega arith)))
 
 -- After the last place the forbidden facts are left out.
 pub strip-all : {x bad d : List Bool} {i : ℕ} → SoFar (λ k. getD x k false && not (getD bad k false)) d i → 160 ≤ i → Stripped x bad d
-strip-all {x} {bad} r h = record { size = r .size; same = so-far-all (minus (direct x) (direct bad)) r h (λ k l. rw (direct-low x k l, direct-low bad k l)) (λ k l. rw (direct-high x k l)) }
+strip-all {x} {bad} r h =
+    record {
+      size = r .size;
+      same = so-far-all (minus (direct x) (direct bad)) r h (λ k l. rw (direct-low x k l, direct-low bad k l)) (λ k l. rw (direct-high x k l));
+    }
 
 -- After the last place all is copied.
 pub copy-all : {y u : List Bool} {i : ℕ} → SoFar (λ k. getD y k false) u i → 160 ≤ i → Copied y u
@@ -151,7 +175,12 @@ none-first a b = record { fits = omega arith; before = λ f l. absurd (omega ari
 module _ {a b : List Bool} {i : ℕ} (r : NoneSoFar a b i) where
   -- One fact more that is not lacking.
   pub none-more : i < 160 → getD a i false && not (getD b i false) ≡ false → NoneSoFar a b (i + 1)
-  none-more h e = record { fits = omega arith; before = λ f l. at (λ f. f < i + 1 → minus (direct a) (direct b) f ≡ false) i f (λ _. sym (minus-low a b i h) ∙ e) (λ n l′. r .before f (omega arith)) l }
+  none-more h e =
+      record {
+        fits = omega arith;
+        before = λ f l. at (λ f. f < i + 1 → minus (direct a) (direct b) f ≡ false) i f (λ _. sym (minus-low a b i h) ∙ e)
+            (λ n l′. r .before f (omega arith)) l;
+      }
 
   -- The first fact that is lacking.
   pub none-found : i < 160 → getD a i false && not (getD b i false) ≡ true → Lacks a b i

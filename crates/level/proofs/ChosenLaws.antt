@@ -23,7 +23,8 @@ firstMoves k xs = record { count = k; numbers = xs }
 
 module _ {rs : Rules} {one two : ℕ} {roles : ℕ} {n : ℕ} {xs : List ℕ} {i : ℕ} (w : MovesOf rs one two roles (firstMoves n xs) i) (h : i < rs .count) where
   -- A chosen rule gives one move more.
-  pub moves-more : {m : Move} {ys : List ℕ} → chosenIn one two roles (ruleAt rs i) ≡ true → MoveOf (ruleAt rs i) m → MovePut xs n m ys → MovesOf rs one two roles (firstMoves (n + 1) ys) (i + 1)
+  pub moves-more : {m : Move} {ys : List ℕ} → chosenIn one two roles (ruleAt rs i) ≡ true → MoveOf (ruleAt rs i) m → MovePut xs n m ys
+      → MovesOf rs one two roles (firstMoves (n + 1) ys) (i + 1)
   unfolding moveAt
   moves-more {m} {ys} e o p = record {
     fits = omega arith;

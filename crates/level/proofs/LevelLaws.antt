@@ -80,7 +80,8 @@ module _ {W Z : World} {k : ℕ} {R : State} (w : Within W Z k R) where
         whole : (q : Ask) → q .fact / 160 ≡ k → update (onLevel k R y) (q .fact) true ≡ onLevel k R (update y (q .fact % 160) true)
         whole q e = ap (λ g. update (onLevel k R y) g true) (sym (place (q .fact) e)) ∙ on-level-put k R y (q .fact % 160) true (omega arith)
 
-    module _ (S₀ s : State) (here : (f : ℕ) → S₀ (160 * k + f % 160) ≡ true → s (f % 160) ≡ true) (there : (g : ℕ) → g / 160 ≢ k → S₀ g ≡ true → R g ≡ true) where
+    module _ (S₀ s : State) (here : (f : ℕ) → S₀ (160 * k + f % 160) ≡ true → s (f % 160) ≡ true)
+        (there : (g : ℕ) → g / 160 ≢ k → S₀ g ≡ true → R g ≡ true) where
       starts : (x : State) → s ⊆ x → S₀ ⊆ onLevel k R x
       starts x le g h = by-cases (ℕ-discrete (g / 160) k)
           (λ e. on-level-in k R x g e ∙ le (g % 160) (here g (ap S₀ (place g e) ∙ h)))

@@ -32,7 +32,8 @@ module _ {m : Move} (fine : Fine m) where
   place-drop j h = drop-cons (placesOf m) j 0 (omega (arith, places-length)) ∙ rw (place-at j h, add-one)
 
 -- A test of flags is one of the direct facts.
-pub move-shown-flags : (T : List Bool) (S : State) {m : Move} (p : ℕ → Bool) → Fine m → ((k : ℕ) → k < 320 → p k ≡ visible T S k) → all p (placesOf m) ≡ moveShown T S m
+pub move-shown-flags : (T : List Bool) (S : State) {m : Move} (p : ℕ → Bool) → Fine m → ((k : ℕ) → k < 320 → p k ≡ visible T S k)
+    → all p (placesOf m) ≡ moveShown T S m
 unfolding moveShown
 move-shown-flags T S {m} p fine h = all-same-at p (visible T S) 0 (placesOf m)
     (λ j l. h (getD (placesOf m) j 0) (rw (place-at fine j (omega (arith, places-length fine))) (fine .places j)))
@@ -149,7 +150,8 @@ eight (a ∷ b ∷ c ∷ d ∷ f ∷ g ∷ h ∷ i ∷ j ∷ xs) e = absurd (ome
 
 -- The numbers of a move.
 pub numbers-made : {m : Move} → Fine m
-    → Numbers m (m .fact ∷ m .n ∷ m .op ∷ m .role ∷ m .a ∷ m .v ∷ getD (m .terms) 0 0 ∷ getD (m .terms) 1 0 ∷ getD (m .terms) 2 0 ∷ getD (m .terms) 3 0 ∷ getD (m .terms) 4 0
+    → Numbers m (m .fact ∷ m .n ∷ m .op ∷ m .role ∷ m .a ∷ m .v ∷ getD (m .terms) 0 0 ∷ getD (m .terms) 1 0 ∷ getD (m .terms) 2 0
+    ∷ getD (m .terms) 3 0 ∷ getD (m .terms) 4 0
     ∷ getD (m .terms) 5 0 ∷ getD (m .terms) 6 0 ∷ getD (m .terms) 7 0 ∷ [])
 unfolding moveFrom
 numbers-made {m} fine = record { size = refl; same = rw (eight (m .terms) (fine .size)) refl }

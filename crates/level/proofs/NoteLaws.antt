@@ -49,33 +49,73 @@ abbrev pub fives : List ℕ → ℕ → ℕ → ℕ → ℕ → ℕ → ℕ → 
 fives out at o r s a v = set (set (set (set (set out at o) (at + 1) r) (at + 2) s) (at + 3) a) (at + 4) v
 
 module _ (out : List ℕ) (at o r s a v : ℕ) (room : at + 5 ≤ length out) where
+  -- The buffer after each of the first four bytes.
+  abbrev with-op : List ℕ
+  with-op = set out at o
+
+  abbrev with-role : List ℕ
+  with-role = set with-op (at + 1) r
+
+  abbrev with-subject : List ℕ
+  with-subject = set with-role (at + 2) s
+
+  abbrev with-a : List ℕ
+  with-a = set with-subject (at + 3) a
+
   at-0 : getD (fives out at o r s a v) at 0 ≡ o
-  at-0 = getD-set-other (set (set (set (set out at o) (at + 1) r) (at + 2) s) (at + 3) a) (at + 4) at v 0 (omega arith) ∙ getD-set-other (set (set (set out at o) (at + 1) r) (at + 2) s) (at + 3) at a 0 (omega arith) ∙ getD-set-other (set (set out at o) (at + 1) r) (at + 2) at s 0 (omega arith) ∙ getD-set-other (set out at o) (at + 1) at r 0 (omega arith) ∙ getD-set-same out at o 0 (omega arith)
+  at-0 =
+      getD-set-other with-a (at + 4) at v 0 (omega arith)
+      ∙ getD-set-other with-subject (at + 3) at a 0 (omega arith)
+      ∙ getD-set-other with-role (at + 2) at s 0 (omega arith)
+      ∙ getD-set-other with-op (at + 1) at r 0 (omega arith)
+      ∙ getD-set-same out at o 0 (omega arith)
 
   at-1 : getD (fives out at o r s a v) (at + 1) 0 ≡ r
-  at-1 = getD-set-other (set (set (set (set out at o) (at + 1) r) (at + 2) s) (at + 3) a) (at + 4) (at + 1) v 0 (omega arith) ∙ getD-set-other (set (set (set out at o) (at + 1) r) (at + 2) s) (at + 3) (at + 1) a 0 (omega arith) ∙ getD-set-other (set (set out at o) (at + 1) r) (at + 2) (at + 1) s 0 (omega arith) ∙ getD-set-same (set out at o) (at + 1) r 0 (simp length-set (omega arith))
+  at-1 =
+      getD-set-other with-a (at + 4) (at + 1) v 0 (omega arith)
+      ∙ getD-set-other with-subject (at + 3) (at + 1) a 0 (omega arith)
+      ∙ getD-set-other with-role (at + 2) (at + 1) s 0 (omega arith)
+      ∙ getD-set-same with-op (at + 1) r 0 (simp length-set (omega arith))
 
   at-2 : getD (fives out at o r s a v) (at + 2) 0 ≡ s
-  at-2 = getD-set-other (set (set (set (set out at o) (at + 1) r) (at + 2) s) (at + 3) a) (at + 4) (at + 2) v 0 (omega arith) ∙ getD-set-other (set (set (set out at o) (at + 1) r) (at + 2) s) (at + 3) (at + 2) a 0 (omega arith) ∙ getD-set-same (set (set out at o) (at + 1) r) (at + 2) s 0 (simp length-set (omega arith))
+  at-2 =
+      getD-set-other with-a (at + 4) (at + 2) v 0 (omega arith)
+      ∙ getD-set-other with-subject (at + 3) (at + 2) a 0 (omega arith)
+      ∙ getD-set-same with-role (at + 2) s 0 (simp length-set (omega arith))
 
   at-3 : getD (fives out at o r s a v) (at + 3) 0 ≡ a
-  at-3 = getD-set-other (set (set (set (set out at o) (at + 1) r) (at + 2) s) (at + 3) a) (at + 4) (at + 3) v 0 (omega arith) ∙ getD-set-same (set (set (set out at o) (at + 1) r) (at + 2) s) (at + 3) a 0 (simp length-set (omega arith))
+  at-3 =
+      getD-set-other with-a (at + 4) (at + 3) v 0 (omega arith)
+      ∙ getD-set-same with-subject (at + 3) a 0 (simp length-set (omega arith))
 
   at-4 : getD (fives out at o r s a v) (at + 4) 0 ≡ v
-  at-4 = getD-set-same (set (set (set (set out at o) (at + 1) r) (at + 2) s) (at + 3) a) (at + 4) v 0 (simp length-set (omega arith))
+  at-4 = getD-set-same with-a (at + 4) v 0 (simp length-set (omega arith))
 
   at-other : (j : ℕ) → (j < at) ⊎ (at + 5 ≤ j) → getD (fives out at o r s a v) j 0 ≡ getD out j 0
-  at-other j h = getD-set-other (set (set (set (set out at o) (at + 1) r) (at + 2) s) (at + 3) a) (at + 4) j v 0 (apart 4 (omega arith)) ∙ getD-set-other (set (set (set out at o) (at + 1) r) (at + 2) s) (at + 3) j a 0 (apart 3 (omega arith)) ∙ getD-set-other (set (set out at o) (at + 1) r) (at + 2) j s 0 (apart 2 (omega arith)) ∙ getD-set-other (set out at o) (at + 1) j r 0 (apart 1 (omega arith)) ∙ getD-set-other out at j o 0 (λ e. apart 0 (omega arith) (omega arith))
+  at-other j h =
+      getD-set-other with-a (at + 4) j v 0 (apart 4 (omega arith))
+      ∙ getD-set-other with-subject (at + 3) j a 0 (apart 3 (omega arith))
+      ∙ getD-set-other with-role (at + 2) j s 0 (apart 2 (omega arith))
+      ∙ getD-set-other with-op (at + 1) j r 0 (apart 1 (omega arith))
+      ∙ getD-set-other out at j o 0 (λ e. apart 0 (omega arith) (omega arith))
     where
       apart : (i : ℕ) → i < 5 → j ≢ at + i
       apart i l e = ⊎-elim (λ (x : j < at). omega arith) (λ (x : at + 5 ≤ j). omega arith) h
 
 -- Five bytes write a request and leave the others.
-pub noted : (out : List ℕ) (k p : ℕ) (m : Move) → Fine m → 5 * k + 5 ≤ length out → Noted out k (askOf p m) (fives out (5 * k) (m .op) (m .role) p (m .a) (m .v))
+pub noted : (out : List ℕ) (k p : ℕ) (m : Move) → Fine m → 5 * k + 5 ≤ length out
+    → Noted out k (askOf p m) (fives out (5 * k) (m .op) (m .role) p (m .a) (m .v))
 unfolding askAt
 noted out k p m fine room = record {
   size = simp length-set refl;
-  here = rw (at-0 out (5 * k) (m .op) (m .role) p (m .a) (m .v) room, at-1 out (5 * k) (m .op) (m .role) p (m .a) (m .v) room, at-2 out (5 * k) (m .op) (m .role) p (m .a) (m .v) room, at-3 out (5 * k) (m .op) (m .role) p (m .a) (m .v) room, at-4 out (5 * k) (m .op) (m .role) p (m .a) (m .v) room, fine .aim) refl;
+  here = rw (
+    at-0 out (5 * k) (m .op) (m .role) p (m .a) (m .v) room,
+    at-1 out (5 * k) (m .op) (m .role) p (m .a) (m .v) room,
+    at-2 out (5 * k) (m .op) (m .role) p (m .a) (m .v) room,
+    at-3 out (5 * k) (m .op) (m .role) p (m .a) (m .v) room,
+    at-4 out (5 * k) (m .op) (m .role) p (m .a) (m .v) room,
+    fine .aim,
+  ) refl;
   there = λ j n. rw (o₀ j n, o j n 1 (omega arith), o j n 2 (omega arith), o j n 3 (omega arith), o j n 4 (omega arith)) refl;
 }
   where

@@ -90,7 +90,8 @@ module _ (z : Sizes) (sized : InRange z) where
       }
 
   -- The rules of an accepted book are good.
-  pub rules-good : (rs : Rules) → rs .count ≤ 512 → length (rs .rules) ≡ 512 → Each (λ r. ruleFits z r ≡ true) (listed rs) → Each Short (listed rs) → GoodRules rs
+  pub rules-good : (rs : Rules) → rs .count ≤ 512 → length (rs .rules) ≡ 512 → Each (λ r. ruleFits z r ≡ true) (listed rs) → Each Short (listed rs)
+      → GoodRules rs
   unfolding listed ruleAt
   rules-good rs few room fit short =
       record {

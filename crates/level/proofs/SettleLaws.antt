@@ -25,19 +25,33 @@ use Rattle.level.proofs.BuildLaws.{not-lacking}
 use Rattle.level.specs.Inner.Settle.{Result, Rounded, Rounds, Settled, Lengths, Stuck, again, none-yet}
 
 -- Flags built from the start are ready for the additions.
-pub ready : {T bad s u x₀ x y d : List Bool} {start : ℕ} {up : List ℕ} {end : ℕ} {down : List ℕ} → Lengths T bad s u x₀ y d start up end down → Built T s x → direct s ⊆ direct u → Ready T u x (length up) start
+pub ready : {T bad s u x₀ x y d : List Bool} {start : ℕ} {up : List ℕ} {end : ℕ} {down : List ℕ} → Lengths T bad s u x₀ y d start up end down
+    → Built T s x → direct s ⊆ direct u → Ready T u x (length up) start
 ready {s = s} {u = u} z b le = record { whole = b .whole; length-allowed = z .size-u; within = rw (b .same) le; room = z .room-up }
 
 -- Flags without the forbidden facts are ready for the deletions.
-pub ready-back : {T bad s u x₀ y₀ d₀ x y d : List Bool} {start : ℕ} {up : List ℕ} {end : ℕ} {down : List ℕ} → Lengths T bad s u x₀ y₀ d₀ start up end down → Whole T x → Stripped x bad d → Built T d y → ReadyBack T bad x y (length down) end
+pub ready-back : {T bad s u x₀ y₀ d₀ x y d : List Bool} {start : ℕ} {up : List ℕ} {end : ℕ} {down : List ℕ}
+    → Lengths T bad s u x₀ y₀ d₀ start up end down → Whole T x → Stripped x bad d → Built T d y → ReadyBack T bad x y (length down) end
 ready-back z w st b = record { whole = b .whole; length-x = w .size; starts = b .same ∙ st .same; below = z .below; room = z .room-down }
 
 -- What the two sweeps leave is a round.
 pub rounded : {adds dels : Moves} {p : ℕ} {T bad s u x₀ y₀ d₀ x₁ x d y : List Bool} {start : ℕ} {up₀ up : List ℕ} {n end : ℕ} {down₀ down : List ℕ} {at : ℕ}
-    → Lengths T bad s u x₀ y₀ d₀ start up₀ end down₀ → Built T s x₁ → Closed adds p T u x₁ x start up₀ up n → Stripped x bad d → ClosedBack dels p T bad x y end down₀ down at
+    → Lengths T bad s u x₀ y₀ d₀ start up₀ end down₀ → Built T s x₁ → Closed adds p T u x₁ x start up₀ up n → Stripped x bad d
+    → ClosedBack dels p T bad x y end down₀ down at
     → Rounded adds dels p T bad s u x y d start up₀ up n end down₀ down at
 rounded {adds} {dels} {p} {T} {bad} {s} {u} {x = x} {start = start} {up = up} {n = n} z b c st k = record {
-  sizes = record { rows = z .rows; size-bad = z .size-bad; size-s = z .size-s; size-u = z .size-u; size-x = c .whole .size; size-y = k .whole .size; size-d = st .size; room-up = rw (c .size) (z .room-up); below = z .below; room-down = rw (k .size) (z .room-down) };
+  sizes = record {
+    rows = z .rows;
+    size-bad = z .size-bad;
+    size-s = z .size-s;
+    size-u = z .size-u;
+    size-x = c .whole .size;
+    size-y = k .whole .size;
+    size-d = st .size;
+    room-up = rw (c .size) (z .room-up);
+    below = z .below;
+    room-down = rw (k .size) (z .room-down);
+  };
   length-up = c .size;
   length-down = k .size;
   whole = c .whole;
@@ -63,10 +77,20 @@ pub record Going (adds dels : Moves) (p : ℕ) (T bad s u₀ u x y d : List Bool
   pub stands-down : (k : ℕ) → end ≤ k → askAt down k ≡ askAt down₀ k
 
 -- Before the first round.
-pub going-first : (adds dels : Moves) (p : ℕ) {T bad s u x y d : List Bool} {start : ℕ} {up : List ℕ} {end : ℕ} {down : List ℕ} → Lengths T bad s u x y d start up end down → direct s ⊆ direct u → Going adds dels p T bad s u u x y d start up up end down down
-going-first adds dels p z le = record { sizes = z; length-up = refl; length-down = refl; within = le; rounds = none-yet; stands-up = λ k l. refl; stands-down = λ k l. refl }
+pub going-first : (adds dels : Moves) (p : ℕ) {T bad s u x y d : List Bool} {start : ℕ} {up : List ℕ} {end : ℕ} {down : List ℕ}
+    → Lengths T bad s u x y d start up end down → direct s ⊆ direct u → Going adds dels p T bad s u u x y d start up up end down down
+going-first adds dels p z le = record {
+  sizes = z;
+  length-up = refl;
+  length-down = refl;
+  within = le;
+  rounds = none-yet;
+  stands-up = λ k l. refl;
+  stands-down = λ k l. refl;
+}
 
-module _ {adds dels : Moves} {p : ℕ} {T bad s u₀ u x₀ y₀ d₀ x y d : List Bool} {start : ℕ} {up₀ up₁ up : List ℕ} {n end : ℕ} {down₀ down₁ down : List ℕ} {at : ℕ}
+module _ {adds dels : Moves} {p : ℕ} {T bad s u₀ u x₀ y₀ d₀ x y d : List Bool} {start : ℕ} {up₀ up₁ up : List ℕ} {n end : ℕ}
+    {down₀ down₁ down : List ℕ} {at : ℕ}
     (g : Going adds dels p T bad s u₀ u x₀ y₀ d₀ start up₀ up₁ end down₀ down₁) (r : Rounded adds dels p T bad s u x y d start up₁ up n end down₁ down at) where
   W : World
   W = world T adds dels p
@@ -93,12 +117,29 @@ module _ {adds dels : Moves} {p : ℕ} {T bad s u₀ u x₀ y₀ d₀ x y d : Li
 
   -- A round after which a starting fact is lacking.
   pub stuck : {i : ℕ} → Lacks s y i → i < 160 → Stuck adds dels p T bad s u₀
-  stuck {i} w l = record { bound = direct y; fact = i; rounds = next; held = minus-in (direct s) (direct y) i (w .here l); missing = minus-clear (direct s) (direct y) i (w .here l) }
+  stuck {i} w l = record {
+    bound = direct y;
+    fact = i;
+    rounds = next;
+    held = minus-in (direct s) (direct y) i (w .here l);
+    missing = minus-clear (direct s) (direct y) i (w .here l);
+  }
 
   -- Any other round goes on with less allowed.
   pub go-on : {i : ℕ} {v : List Bool} → Lacks s y i → 160 ≤ i → Copied y v → Going adds dels p T bad s u₀ v x y d start up₀ up end down₀ down
   go-on {i} {v} w l k = record {
-    sizes = record { rows = r .sizes .rows; size-bad = r .sizes .size-bad; size-s = r .sizes .size-s; size-u = k .size; size-x = r .sizes .size-x; size-y = r .sizes .size-y; size-d = r .sizes .size-d; room-up = r .sizes .room-up; below = r .sizes .below; room-down = r .sizes .room-down };
+    sizes = record {
+      rows = r .sizes .rows;
+      size-bad = r .sizes .size-bad;
+      size-s = r .sizes .size-s;
+      size-u = k .size;
+      size-x = r .sizes .size-x;
+      size-y = r .sizes .size-y;
+      size-d = r .sizes .size-d;
+      room-up = r .sizes .room-up;
+      below = r .sizes .below;
+      room-down = r .sizes .room-down;
+    };
     length-up = r .length-up ∙ g .length-up;
     length-down = r .length-down ∙ g .length-down;
     within = rw (k .same) (λ f h. not-lacking w f (omega (arith, direct-in s f h)) h);
@@ -111,7 +152,9 @@ module _ {adds dels : Moves} {p : ℕ} {T bad s u₀ u x₀ y₀ d₀ x y d : Li
   pub smaller : {i : ℕ} {v : List Bool} → Lacks x y i → i ≢ 160 → Copied y v → countBelow (direct v) 160 < countBelow (direct u) 160
   smaller {i} w h k =
       let l : i < 160 = omega (arith, w .fits) in
-      rw (k .same) (omega (arith, count-less (r .back .within) l (minus-in (direct x) (direct y) i (w .here l)) (minus-clear (direct x) (direct y) i (w .here l)), count-mono (r .added .within) 160))
+      let in-x : direct x i ≡ true = minus-in (direct x) (direct y) i (w .here l) in
+      let not-in-y : direct y i ≡ false = minus-clear (direct x) (direct y) i (w .here l) in
+      rw (k .same) (omega (arith, count-less (r .back .within) l in-x not-in-y, count-mono (r .added .within) 160))
 
 module _ {W : World} {bad s u₀ : State} (J : State → Type 0) (keeps : (u x y : State) → J u → s ⊆ x → AddClosed W u x → BackClosed W bad x y → J y) where
   -- Any claim that a round keeps holds of what the rounds come to.

@@ -42,7 +42,9 @@ or-swap false true false d = refl
 or-swap false false c d = refl
 
 put-or : (S : State) (f g : ℕ) → update S f true g ≡ S g || eqb g f
-put-or S f g = at (λ g. update S f true g ≡ S g || eqb g f) f g (update-same S f true ∙ sym (rw (eq-eqb f f refl) (or-true (S f)))) (λ n. update-other S f true n ∙ sym (rw (ne-eqb g f n) (or-false (S g))))
+put-or S f g =
+    at (λ g. update S f true g ≡ S g || eqb g f) f g (update-same S f true ∙ sym (rw (eq-eqb f f refl) (or-true (S f))))
+    (λ n. update-other S f true n ∙ sym (rw (ne-eqb g f n) (or-false (S g))))
   where
     or-true : (b : Bool) → b || true ≡ true
     or-true true = refl
@@ -53,7 +55,8 @@ put-or S f g = at (λ g. update S f true g ≡ S g || eqb g f) f g (update-same 
     or-false false = refl
 
 -- Putting a membership in adds that crew's row.
-any-put : (S : State) (f : ℕ) (r : ℕ → Bool) (n : ℕ) → anyBelow (λ c. update S f true (128 + c) && r c) n ≡ anyBelow (λ c. S (128 + c) && r c) n || (not (ltb f 128) && (ltb (f - 128) n && r (f - 128)))
+any-put : (S : State) (f : ℕ) (r : ℕ → Bool) (n : ℕ)
+    → anyBelow (λ c. update S f true (128 + c) && r c) n ≡ anyBelow (λ c. S (128 + c) && r c) n || (not (ltb f 128) && (ltb (f - 128) n && r (f - 128)))
 unfolding anyBelow
 any-put S f r zero = let z : ltb (f - 128) 0 ≡ false = le-ltb (f - 128) 0 (omega arith) in rw z (go (ltb f 128))
   where
@@ -73,7 +76,8 @@ any-put S f r (suc n) =
     let h : update S f true (128 + n) ≡ S (128 + n) = update-other S f true e in
     rw (any-put S f r n, h)
     (by-cases (decLt f 128) (λ l. rw (lt-ltb f 128 l) (there (anyBelow (λ c. S (128 + c) && r c) n) (S (128 + n) && r n) false))
-    (λ l. rw (same f n (omega arith)) (there (anyBelow (λ c. S (128 + c) && r c) n) (S (128 + n) && r n) (not (ltb f 128) && (ltb (f - 128) n && r (f - 128)))))))
+    (λ l. rw (same f n (omega arith)) (there (anyBelow (λ c. S (128 + c) && r c) n) (S (128 + n) && r n)
+    (not (ltb f 128) && (ltb (f - 128) n && r (f - 128)))))))
   where
     here : (a s b : Bool) → (a || false) || b ≡ (a || (s && b)) || b
     here true s b = refl
@@ -89,7 +93,9 @@ any-put S f r (suc n) =
     there false false false = refl
 
     same : (f n : ℕ) → f - 128 ≢ n → ltb (f - 128) (suc n) ≡ ltb (f - 128) n
-    same f n e = by-cases (decLt (f - 128) n) (λ l. lt-ltb (f - 128) (suc n) (omega arith) ∙ sym (lt-ltb (f - 128) n l)) (λ l. le-ltb (f - 128) (suc n) (omega arith) ∙ sym (le-ltb (f - 128) n (omega arith)))
+    same f n e =
+        by-cases (decLt (f - 128) n) (λ l. lt-ltb (f - 128) (suc n) (omega arith) ∙ sym (lt-ltb (f - 128) n l))
+        (λ l. le-ltb (f - 128) (suc n) (omega arith) ∙ sym (le-ltb (f - 128) n (omega arith)))
 
 -- What is shown once `f` is put in: what was shown, and what `f` adds.
 pub visible-put : (T : List Bool) (S : State) (f k : ℕ) → f < 160 → visible T (update S f true) k ≡ visible T S k || touches T f k
@@ -113,16 +119,23 @@ visible-put T S f k h = go (ltb k 160)
         or-true2 false = refl
     mix false false false p q = refl
 
-    go : (b : Bool) → cond b (update S f true k) (update S f true (k - 160) || (row T 32 (k - 160) || anyBelow (λ c. update S f true (128 + c) && row T c (k - 160)) 32))
-        ≡ cond b (S k) (S (k - 160) || (row T 32 (k - 160) || anyBelow (λ c. S (128 + c) && row T c (k - 160)) 32)) || cond b (eqb k f) (eqb (k - 160) f || (not (ltb f 128) && row T (f - 128) (k - 160)))
+    go : (b : Bool)
+        → cond b (update S f true k)
+        (update S f true (k - 160) || (row T 32 (k - 160) || anyBelow (λ c. update S f true (128 + c) && row T c (k - 160)) 32))
+        ≡ cond b (S k) (S (k - 160) || (row T 32 (k - 160) || anyBelow (λ c. S (128 + c) && row T c (k - 160)) 32))
+        || cond b (eqb k f) (eqb (k - 160) f || (not (ltb f 128) && row T (f - 128) (k - 160)))
     go true = put-or S f k
-    go false = rw (put-or S f (k - 160), any-put S f (λ c. row T c (k - 160)) 32, few) (mix (S (k - 160)) (eqb (k - 160) f) (row T 32 (k - 160)) (anyBelow (λ c. S (128 + c) && row T c (k - 160)) 32) (not (ltb f 128) && row T (f - 128) (k - 160)))
+    go false =
+        rw (put-or S f (k - 160), any-put S f (λ c. row T c (k - 160)) 32, few)
+        (mix (S (k - 160)) (eqb (k - 160) f) (row T 32 (k - 160)) (anyBelow (λ c. S (128 + c) && row T c (k - 160)) 32)
+        (not (ltb f 128) && row T (f - 128) (k - 160)))
 
 -- With `f` put in, `f` is a direct fact more.
 pub put-direct : {T x z : List Bool} {f : ℕ} → Put T x f z → f < 160 → direct z ≡ update (direct x) f true
 unfolding touches
 put-direct {T} {x} {z} {f} p h = fun-ext λ g. dite (decLt g 160)
-    (λ (l : g < 160). direct-low z g l ∙ p .flags g (omega arith) ∙ rw (lt-ltb g 160 l) (ap (λ b. b || eqb g f) (sym (direct-low x g l)) ∙ sym (put-or (direct x) f g)))
+    (λ (l : g < 160). direct-low z g l ∙ p .flags g (omega arith)
+    ∙ rw (lt-ltb g 160 l) (ap (λ b. b || eqb g f) (sym (direct-low x g l)) ∙ sym (put-or (direct x) f g)))
     (λ (l : g < 160 → ⊥). direct-high z g (omega arith) ∙ sym (update-other (direct x) f true (λ e. l (omega arith)) ∙ direct-high x g (omega arith)))
 
 -- Flags with a fact put in are whole again.
@@ -130,7 +143,8 @@ pub put-whole : {T x z : List Bool} {f : ℕ} → Whole T x → Put T x f z → 
 put-whole {T} {x} {z} {f} w p h = record {
   size = p .size ∙ w .size;
   rows = w .rows;
-  shows = λ k l. p .flags k l ∙ ap (λ b. b || touches T f k) (w .shows k l) ∙ sym (visible-put T (direct x) f k h) ∙ ap (λ S. visible T S k) (sym (put-direct p h));
+  shows = λ k l. p .flags k l ∙ ap (λ b. b || touches T f k) (w .shows k l) ∙ sym (visible-put T (direct x) f k h)
+      ∙ ap (λ S. visible T S k) (sym (put-direct p h));
 }
 
 -- The four cases of `touches`.
@@ -169,16 +183,25 @@ or-no false = refl
 -- Before the first flag of a row.
 pub row-none : (T : List Bool) (c : ℕ) (x : List Bool) → RowSoFar T c x x 0
 unfolding rowFlags
-row-none T c x = record { size = refl; fits = omega arith; done = λ k l. let h : k < 160 = omega arith in rw (lt-ltb k 160 h) (or-no (getD x k false)); rest = λ k l. refl }
+row-none T c x =
+    record {
+      size = refl;
+      fits = omega arith;
+      done = λ k l. let h : k < 160 = omega arith in rw (lt-ltb k 160 h) (or-no (getD x k false));
+      rest = λ k l. refl;
+    }
 
 -- One flag of a row more.
-pub row-more : {T : List Bool} {c : ℕ} {x z : List Bool} {i : ℕ} (b : Bool) → RowSoFar T c x z i → i < 160 → length x ≡ 320 → b ≡ getD z (160 + i) false || getD T (160 * c + i) false → RowSoFar T c x (set z (160 + i) b) (i + 1)
+pub row-more : {T : List Bool} {c : ℕ} {x z : List Bool} {i : ℕ} (b : Bool) → RowSoFar T c x z i → i < 160 → length x ≡ 320
+    → b ≡ getD z (160 + i) false || getD T (160 * c + i) false → RowSoFar T c x (set z (160 + i) b) (i + 1)
 unfolding rowFlags row
 row-more {T} {c} {x} {z} {i} b r h s e = record {
   size = rw length-set (r .size);
   fits = omega arith;
-  done = λ k l. at (λ k. k < 160 + (i + 1) → getD (set z (160 + i) b) k false ≡ getD x k false || (not (ltb k 160) && getD T (160 * c + (k - 160)) false)) (160 + i) k
-      (λ _. getD-set-same z (160 + i) b false (omega (arith, r .size)) ∙ e ∙ rw (r .rest (160 + i) (omega arith), le-ltb (160 + i) 160 (omega arith), (shift i)))
+  done = λ k l. at (λ k. k < 160 + (i + 1) → getD (set z (160 + i) b) k false
+      ≡ getD x k false || (not (ltb k 160) && getD T (160 * c + (k - 160)) false)) (160 + i) k
+      (λ _. getD-set-same z (160 + i) b false (omega (arith, r .size)) ∙ e
+      ∙ rw (r .rest (160 + i) (omega arith), le-ltb (160 + i) 160 (omega arith), (shift i)))
       (λ n l′. getD-set-other z (160 + i) k b false n ∙ r .done k (omega arith)) l;
   rest = λ k l. getD-set-other z (160 + i) k b false (omega arith) ∙ r .rest k (omega arith);
 }
@@ -191,10 +214,13 @@ pub row-all : {T : List Bool} {c : ℕ} {x z : List Bool} {i : ℕ} → RowSoFar
 row-all r h = record { size = r .size; flags = λ k l. r .done k (omega arith) }
 
 -- Two flags set: the fact itself, and that it is effective.
-set-two : (x : List Bool) (f k : ℕ) → f < 160 → length x ≡ 320 → getD (set (set x f true) (160 + f) true) k false ≡ getD x k false || (eqb k f || eqb k (160 + f))
+set-two : (x : List Bool) (f k : ℕ) → f < 160 → length x ≡ 320
+    → getD (set (set x f true) (160 + f) true) k false ≡ getD x k false || (eqb k f || eqb k (160 + f))
 set-two x f k h s = at (λ k. getD (set (set x f true) (160 + f) true) k false ≡ getD x k false || (eqb k f || eqb k (160 + f))) (160 + f) k
-    (getD-set-same (set x f true) (160 + f) true false (rw length-set (omega arith)) ∙ sym (rw (eq-eqb (160 + f) (160 + f) refl) (or-tt (getD x (160 + f) false) (eqb (160 + f) f))))
-    (λ n. getD-set-other (set x f true) (160 + f) k true false n ∙ at (λ k. k ≢ 160 + f → getD (set x f true) k false ≡ getD x k false || (eqb k f || eqb k (160 + f))) f k
+    (getD-set-same (set x f true) (160 + f) true false (rw length-set (omega arith))
+    ∙ sym (rw (eq-eqb (160 + f) (160 + f) refl) (or-tt (getD x (160 + f) false) (eqb (160 + f) f))))
+    (λ n. getD-set-other (set x f true) (160 + f) k true false n
+    ∙ at (λ k. k ≢ 160 + f → getD (set x f true) k false ≡ getD x k false || (eqb k f || eqb k (160 + f))) f k
     (λ _. getD-set-same x f true false (omega arith) ∙ sym (rw (eq-eqb f f refl) (or-tf (getD x f false) (eqb f (160 + f)))))
     (λ n′ n. getD-set-other x f k true false n′ ∙ rw (ne-eqb k f n′, ne-eqb k (160 + f) n) (or-no (getD x k false))) n)
   where
@@ -225,15 +251,22 @@ touch-three T f k h h′ l = dite (decLt k 160)
     (λ (m : k < 160). rw (ne-eqb k (160 + f) (omega arith), ← touch-direct T f k m, lt-ltb k 160 m) (sym (or-no (eqb k f || false)) ∙ sym (or-no (eqb k f))))
     (λ (m : k < 160 → ⊥). dite (ℕ-discrete k (160 + f))
     (λ (e : k ≡ 160 + f). rw (eq-eqb k (160 + f) e, ne-eqb k f (omega arith)) (touch-own T f k (omega arith) (omega arith)))
-    (λ (e : k ≡ 160 + f → ⊥). rw (ne-eqb k (160 + f) e, ne-eqb k f (omega arith), le-ltb k 160 (omega arith)) (rowed T f k ∙ touch-row T f k (omega arith) (λ q. e (omega arith)) h)))
+    (λ (e : k ≡ 160 + f → ⊥). rw (ne-eqb k (160 + f) e, ne-eqb k f (omega arith), le-ltb k 160 (omega arith))
+    (rowed T f k ∙ touch-row T f k (omega arith) (λ q. e (omega arith)) h)))
 
 -- A value is put in by its two flags.
 pub put-value : (T x : List Bool) (f : ℕ) → f < 128 → length x ≡ 320 → Put T x f (set (set x f true) (160 + f) true)
-put-value T x f h s = record { size = rw (length-set, length-set) refl; flags = λ k l. set-two x f k (omega arith) s ∙ ap (λ b. getD x k false || b) (touch-two T f k h l) }
+put-value T x f h s =
+    record {
+      size = rw (length-set, length-set) refl;
+      flags = λ k l. set-two x f k (omega arith) s ∙ ap (λ b. getD x k false || b) (touch-two T f k h l);
+    }
 
 -- A membership is put in by its two flags and its crew's row.
-pub put-crew : (T x : List Bool) (f : ℕ) {z : List Bool} → 128 ≤ f → f < 160 → length x ≡ 320 → More (set (set x f true) (160 + f) true) (rowFlags T (f - 128)) z → Put T x f z
+pub put-crew : (T x : List Bool) (f : ℕ) {z : List Bool} → 128 ≤ f → f < 160 → length x ≡ 320
+    → More (set (set x f true) (160 + f) true) (rowFlags T (f - 128)) z → Put T x f z
 put-crew T x f {z} h h′ s m = record {
   size = m .size ∙ rw (length-set, length-set) refl;
-  flags = λ k l. m .flags k l ∙ ap (λ b. b || rowFlags T (f - 128) k) (set-two x f k h′ s) ∙ or-assoc-in (getD x k false) (eqb k f || eqb k (160 + f)) (rowFlags T (f - 128) k) ∙ ap (λ b. getD x k false || b) (touch-three T f k h h′ l);
+  flags = λ k l. m .flags k l ∙ ap (λ b. b || rowFlags T (f - 128) k) (set-two x f k h′ s)
+      ∙ or-assoc-in (getD x k false) (eqb k f || eqb k (160 + f)) (rowFlags T (f - 128) k) ∙ ap (λ b. getD x k false || b) (touch-three T f k h h′ l);
 }

@@ -64,11 +64,13 @@ unfolding firesIn
 fires-met m allowed {T} {x} w f e = sym (flags-met w f) ∙ all-three (getD x (m .fact) false) (getD allowed (m .fact) false) (flagsMet m x) e .2
 
 -- A move that does not fire adds nothing that is allowed and lacking.
-pub fires-none : (m : Move) (allowed : List Bool) {T x : List Bool} → Whole T x → Fine m → firesIn m allowed x ≡ false → direct allowed (m .fact) ≡ true → moveShown T (direct x) m ≡ true → direct x (m .fact) ≡ true
+pub fires-none : (m : Move) (allowed : List Bool) {T x : List Bool} → Whole T x → Fine m → firesIn m allowed x ≡ false
+    → direct allowed (m .fact) ≡ true → moveShown T (direct x) m ≡ true → direct x (m .fact) ≡ true
 unfolding firesIn
 fires-none m allowed {T} {x} w f e u h =
     direct-low x (m .fact) (f .fact)
-    ∙ first-of-three (getD x (m .fact) false) (getD allowed (m .fact) false) (flagsMet m x) e (sym (direct-low allowed (m .fact) (f .fact)) ∙ u) (flags-met w f ∙ h)
+    ∙ first-of-three (getD x (m .fact) false) (getD allowed (m .fact) false) (flagsMet m x) e (sym (direct-low allowed (m .fact) (f .fact)) ∙ u)
+    (flags-met w f ∙ h)
 
 -- The invariant before the first move.
 pub kept-first : (ms : Moves) (p : ℕ) {T allowed x : List Bool} {size start : ℕ} (out : List ℕ) → Ready T allowed x size start

@@ -33,16 +33,22 @@ visible-effective T S k = let e : 160 + k - 160 ≡ k = omega arith in rw (le-lt
 pub code-lt : (t : Term) → TermInRange t → codeOf (t .kind) (t .a) (t .v) < 320
 unfolding codeOf
 code-lt t r = dite (ℕ-discrete (t .kind) 1) (λ (e : t .kind ≡ 1). rw (eq-eqb (t .kind) 1 e) (omega (arith, r .value e)))
-    (λ (n₁ : t .kind ≡ 1 → ⊥). dite (ℕ-discrete (t .kind) 2) (λ (e : t .kind ≡ 2). rw (ne-eqb (t .kind) 1 n₁, eq-eqb (t .kind) 2 e) (omega (arith, r .value-2 e)))
-    (λ (n₂ : t .kind ≡ 2 → ⊥). dite (ℕ-discrete (t .kind) 3) (λ (e : t .kind ≡ 3). rw (ne-eqb (t .kind) 1 n₁, ne-eqb (t .kind) 2 n₂, eq-eqb (t .kind) 3 e) (omega (arith, r .crew n₁ n₂)))
+    (λ (n₁ : t .kind ≡ 1 → ⊥). dite (ℕ-discrete (t .kind) 2)
+    (λ (e : t .kind ≡ 2). rw (ne-eqb (t .kind) 1 n₁, eq-eqb (t .kind) 2 e) (omega (arith, r .value-2 e)))
+    (λ (n₂ : t .kind ≡ 2 → ⊥). dite (ℕ-discrete (t .kind) 3)
+    (λ (e : t .kind ≡ 3). rw (ne-eqb (t .kind) 1 n₁, ne-eqb (t .kind) 2 n₂, eq-eqb (t .kind) 3 e) (omega (arith, r .crew n₁ n₂)))
     (λ (n₃ : t .kind ≡ 3 → ⊥). rw (ne-eqb (t .kind) 1 n₁, ne-eqb (t .kind) 2 n₂, ne-eqb (t .kind) 3 n₃) (omega (arith, r .crew n₁ n₂)))))
 
 -- What is shown at a term's place is whether the term holds.
 pub term-place : (T : List Bool) (S : State) (t : Term) → TermInRange t → visible T S (codeOf (t .kind) (t .a) (t .v)) ≡ termShown T S t
 unfolding codeOf termShown
-term-place T S t r = dite (ℕ-discrete (t .kind) 1) (λ (e : t .kind ≡ 1). rw (eq-eqb (t .kind) 1 e) (visible-direct T S (16 * t .a + t .v) (omega (arith, r .value e))))
-    (λ (n₁ : t .kind ≡ 1 → ⊥). dite (ℕ-discrete (t .kind) 2) (λ (e : t .kind ≡ 2). rw (ne-eqb (t .kind) 1 n₁, eq-eqb (t .kind) 2 e) (visible-effective T S (16 * t .a + t .v)))
-    (λ (n₂ : t .kind ≡ 2 → ⊥). dite (ℕ-discrete (t .kind) 3) (λ (e : t .kind ≡ 3). rw (ne-eqb (t .kind) 1 n₁, ne-eqb (t .kind) 2 n₂, eq-eqb (t .kind) 3 e) (visible-direct T S (128 + t .a) (omega (arith, r .crew n₁ n₂))))
+term-place T S t r =
+    dite (ℕ-discrete (t .kind) 1) (λ (e : t .kind ≡ 1). rw (eq-eqb (t .kind) 1 e) (visible-direct T S (16 * t .a + t .v) (omega (arith, r .value e))))
+    (λ (n₁ : t .kind ≡ 1 → ⊥). dite (ℕ-discrete (t .kind) 2)
+    (λ (e : t .kind ≡ 2). rw (ne-eqb (t .kind) 1 n₁, eq-eqb (t .kind) 2 e) (visible-effective T S (16 * t .a + t .v)))
+    (λ (n₂ : t .kind ≡ 2 → ⊥). dite (ℕ-discrete (t .kind) 3)
+    (λ (e : t .kind ≡ 3). rw (ne-eqb (t .kind) 1 n₁, ne-eqb (t .kind) 2 n₂, eq-eqb (t .kind) 3 e)
+    (visible-direct T S (128 + t .a) (omega (arith, r .crew n₁ n₂))))
     (λ (n₃ : t .kind ≡ 3 → ⊥). rw (ne-eqb (t .kind) 1 n₁, ne-eqb (t .kind) 2 n₂, ne-eqb (t .kind) 3 n₃) (crew (t .a)))))
   where
     crew : (a : ℕ) → visible T S (288 + a) ≡ effective T S (128 + a)
@@ -52,7 +58,8 @@ term-place T S t r = dite (ℕ-discrete (t .kind) 1) (λ (e : t .kind ≡ 1). rw
 pub term-mono : (T : List Bool) {S Z : State} (t : Term) → TermInRange t → S ⊆ Z → termShown T S t ≡ true → termShown T Z t ≡ true
 term-mono T {S} {Z} t r le h = sym (term-place T Z t r) ∙ visible-mono T le (codeOf (t .kind) (t .a) (t .v)) (term-place T S t r ∙ h)
 
-all-zip : (p : ℕ → Bool) (q : Term → Bool) (n : ℕ) (ks : List ℕ) (ts : List Term) → n ≤ length ks → n ≤ length ts → ((j : ℕ) → j < n → p (getD ks j 0) ≡ q (getD ts j noTerm)) → all p (take n ks) ≡ all q (take n ts)
+all-zip : (p : ℕ → Bool) (q : Term → Bool) (n : ℕ) (ks : List ℕ) (ts : List Term) → n ≤ length ks → n ≤ length ts
+    → ((j : ℕ) → j < n → p (getD ks j 0) ≡ q (getD ts j noTerm)) → all p (take n ks) ≡ all q (take n ts)
 unfolding all
 all-zip p q zero ks ts a b h = refl
 all-zip p q (suc n) [] ts a b h = absurd (omega arith)
@@ -62,7 +69,8 @@ all-zip p q (suc n) (k ∷ ks) (t ∷ ts) a b h = rw (h 0 (omega arith), all-zip
 -- The move's terms hold just where the rule's do.
 pub move-met : (T : List Bool) (S : State) {r : Rule} {m : Move} → GoodRule r → MoveOf r m → moveShown T S m ≡ ruleShown T S r
 unfolding moveShown ruleShown placesOf
-move-met T S {r} {m} g k = rw (k .n) (all-zip (visible T S) (termShown T S) (r .n) (m .terms) (r .terms) (omega (arith, g .few, k .fine .size)) (omega (arith, g .few, g .size))
+move-met T S {r} {m} g k =
+    rw (k .n) (all-zip (visible T S) (termShown T S) (r .n) (m .terms) (r .terms) (omega (arith, g .few, k .fine .size)) (omega (arith, g .few, g .size))
     (λ j l. ap (visible T S) (k .places j l) ∙ term-place T S (getD (r .terms) j noTerm) (g .terms j l)))
 
 -- The places of the first `j` terms are written, and no others.
@@ -74,17 +82,20 @@ pub record PlacesSoFar (r : Rule) (ks : List ℕ) (j : ℕ) : Type 0 where
 
 module _ {r : Rule} {ks : List ℕ} {j : ℕ} (p : PlacesSoFar r ks j) (g : GoodRule r) where
   -- The place of one term more.
-  pub places-more : (k : ℕ) → j < r .n → k ≡ codeOf (getD (r .terms) j noTerm .kind) (getD (r .terms) j noTerm .a) (getD (r .terms) j noTerm .v) → PlacesSoFar r (set ks j k) (j + 1)
+  pub places-more : (k : ℕ) → j < r .n → k ≡ codeOf (getD (r .terms) j noTerm .kind) (getD (r .terms) j noTerm .a) (getD (r .terms) j noTerm .v)
+      → PlacesSoFar r (set ks j k) (j + 1)
   places-more k h e = record {
     size = simp length-set (p .size);
     fits = omega arith;
-    done = λ i l. at (λ i. i < j + 1 → getD (set ks j k) i 0 ≡ codeOf (getD (r .terms) i noTerm .kind) (getD (r .terms) i noTerm .a) (getD (r .terms) i noTerm .v)) j i
+    done = λ i l. at (λ i. i < j + 1 → getD (set ks j k) i 0
+        ≡ codeOf (getD (r .terms) i noTerm .kind) (getD (r .terms) i noTerm .a) (getD (r .terms) i noTerm .v)) j i
         (λ _. getD-set-same ks j k 0 (omega (arith, p .size, g .few)) ∙ e) (λ n l′. getD-set-other ks j i k 0 n ∙ p .done i (omega arith)) l;
     rest = λ i l. getD-set-other ks j i k 0 (omega arith) ∙ p .rest i (omega arith);
   }
 
   -- With all places written the move is made.
-  pub move-made : r .n ≤ j → (r .op < 256) × ((r .role .0 < 256) × ((r .a < 256) × (r .v < 256))) → (f : ℕ) → f ≡ placeOf (r .op) (r .a) (r .v) → MoveOf r (record { fact = f; n = r .n; op = r .op; role = r .role .0; a = r .a; v = r .v; terms = ks })
+  pub move-made : r .n ≤ j → (r .op < 256) × ((r .role .0 < 256) × ((r .a < 256) × (r .v < 256))) → (f : ℕ) → f ≡ placeOf (r .op) (r .a) (r .v)
+      → MoveOf r (record { fact = f; n = r .n; op = r .op; role = r .role .0; a = r .a; v = r .v; terms = ks })
   move-made h bytes f e = record {
     fine = record { aim = e; fact = rw e (g .aims); few = g .few; size = p .size; places = small; bytes = bytes };
     op = refl;

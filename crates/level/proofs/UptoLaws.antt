@@ -21,7 +21,8 @@ module _ {W : World} (lawful : Lawful W) {tier : ℕ → ℕ} (same-below : Loca
   pub upto-first : {R : State} → Bounds W bad S₀ R → S₀ ⊆ R → Upto W tier bad S₀ 0 R [] []
   upto-first {R} b s = record { bounds = b; starts = s; additions = additions-none tier W R; deletions = deletions-none tier W R (minus R bad) }
 
-  all-of-level : (k : ℕ) (b : Bool) (Z : World) {R : State} → Within W Z k R → (xs : List Ask) {S T : State} → Brings Z b S xs T → All tier k (map (toWhole k) xs)
+  all-of-level : (k : ℕ) (b : Bool) (Z : World) {R : State} → Within W Z k R → (xs : List Ask) {S T : State} → Brings Z b S xs T
+      → All tier k (map (toWhole k) xs)
   all-of-level k b Z w [] l = tt
   all-of-level k b Z w (q ∷ qs) {S} l =
       let h : q .fact < 160 = w .known S b q (l .runs .0 .may) in
@@ -30,8 +31,10 @@ module _ {W : World} (lawful : Lawful W) {tier : ℕ → ℕ} (same-below : Loca
       quotient : (f : ℕ) → f < 160 → (160 * k + f) / 160 ≡ k
       quotient f h = omega arith
 
-  module _ {k : ℕ} {R : State} {us ds : List Ask} (t : Upto W tier bad S₀ k R us ds) (Z : World) (w : Within W Z k R) (s u₀ x : State) (vs es : List Ask) (bad-here : State)
-      (same-bad : (f : ℕ) → f < 160 → bad-here f ≡ bad (160 * k + f)) (same-s : (f : ℕ) → f < 160 → s f ≡ S₀ (160 * k + f)) (same-u : (f : ℕ) → f < 160 → u₀ f ≡ R (160 * k + f))
+  module _ {k : ℕ} {R : State} {us ds : List Ask} (t : Upto W tier bad S₀ k R us ds) (Z : World) (w : Within W Z k R) (s u₀ x : State)
+      (vs es : List Ask) (bad-here : State)
+      (same-bad : (f : ℕ) → f < 160 → bad-here f ≡ bad (160 * k + f)) (same-s : (f : ℕ) → f < 160 → s f ≡ S₀ (160 * k + f))
+      (same-u : (f : ℕ) → f < 160 → u₀ f ≡ R (160 * k + f))
       (rounds : Rounds Z bad-here s u₀ x) (up : Brings Z true s vs x) (down : Brings Z false x es (minus x bad-here)) (more : s ⊆ x) where
     abbrev next : State
     next = onLevel k R x
@@ -43,7 +46,9 @@ module _ {W : World} (lawful : Lawful W) {tier : ℕ → ℕ} (same-below : Loca
     small g = omega arith
 
     whole-u : onLevel k R u₀ ≡ R
-    whole-u = fun-ext λ g. by-cases (ℕ-discrete (g / 160) k) (λ e. on-level-in k R u₀ g e ∙ same-u (g % 160) (small g) ∙ ap R (place g e)) (λ e. on-level-out k R u₀ g e)
+    whole-u =
+        fun-ext λ g. by-cases (ℕ-discrete (g / 160) k) (λ e. on-level-in k R u₀ g e ∙ same-u (g % 160) (small g) ∙ ap R (place g e))
+        (λ e. on-level-out k R u₀ g e)
 
     whole-s : onLevel k R s ≡ only tier k S₀ next
     whole-s = fun-ext λ g. by-cases (ℕ-discrete (g / 160) k)
@@ -70,11 +75,14 @@ module _ {W : World} (lawful : Lawful W) {tier : ℕ → ℕ} (same-below : Loca
       bounds = rounds-bound w lawful bad bad-here same-bad S₀ s start-here (λ g e h. t .starts g h) rounds (rw whole-u (t .bounds));
       starts = λ g h. by-cases (ℕ-discrete (g / 160) k)
           (λ e. on-level-in k R x g e ∙ more (g % 160) (same-s (g % 160) (small g) ∙ ap S₀ (place g e) ∙ h)) (λ e. on-level-out k R x g e ∙ t .starts g h);
-      additions = additions-tier same-below k us (subst (λ (S : State). Brings W true S₀ us S) (below-same tier k S₀ lower) (t .additions)) (all-of-level k true Z w vs up)
+      additions =
+          additions-tier same-below k us (subst (λ (S : State). Brings W true S₀ us S) (below-same tier k S₀ lower) (t .additions))
+          (all-of-level k true Z w vs up)
           (subst (λ (S : State). Brings W true S (map (toWhole k) vs) next) whole-s (embed w vs up));
       deletions = deletions-tier same-below k (minus next bad) (map (toWhole k) es)
           (λ Y. subst (λ (S : State). Brings W false S ds (below tier k (minus next bad) Y)) (below-same tier k Y lower)
-          (subst (λ (S : State). Brings W false (below tier k R Y) ds S) (below-same tier k Y (λ g h. ap (λ b. b && not (bad g)) (lower g h))) (t .deletions Y)))
+          (subst (λ (S : State). Brings W false (below tier k R Y) ds S) (below-same tier k Y (λ g h. ap (λ b. b && not (bad g)) (lower g h)))
+          (t .deletions Y)))
           (all-of-level k false Z w es down) (subst (λ (S : State). Brings W false next (map (toWhole k) es) S) whole-b (embed w es down));
     }
 
@@ -82,7 +90,8 @@ module _ {W : World} (lawful : Lawful W) {tier : ℕ → ℕ} (same-below : Loca
   pub upto-best : {n : ℕ} {R : State} {us ds : List Ask} → ((g : ℕ) → n ≤ tier g → R g ≡ false) → Upto W tier bad S₀ n R us ds → Best W bad S₀ us ds
   upto-best {n} {R} {us} {ds} out t = bounds-best lawful bad S₀ (record {
     adds = subst (λ (S : State). Brings W true S₀ us S) whole (t .additions);
-    dels = subst (λ (S : State). Brings W false R ds S) whole-m (subst (λ (S : State). Brings W false S ds (below tier n (minus R bad) S₀)) whole (t .deletions S₀));
+    dels = subst (λ (S : State). Brings W false R ds S) whole-m
+        (subst (λ (S : State). Brings W false S ds (below tier n (minus R bad) S₀)) whole (t .deletions S₀));
   }) (t .bounds)
     where
       not-so : (b : Bool) → (b ≡ true → ⊥) → b ≡ false
@@ -93,7 +102,9 @@ module _ {W : World} (lawful : Lawful W) {tier : ℕ → ℕ} (same-below : Loca
       none g h = not-so (S₀ g) (λ e. true≢false (sym (t .starts g e) ∙ out g h))
 
       whole : below tier n R S₀ ≡ R
-      whole = fun-ext λ g. by-cases (decLt (tier g) n) (λ l. below-low tier n R S₀ l) (λ l. below-high tier n R S₀ (omega arith) ∙ none g (omega arith) ∙ sym (out g (omega arith)))
+      whole =
+          fun-ext λ g. by-cases (decLt (tier g) n) (λ l. below-low tier n R S₀ l)
+          (λ l. below-high tier n R S₀ (omega arith) ∙ none g (omega arith) ∙ sym (out g (omega arith)))
 
       whole-m : below tier n (minus R bad) S₀ ≡ minus R bad
       whole-m = fun-ext λ g. by-cases (decLt (tier g) n) (λ l. below-low tier n (minus R bad) S₀ l)

@@ -33,7 +33,8 @@ pub record Lengths (T bad s u x y d : List Bool) (start : ℕ) (up : List ℕ) (
 
 -- What a round needs: sound moves, the lengths of what is lent with room in the two buffers, starting facts that are allowed, and room for the
 -- names of the moves to try first.
-pub record RoundReady (adds dels : Moves) (added deleted : List ℕ) (T bad s u x y d : List Bool) (start : ℕ) (up : List ℕ) (end : ℕ) (down : List ℕ) : Type 0 where
+pub record RoundReady (adds dels : Moves) (added deleted : List ℕ) (T bad s u x y d : List Bool)
+    (start : ℕ) (up : List ℕ) (end : ℕ) (down : List ℕ) : Type 0 where
   pub sound-adds : Sound adds
   pub sound-dels : Sound dels
   pub lengths : Lengths T bad s u x y d start up end down
@@ -42,7 +43,8 @@ pub record RoundReady (adds dels : Moves) (added deleted : List ℕ) (T bad s u 
   pub names-deleted : length deleted ≡ levelSize
 
 -- What a round leaves: additions closed within `u`, and deletions closed backwards.
-pub record Rounded (adds dels : Moves) (p : ℕ) (T bad s u x y d : List Bool) (start : ℕ) (up₀ up : List ℕ) (n end : ℕ) (down₀ down : List ℕ) (at : ℕ) : Type 0 where
+pub record Rounded (adds dels : Moves) (p : ℕ) (T bad s u x y d : List Bool)
+    (start : ℕ) (up₀ up : List ℕ) (n end : ℕ) (down₀ down : List ℕ) (at : ℕ) : Type 0 where
   pub sizes : Lengths T bad s u x y d start up end down
   pub length-up : length up ≡ length up₀
   pub length-down : length down ≡ length down₀
@@ -58,7 +60,8 @@ pub record Rounded (adds dels : Moves) (p : ℕ) (T bad s u x y d : List Bool) (
   pub back-closed : BackClosed (world T dels dels p) (direct bad) (direct x) (direct y)
 
 -- A settled level: the requests in `up` lead from `s` to `x`, those in `down` from `x` to what of it is not forbidden, and `x` bounds the level.
-pub record Settled (adds dels : Moves) (p : ℕ) (T bad s u₀ x : List Bool) (start : ℕ) (up₀ up : List ℕ) (n end : ℕ) (down₀ down : List ℕ) (at : ℕ) : Type 0 where
+pub record Settled (adds dels : Moves) (p : ℕ) (T bad s u₀ x : List Bool)
+    (start : ℕ) (up₀ up : List ℕ) (n end : ℕ) (down₀ down : List ℕ) (at : ℕ) : Type 0 where
   pub whole : Whole T x
   pub few-up : n ≤ levelSize
   pub stands-up : (k : ℕ) → k < start → askAt up k ≡ askAt up₀ k
@@ -79,6 +82,7 @@ pub record Stuck (adds dels : Moves) (p : ℕ) (T bad s u₀ : List Bool) : Type
   pub missing : bound fact ≡ false
 
 -- What the level comes to, found or not.
-pub record Result (adds dels : Moves) (p : ℕ) (T bad s u₀ x : List Bool) (start : ℕ) (up₀ up : List ℕ) (end : ℕ) (down₀ down : List ℕ) (ok : Bool) (n at : ℕ) : Type 0 where
+pub record Result (adds dels : Moves) (p : ℕ) (T bad s u₀ x : List Bool)
+    (start : ℕ) (up₀ up : List ℕ) (end : ℕ) (down₀ down : List ℕ) (ok : Bool) (n at : ℕ) : Type 0 where
   pub found : ok ≡ true → Settled adds dels p T bad s u₀ x start up₀ up n end down₀ down at
   pub none : ok ≡ false → Stuck adds dels p T bad s u₀

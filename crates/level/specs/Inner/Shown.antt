@@ -1,6 +1,7 @@
 -- What one subject, a crew or the query's person, shows to a rule's terms.
--- A level has 160 facts: 16 * a + v for value v of attribute a, and 128 + c for membership in crew c. A subject shows 320 flags: the direct facts, and behind them
--- the effective ones. A term is the place of its flag. The table has a row of 160 flags for each crew, what the crew hands on, and row 32, what the subject inherits anyhow.
+-- A level has 160 facts: 16 * a + v for value v of attribute a, and 128 + c for membership in crew c. A subject shows 320 flags: the direct facts,
+-- and behind them the effective ones. A term is the place of its flag. The table has a row of 160 flags for each crew, what the crew hands on, and
+-- row 32, what the subject inherits anyhow.
 use mathlib.Core.Path.{_≡_}
 use mathlib.Core.Bool.{Bool, false, not, cond, _&&_, _||_}
 use mathlib.Core.List.{List}

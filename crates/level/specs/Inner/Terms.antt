@@ -21,7 +21,10 @@ effective T S f = S f || inherited T S f
 
 -- Whether a subject shows what a term asks: 01 directly holds, 02 effectively holds, 03 directly in crew a, 04 effectively in crew a.
 unfoldable pub termShown : List Bool → State → Term → Bool
-termShown T S t = cond (eqb (t .kind) 1) (S (16 * t .a + t .v)) (cond (eqb (t .kind) 2) (effective T S (16 * t .a + t .v)) (cond (eqb (t .kind) 3) (S (128 + t .a)) (effective T S (128 + t .a))))
+termShown T S t =
+    cond (eqb (t .kind) 1) (S (16 * t .a + t .v))
+    (cond (eqb (t .kind) 2) (effective T S (16 * t .a + t .v))
+    (cond (eqb (t .kind) 3) (S (128 + t .a)) (effective T S (128 + t .a))))
 
 -- The place of what a term asks.
 unfoldable pub codeOf : ℕ → ℕ → ℕ → ℕ
