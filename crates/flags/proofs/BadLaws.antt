@@ -22,7 +22,8 @@ use Rattle.quantifiers.proofs.ListLaws.{any-front}
 use Rattle.replay.proofs.MetLaws.{wants-front}
 use Rattle.reach.specs.Inner.Tracked.{track}
 use Rattle.reach.specs.Inner.Goal.{banned, belowListed, forbids, forbidden, bad}
-use Rattle.flags.specs.Inner.Flags.{FlagsWritten, hasFact, factIn, SmallWants, lacksValue, bannedValue, forbidFlag, badFlag, BadFlags, listedReaches, listedReach}
+use Rattle.flags.specs.Inner.Flags.{FlagsWritten, hasFact, factIn, SmallWants, lacksValue, bannedValue}
+use Rattle.flags.specs.Inner.Flags.{forbidFlag, badFlag, BadFlags, listedReaches, listedReach}
 use Rattle.flags.specs.Inner.Flags.{Reaching, lackingFlag, wantFlag, bannedFlag}
 use Rattle.flags.proofs.FlagLaws.{written-self, written-at, written-same, written-over, written-part, written-join, track-level}
 
@@ -32,7 +33,8 @@ use Rattle.flags.proofs.FlagLaws.{written-self, written-at, written-sam
 pub banned-same : (b : Contents) → SmallWants (b .query) → (a v : ℕ) → bannedValue (b .query) a v ≡ banned b a v
 unfolding banned wantOf
 banned-same b w a v =
-    rw (wants-front b) (sym (any-front (λ x. eqb (x .attr .0) a && not (member (x .set) v)) noWant (b .query .wants) (b .query .q) (omega (arith, w .few, w .room))))
+    rw (wants-front b) (sym (any-front (λ x. eqb (x .attr .0) a && not (member (x .set) v)) noWant (b .query .wants) (b .query .q)
+    (omega (arith, w .few, w .room))))
 
 -- What the set of an attribute lacks is added at its values.
 pub want-added : {before x : List Bool} (w : Want) → w .attr .0 < 8 → FlagsWritten before (16 * w .attr .0) (lackingFlag before (16 * w .attr .0) (w .set)) 16 x
@@ -60,7 +62,8 @@ pub banned-none : (before : List Bool) (q : Query) → FlagsWritten before 0 (ba
 banned-none before q = written-same (written-self before 128) (λ f l. sym (rw (any-zero (lacksValue q (f / 16) (f % 16))) (or-false (getD before f false))))
 
 -- One set more.
-pub banned-more : {before x y : List Bool} (q : Query) (j : ℕ) → FlagsWritten before 0 (bannedFlag before q j) 128 x → FlagsWritten x 0 (wantFlag x (wantOf q j)) 128 y
+pub banned-more : {before x y : List Bool} (q : Query) (j : ℕ) → FlagsWritten before 0 (bannedFlag before q j) 128 x
+    → FlagsWritten x 0 (wantFlag x (wantOf q j)) 128 y
     → FlagsWritten before 0 (bannedFlag before q (j + 1)) 128 y
 banned-more {before} {x} q j w v =
     written-over w

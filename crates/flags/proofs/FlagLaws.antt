@@ -24,7 +24,8 @@ use Rattle.inherit.specs.Inheritance.{isJunior}
 use Rattle.quantifiers.specs.Quantifiers.{anyBelow}
 use Rattle.quantifiers.proofs.BelowLaws.{any-zero, any-step}
 use Rattle.reach.specs.Inner.Tracked.{personLevel, factAt, isNumber, track}
-use Rattle.flags.specs.Inner.Flags.{FlagsWritten, hasFact, factIn, startFlag, StartFlags, juniorHas, addedFlag, CrewTable, PersonTable, rowFlag, FilledRow}
+use Rattle.flags.specs.Inner.Flags.{FlagsWritten, hasFact, factIn, startFlag, StartFlags, juniorHas}
+use Rattle.flags.specs.Inner.Flags.{addedFlag, CrewTable, PersonTable, rowFlag, FilledRow}
 use Rattle.flags.specs.Inner.Flags.{FirstRows, SmallWants, valueAt}
 
 -- ---------------------------------------------------------------- flags written one by one
@@ -34,7 +35,8 @@ pub written-none : (x : List Bool) (base : ℕ) (p : ℕ → Bool) → FlagsWrit
 written-none x base p = record { size = refl; at = λ f l. absurd (omega arith); below = λ j l. refl; above = λ j l. refl }
 
 -- One more is written, at the next place n.
-pub written-more : {before x : List Bool} {base i : ℕ} {p : ℕ → Bool} (v : Bool) (n : ℕ) → FlagsWritten before base p i x → n ≡ base + i → n < length before → v ≡ p i
+pub written-more : {before x : List Bool} {base i : ℕ} {p : ℕ → Bool} (v : Bool) (n : ℕ) → FlagsWritten before base p i x → n ≡ base + i
+    → n < length before → v ≡ p i
     → FlagsWritten before base p (i + 1) (set x n v)
 written-more {before} {x} {base} {i} {p} v n w z h e = record {
   size = simp length-set (w .size);
@@ -50,11 +52,13 @@ pub written-end : {before x : List Bool} {base i n : ℕ} {p : ℕ → Bool} →
 written-end w e = rw e at w
 
 -- The flags may be named otherwise.
-pub written-same : {before x : List Bool} {base i : ℕ} {p q : ℕ → Bool} → FlagsWritten before base p i x → ((f : ℕ) → f < i → p f ≡ q f) → FlagsWritten before base q i x
+pub written-same : {before x : List Bool} {base i : ℕ} {p q : ℕ → Bool} → FlagsWritten before base p i x → ((f : ℕ) → f < i → p f ≡ q f)
+    → FlagsWritten before base q i x
 written-same w h = record { size = w .size; at = λ f l. w .at f l ∙ h f l; below = w .below; above = w .above }
 
 -- Flags written over others.
-pub written-over : {before x y : List Bool} {base i : ℕ} {p q : ℕ → Bool} → FlagsWritten before base p i x → FlagsWritten x base q i y → FlagsWritten before base q i y
+pub written-over : {before x y : List Bool} {base i : ℕ} {p q : ℕ → Bool} → FlagsWritten before base p i x → FlagsWritten x base q i y
+    → FlagsWritten before base q i y
 written-over w v = record { size = v .size ∙ w .size; at = v .at; below = λ j l. v .below j l ∙ w .below j l; above = λ j l. v .above j l ∙ w .above j l }
 
 -- What was written stands.
@@ -70,7 +74,8 @@ pub written-at : {before x : List Bool} {n : ℕ} {p : ℕ → Bool} → FlagsWr
 written-at {before} {x} w f l = let z : 0 + f ≡ f = omega arith in ap (λ j. getD x j false) (sym z) ∙ w .at f l
 
 -- Flags written behind others.
-pub written-join : {before x y : List Bool} {base i m n : ℕ} {p q : ℕ → Bool} (r : ℕ → Bool) → FlagsWritten before base p i x → FlagsWritten x m q n y → m ≡ base + i
+pub written-join : {before x y : List Bool} {base i m n : ℕ} {p q : ℕ → Bool} (r : ℕ → Bool) → FlagsWritten before base p i x → FlagsWritten x m q n y
+    → m ≡ base + i
     → ((f : ℕ) → f < i → p f ≡ r f) → ((f : ℕ) → f < n → q f ≡ r (i + f)) → FlagsWritten before base r (i + n) y
 written-join {before} {x} {y} {base} {i} {m} {n} {p} {q} r w v e front back = record {
   size = v .size ∙ w .size;
@@ -213,16 +218,19 @@ module _ (js : List ℕ) (k : ℕ) (rows : List Bool) {before : List Bool} where
   juniors-none w = written-now (written-same w (λ f l. sym (any-zero (juniorHas js k rows f))))
 
   -- A direct junior's row is added.
-  pub juniors-add : {x y : List Bool} (j : ℕ) → isJunior js k j ≡ true → FlagsWritten before 5120 (juniorsBelow js k rows j) 160 x → FlagsWritten x 5120 (addedFlag rows j x) 160 y
+  pub juniors-add : {x y : List Bool} (j : ℕ) → isJunior js k j ≡ true → FlagsWritten before 5120 (juniorsBelow js k rows j) 160 x
+      → FlagsWritten x 5120 (addedFlag rows j x) 160 y
       → FlagsWritten before 5120 (juniorsBelow js k rows (j + 1)) 160 y
   juniors-add j e w v = written-over w (written-same v (λ f l. rw (w .at f l, add-one, any-step (juniorHas js k rows f) j, e) refl))
 
   -- Any other crew's is not.
-  pub juniors-skip : {x : List Bool} (j : ℕ) → isJunior js k j ≡ false → FlagsWritten before 5120 (juniorsBelow js k rows j) 160 x → FlagsWritten before 5120 (juniorsBelow js k rows (j + 1)) 160 x
+  pub juniors-skip : {x : List Bool} (j : ℕ) → isJunior js k j ≡ false → FlagsWritten before 5120 (juniorsBelow js k rows j) 160 x
+      → FlagsWritten before 5120 (juniorsBelow js k rows (j + 1)) 160 x
   juniors-skip j e w = written-same w (λ f l. sym (rw (add-one, any-step (juniorHas js k rows f) j, e) (or-false (anyBelow (juniorHas js k rows f) j))))
 
   -- What the last row says when all juniors are looked at.
-  pub crew-table-all : {table : List Bool} → length before ≡ 5280 → FlagsWritten before 5120 (juniorsBelow js k rows k) 160 table → CrewTable js k rows before table
+  pub crew-table-all : {table : List Bool} → length before ≡ 5280 → FlagsWritten before 5120 (juniorsBelow js k rows k) 160 table
+      → CrewTable js k rows before table
   crew-table-all e w = record { size = w .size ∙ e; kept = w .below; last = w .at }
 
 -- The rows are copied, and nothing is in the row behind them.
@@ -239,7 +247,8 @@ person-table-all {rows} {before} {x} {table} e w v = record {
 -- The values and the crews are copied to row k, and its own crew is set.
 pub row-all : (x table : List Bool) {before y z : List Bool} (k : ℕ) → k < 32 → length before ≡ 5120
     → FlagsWritten before (160 * k) (λ f. getD x (160 + f) false) 128 y
-    → FlagsWritten y (160 * k + 128) (λ f. getD table (5248 + f) false) 32 z → FlagsWritten before (160 * k) (rowFlag table k x) 160 (set z (160 * k + (128 + k)) true)
+    → FlagsWritten y (160 * k + 128) (λ f. getD table (5248 + f) false) 32 z
+    → FlagsWritten before (160 * k) (rowFlag table k x) 160 (set z (160 * k + (128 + k)) true)
 unfolding rowFlag
 row-all x table k h e values crews =
     written-set (128 + k) (160 * k + (128 + k)) true (rowFlag table k x)
@@ -263,7 +272,9 @@ unfolding rowFlag
 filled-row {js} {k} {x} {before} {old} {table} {rows} e t w = record {
   size = w .size ∙ e;
   values = λ f l. w .at f (omega arith) ∙ rw (lt-ltb f 128 l);
-  crews = λ d l. let z : 128 + d - 128 ≡ d = omega arith in w .at (128 + d) (omega arith) ∙ rw (le-ltb (128 + d) 128 (omega arith), z, t .last (128 + d) (omega arith));
+  crews = λ d l.
+      let z : 128 + d - 128 ≡ d = omega arith in
+      w .at (128 + d) (omega arith) ∙ rw (le-ltb (128 + d) 128 (omega arith), z, t .last (128 + d) (omega arith));
   below = w .below;
   above = w .above;
 }
