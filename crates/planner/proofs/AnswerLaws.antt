@@ -72,20 +72,24 @@ module _ (b : Contents) (ok : Admitted b) {up down : List ℕ} {ups at : ℕ} (w
 
   -- Carried out, they end at the best plan's last ledger.
   last-is : carried (b .facts) (drafted up ups down at) ≡ lastLedger b ok (w .best)
-  last-is = ap (carried (b .facts)) drafted-is ∙ run-carried b (b .query .roles) (b .facts) 1 (map bytesOf (w .us) ++ map bytesOf (w .ds)) (lastLedger b ok (w .best)) (best-leads b ok (w .best) .led)
+  last-is =
+      ap (carried (b .facts)) drafted-is ∙ run-carried b (b .query .roles) (b .facts) 1 (map bytesOf (w .us) ++ map bytesOf (w .ds))
+      (lastLedger b ok (w .best)) (best-leads b ok (w .best) .led)
 
   -- Where that does not meet the query, there is no way.
   pub not-reached : met b (holds (carried (b .facts) (drafted up ups down at))) ≡ false → NoWay b
   not-reached e = best-no-way b ok (w .best) (ap (λ (l : List ℕ). met b (holds l)) (sym last-is) ∙ e)
 
   -- Where it does, the plan in the buffer's front is given.
-  pub reached : met b (holds (carried (b .facts) (drafted up ups down at))) ≡ true → (before : List ℕ) (n : ℕ) (out : List ℕ) → n ≡ ups + (5280 - at) → 5 * n ≤ length before
+  pub reached : met b (holds (carried (b .facts) (drafted up ups down at))) ≡ true → (before : List ℕ) (n : ℕ) (out : List ℕ) → n ≡ ups + (5280 - at)
+      → 5 * n ≤ length before
       → out ≡ flat (drafted up ups down at) ++ drop (5 * n) before → PlanGiven b before n out
   reached e before n out count room is =
       record {
         count = ap (λ (x : List (List ℕ)). length x) fives-are ∙ length-map (w .us ++ w .ds) bytesOf ∙ whole ∙ sym count;
         works = subst (Works b) (sym chain-is) works;
-        reaches = replay-reaches b (front n out) (omega (arith, ap (λ (x : List ℕ). length x) front-is, five)) (works .last) (subst (λ (c : List (List ℕ)). Leads b c (works .last)) (sym chain-is) (works .led)) (works .meets);
+        reaches = replay-reaches b (front n out) (omega (arith, ap (λ (x : List ℕ). length x) front-is, five)) (works .last)
+            (subst (λ (c : List (List ℕ)). Leads b c (works .last)) (sym chain-is) (works .led)) (works .meets);
         few = omega (arith, count, written-few);
         size = omega (arith, ap (λ (x : List ℕ). length x) is′, length-append bytes (drop (5 * n) before), length-drop (5 * n) before, five);
         behind = ap (drop (5 * n)) is′ ∙ ap (λ (k : ℕ). drop k (bytes ++ drop (5 * n) before)) (sym five) ∙ drop-append-seam bytes (drop (5 * n) before);
@@ -113,7 +117,8 @@ module _ (b : Contents) (ok : Admitted b) {up down : List ℕ} {ups at : ℕ} (w
       works = best-works b ok (w .best) (ap (λ (l : List ℕ). met b (holds l)) (sym last-is) ∙ e)
 
 -- Additions copied to the front, then deletions behind them.
-pub both-copied : (up : List ℕ) (ups : ℕ) (down : List ℕ) (at : ℕ) (before middle out : List ℕ) → length up ≡ 26400 → ups ≤ 5280 → 5 * (ups + (5280 - at)) ≤ length before
+pub both-copied : (up : List ℕ) (ups : ℕ) (down : List ℕ) (at : ℕ) (before middle out : List ℕ) → length up ≡ 26400 → ups ≤ 5280
+    → 5 * (ups + (5280 - at)) ≤ length before
     → middle ≡ take (5 * 0) before ++ (flat (map bytesOf (asks up 0 ups)) ++ drop (5 * (0 + ups)) before)
     → out ≡ take (5 * ups) middle ++ (flat (map bytesOf (asks down at (5280 - at))) ++ drop (5 * (ups + (5280 - at))) middle)
     → out ≡ flat (drafted up ups down at) ++ drop (5 * (ups + (5280 - at))) before
@@ -131,7 +136,9 @@ both-copied up ups down at before middle out size few room first second =
     five = length-flat (asks up 0 ups) ∙ ap (λ (k : ℕ). 5 * k) (asks-length up 0 ups)
 
     front-is : take (5 * ups) middle ≡ bytes
-    front-is = ap (take (5 * ups)) first ∙ ap (λ (k : ℕ). take k (bytes ++ drop (5 * (0 + ups)) before)) (sym five) ∙ take-append-seam bytes (drop (5 * (0 + ups)) before)
+    front-is =
+        ap (take (5 * ups)) first ∙ ap (λ (k : ℕ). take k (bytes ++ drop (5 * (0 + ups)) before)) (sym five)
+        ∙ take-append-seam bytes (drop (5 * (0 + ups)) before)
 
     split : 5 * (ups + (5280 - at)) ≡ 5 * ups + 5 * (5280 - at)
     split = omega arith
@@ -226,5 +233,6 @@ module _ (b : Contents) (before : List ℕ) where
 pub promise-refused : (chars before : List ℕ) {r : frames.Refusal} → bookOf chars ≡ refused r → PlanPromise chars before (Refused (BadBook r)) before
 promise-refused chars before e = record { kept = rw e (refl, refl) }
 
-pub promise-accepted : (chars before : List ℕ) (answer : Planned) (out : List ℕ) {b : Contents} → bookOf chars ≡ accepted b → Answered b before (said answer) out → PlanPromise chars before answer out
+pub promise-accepted : (chars before : List ℕ) (answer : Planned) (out : List ℕ) {b : Contents} → bookOf chars ≡ accepted b
+    → Answered b before (said answer) out → PlanPromise chars before answer out
 promise-accepted chars before answer out e answered = record { kept = rw e answered }

@@ -77,7 +77,8 @@ in-set-in S I f = right (S f) (I f)
 
 in-set-update : (S I : State) (f : ℕ) (on : Bool) → I f ≡ true → inSet (update S f on) I ≡ update (inSet S I) f on
 in-set-update S I f on h =
-    fun-ext λ g. at (λ g. (update S f on g && I g) ≡ update (inSet S I) f on g) f g (rw (update-same, update-same, h) (and-true on)) (λ n. rw (update-other, update-other) refl)
+    fun-ext λ g. at (λ g. (update S f on g && I g) ≡ update (inSet S I) f on g) f g (rw (update-same, update-same, h) (and-true on))
+    (λ n. rw (update-other, update-other) refl)
 
 module _ {W : World} (lawful : Lawful W) (I : State) (in-set : (S : State) (on : Bool) (q : Ask) → W .May S (req on q) → I (q .fact) ≡ true) where
   -- Each request that changes a fact of the set changes the count by one.

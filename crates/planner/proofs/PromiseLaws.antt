@@ -95,11 +95,13 @@ module _ (b : Contents) (ok : Admitted b) where
       let op : adds (asked q .op) ≡ on = adding-of b ok q (may .adding) in
       let next : track b (holds (after l (asked q))) ≡ update (track b (holds l)) (q .fact) on =
       track-after b ok l kept (bytesOf q) (may .formed) (may .of-fact) ∙ rw (may .number, op) refl in
-      let before : holds l (asked q .fact) ≡ not on = sym (track-at b (holds l) (asked q .fact) (may .of-fact)) ∙ ap (track b (holds l)) (may .number) ∙ r .0 .new in
-      let behind : holds (after l (asked q)) (asked q .fact) ≡ on =
-      after-same l (asked q) (kept .room) (in-sizes-fits (b .sizes) (asked q .fact) (ok .sized) (well-formed-fact (b .sizes) (bytesOf q) (may .formed))) ∙ op in (
+      let before : holds l (asked q .fact) ≡ not on =
+      sym (track-at b (holds l) (asked q .fact) (may .of-fact)) ∙ ap (track b (holds l)) (may .number) ∙ r .0 .new in
+      let fits = in-sizes-fits (b .sizes) (asked q .fact) (ok .sized) (well-formed-fact (b .sizes) (bytesOf q) (may .formed)) in
+      let behind : holds (after l (asked q)) (asked q .fact) ≡ on = after-same l (asked q) (kept .room) fits ∙ op in (
         λ same. not-self on (sym behind ∙ ap (λ (x : List ℕ). holds x (asked q .fact)) same ∙ before),
-        changing rs (after l (asked q)) (kept-after b ok l kept (bytesOf q) (may .formed)) (subst (λ (S : State). Runs (Step (depot b)) S rs) (sym next) (r .1)),
+        changing rs (after l (asked q)) (kept-after b ok l kept (bytesOf q) (may .formed))
+            (subst (λ (S : State). Runs (Step (depot b)) S rs) (sym next) (r .1)),
       )
 
   -- Where no run ends clear, no chain leads to a ledger that meets the query.
@@ -145,7 +147,9 @@ module _ (b : Contents) (ok : Admitted b) where
     up-named = named-all b ok true (starts b) us (runs-first (Step (depot b)) (starts b) (map (req true) us) (map (req false) ds) (best .way .runs))
 
     down-named : Named b false ds
-    down-named = named-all b ok false (end (starts b) (map (req true) us)) ds (runs-last (Step (depot b)) (starts b) (map (req true) us) (map (req false) ds) (best .way .runs))
+    down-named =
+        named-all b ok false (end (starts b) (map (req true) us)) ds
+        (runs-last (Step (depot b)) (starts b) (map (req true) us) (map (req false) ds) (best .way .runs))
 
     -- The plan leads to that ledger.
     pub best-leads : Leads b (map bytesOf us ++ map bytesOf ds) lastLedger

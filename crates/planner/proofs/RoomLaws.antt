@@ -33,7 +33,8 @@ refused-other e = true≢false (sym (ap isPlan e))
 
 -- The n requests of a plan stand in the buffer.
 pub plan-room : {chars before : List ℕ} {answer : Planned} {out : List ℕ} (n : ℕ) → answer ≡ Plan n → PlanPromise chars before answer out → 5 * n ≤ length out
-plan-room {chars} {before} {answer} {out} n e promise = by-book (bookOf chars) (subst (λ (x : Planned). AnsweredFor (bookOf chars) before (said x) out) e (promise .kept))
+plan-room {chars} {before} {answer} {out} n e promise =
+    by-book (bookOf chars) (subst (λ (x : Planned). AnsweredFor (bookOf chars) before (said x) out) e (promise .kept))
   where
     by-book : (a : Answer) → AnsweredFor a before (said81 n) out → 5 * n ≤ length out
     by-book (refused r) kept = absurd (refused-other (sym (kept .0)))
