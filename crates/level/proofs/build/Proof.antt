@@ -16,8 +16,8 @@ abbrev μ-loop : tie.MeasureT-loop
 abbrev start : tie.After-blank-arg Inv-loop μ-loop → tie.Start Inv-loop μ-loop
 start c = c .before .before .before .before
 
-abbrev start-from-loop : tie.After-loop Inv-loop μ-loop → tie.Start Inv-loop μ-loop
-start-from-loop c = c .before .before .before .before .before .before .before .before .before
+abbrev after-blank : tie.At-loop Inv-loop μ-loop → tie.After-blank Inv-loop μ-loop
+after-blank c = c .before .before .before
 
 blank-requires : tie.Need-blank-requires Inv-loop μ-loop
 blank-requires c κs =
@@ -67,7 +67,7 @@ loop-again-2 c =
 
 same-length : tie.Need-same-length Inv-loop μ-loop
 same-length c =
-    let at-start = start-from-loop c in
+    let at-start = start (after-blank (c .before) .before) in
     c .before .loop .inv .whole .size ∙ sym (at-start .pre .0)
 
 returns : tie.Need-returns Inv-loop μ-loop

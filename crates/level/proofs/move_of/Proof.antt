@@ -66,14 +66,10 @@ cast-t23 c = search needs
 
 returns : tie.Need-returns Inv-loop μ-loop
 returns c =
-    move-made (c .before .before .loop .inv) (c .before .before .before .pre) (c .before .loop-test .left) (
-      omega (arith, c .before .before .before .good),
-      (
-        omega (arith, c .before .before .before .good),
-        (omega (arith, c .before .before .before .good), omega (arith, c .before .before .before .good)),
-      ),
-    ) (c .aim .result)
-    (c .aim .ensures)
+    let at-start = c .before .before .before in
+    let good = at-start .good in
+    move-made (c .before .before .loop .inv) (at-start .pre) (c .before .loop-test .left)
+    (omega (arith, good), (omega (arith, good), (omega (arith, good), omega (arith, good)))) (c .aim .result) (c .aim .ensures)
 
 pub move-of-spec : {M : Type 1} → statement M
 move-of-spec =

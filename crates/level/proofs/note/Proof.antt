@@ -57,8 +57,8 @@ same-length c = search needs
 
 returns : tie.Need-returns
 returns c =
-    noted (start c .args .out .now) (start c .args .k) (start c .args .subject) (start c .args .m) (start c .pre .0)
-    (start c .pre .1)
+    let at-start = start c in
+    noted (at-start .args .out .now) (at-start .args .k) (at-start .args .subject) (at-start .args .m) (at-start .pre .0) (at-start .pre .1)
 
 pub note-spec : {M : Type 1} → statement M
 note-spec =

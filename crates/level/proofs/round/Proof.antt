@@ -17,8 +17,8 @@ after-close c = c .before .before .before .before .before .before .before .befor
 abbrev after-strip : tie.After-build-arg3 → tie.After-strip
 after-strip c = c .before .before .before .before
 
-abbrev after-build2 : tie.After-back-arg4 → tie.After-build2
-after-build2 c = c .before .before .before .before .before .before
+abbrev after-second-build : tie.After-back-arg4 → tie.After-build2
+after-second-build c = c .before .before .before .before .before .before
 
 abbrev after-back : tie.After-slice-known16 → tie.After-back
 after-back c = c .before .before .before .before .before .before
@@ -60,13 +60,13 @@ build-requires-2 c κs =
 
 back-requires : tie.Need-back-requires
 back-requires c κs =
-    let at-strip = after-strip (after-build2 c .before) in
+    let at-strip = after-strip (after-second-build c .before) in
     let at-close = after-close (at-strip .before) in
     let at-start = start (after-build (at-close .before) .before) in (
       at-start .pre .sound-dels,
       (
         ready-back (at-start .pre .lengths) (at-close .close .ensures .whole) (at-strip .strip .ensures)
-            (after-build2 c .build2 .ensures),
+            (after-second-build c .build2 .ensures),
         at-start .pre .names-deleted,
       ),
     )
@@ -79,7 +79,7 @@ same-length-2 c = after-deleted (c .before) .deleted .given
 
 same-length-3 : tie.Need-same-length-3
 same-length-3 c =
-    let at-close = after-close (after-strip (after-build2 (after-back c .before) .before) .before) in
+    let at-close = after-close (after-strip (after-second-build (after-back c .before) .before) .before) in
     at-close .close .ensures .whole .size ∙ sym (start (after-build (at-close .before) .before) .pre .lengths .size-x)
 
 same-length-4 : tie.Need-same-length-4
@@ -96,7 +96,7 @@ same-length-7 c = c .before .down .given
 
 returns : tie.Need-returns
 returns c =
-    let at-strip = after-strip (after-build2 (after-back c .before) .before) in
+    let at-strip = after-strip (after-second-build (after-back c .before) .before) in
     let at-close = after-close (at-strip .before) in
     let at-build = after-build (at-close .before) in
     rounded (start (at-build .before) .pre .lengths) (at-build .build .ensures) (at-close .close .ensures)

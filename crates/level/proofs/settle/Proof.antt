@@ -17,7 +17,8 @@ Inv-loop adds dels added₀ deleted₀ subject table bad s u₀ x₀ y₀ d₀ s
 abbrev μ-loop : tie.MeasureT-loop
 μ-loop adds dels added₀ deleted₀ subject table bad s u₀ x₀ y₀ d₀ start up₀ end down₀ added deleted u x y d up down = countBelow (direct u) 160
 
--- The places that the answers name, each seen from a later one.
+-- The places that the answers name, each seen from a later one. `this-turn` and `entry` are the head of the loop and the start, seen from
+-- behind the round.
 abbrev start : tie.After-slice-known8 Inv-loop μ-loop → tie.Start Inv-loop μ-loop
 start c = c .before .before .before .before .before .before .before .before .before .before .before .before .before
 
@@ -27,17 +28,26 @@ loop-head c = c .before .before .before .before .before .before .before .before
 abbrev after-deleted : tie.After-lacks-arg2 Inv-loop μ-loop → tie.After-deleted Inv-loop μ-loop
 after-deleted c = c .before .before .before .before .before .before .before .before .before .before .before .before .before
 
-abbrev after-round : tie.After-lacks Inv-loop μ-loop → tie.After-round Inv-loop μ-loop
-after-round c = after-deleted (c .before) .before .before .before
+abbrev after-added : tie.After-lacks-arg2 Inv-loop μ-loop → tie.After-added Inv-loop μ-loop
+after-added c = after-deleted c .before .before
 
-abbrev after-added : tie.Then2 Inv-loop μ-loop → tie.After-added Inv-loop μ-loop
-after-added c = after-deleted (c .before .before .before .before .before) .before .before
+abbrev after-round : tie.After-lacks-arg2 Inv-loop μ-loop → tie.After-round Inv-loop μ-loop
+after-round c = after-added c .before
 
-abbrev else1 : tie.After-lacks2 Inv-loop μ-loop → tie.Else1 Inv-loop μ-loop
-else1 c = c .before .before
+abbrev this-turn : tie.After-lacks-arg2 Inv-loop μ-loop → tie.At-loop Inv-loop μ-loop
+this-turn c = loop-head (after-round c .before)
 
-abbrev else2 : tie.After-slice-known16 Inv-loop μ-loop → tie.Else2 Inv-loop μ-loop
-else2 c = c .before .before .before .before .before
+abbrev entry : tie.After-lacks-arg2 Inv-loop μ-loop → tie.Start Inv-loop μ-loop
+entry c = start (this-turn c .before)
+
+abbrev not-settled : tie.After-lacks2 Inv-loop μ-loop → tie.Else1 Inv-loop μ-loop
+not-settled c = c .before .before
+
+abbrev after-lacks : tie.After-lacks2 Inv-loop μ-loop → tie.After-lacks Inv-loop μ-loop
+after-lacks c = not-settled c .before
+
+abbrev none-lacking : tie.After-slice-known16 Inv-loop μ-loop → tie.Else2 Inv-loop μ-loop
+none-lacking c = c .before .before .before .before .before
 
 loop-holds : tie.Need-loop-holds Inv-loop μ-loop
 loop-holds c = (
@@ -58,127 +68,126 @@ round-requires c κs =
     }
 
 lacks-requires : tie.Need-lacks-requires Inv-loop μ-loop
-lacks-requires c κs = (
-  omega (arith, after-deleted c .before .before .before .round .ensures .sizes .size-x),
-  omega (arith, after-deleted c .before .before .before .round .ensures .sizes .size-y),
-)
+lacks-requires c κs =
+    let sizes = after-round c .round .ensures .sizes in
+    (omega (arith, sizes .size-x), omega (arith, sizes .size-y))
 
 same-length : tie.Need-same-length Inv-loop μ-loop
 same-length c =
-    let at-loop = loop-head (after-round (c .before) .before) in
-    (after-deleted (c .before .before) .before .before .added .given ∙ at-loop .loop .inv .1 .0) ∙ sym (start (at-loop .before) .pre .names-added)
+    let lent = c .before .before in
+    after-added lent .added .given ∙ this-turn lent .loop .inv .1 .0 ∙ sym (entry lent .pre .names-added)
 
 same-length-2 : tie.Need-same-length-2 Inv-loop μ-loop
 same-length-2 c =
-    let at-loop = loop-head (after-round (c .before) .before) in
-    (after-deleted (c .before .before) .deleted .given ∙ at-loop .loop .inv .1 .1) ∙ sym (start (at-loop .before) .pre .names-deleted)
+    let lent = c .before .before in
+    after-deleted lent .deleted .given ∙ this-turn lent .loop .inv .1 .1 ∙ sym (entry lent .pre .names-deleted)
 
 same-length-3 : tie.Need-same-length-3 Inv-loop μ-loop
 same-length-3 c =
-    let at-loop = loop-head (after-round (c .before) .before) in
-    at-loop .loop .inv .0 .sizes .size-u ∙ sym (start (at-loop .before) .pre .lengths .size-u)
+    let lent = c .before .before in
+    this-turn lent .loop .inv .0 .sizes .size-u ∙ sym (entry lent .pre .lengths .size-u)
 
 same-length-4 : tie.Need-same-length-4 Inv-loop μ-loop
 same-length-4 c =
-    let at-round = after-round (c .before) in
-    at-round .round .ensures .sizes .size-x ∙ sym (start (loop-head (at-round .before) .before) .pre .lengths .size-x)
+    let lent = c .before .before in
+    after-round lent .round .ensures .sizes .size-x ∙ sym (entry lent .pre .lengths .size-x)
 
 same-length-5 : tie.Need-same-length-5 Inv-loop μ-loop
 same-length-5 c =
-    let at-round = after-round (c .before) in
-    at-round .round .ensures .sizes .size-y ∙ sym (start (loop-head (at-round .before) .before) .pre .lengths .size-y)
+    let lent = c .before .before in
+    after-round lent .round .ensures .sizes .size-y ∙ sym (entry lent .pre .lengths .size-y)
 
 same-length-6 : tie.Need-same-length-6 Inv-loop μ-loop
 same-length-6 c =
-    let at-round = after-round (c .before) in
-    at-round .round .ensures .sizes .size-d ∙ sym (start (loop-head (at-round .before) .before) .pre .lengths .size-d)
+    let lent = c .before .before in
+    after-round lent .round .ensures .sizes .size-d ∙ sym (entry lent .pre .lengths .size-d)
 
 same-length-7 : tie.Need-same-length-7 Inv-loop μ-loop
 same-length-7 c =
-    let at-round = after-round (c .before) in
-    at-round .round .ensures .length-up ∙ loop-head (at-round .before) .loop .inv .0 .length-up
+    let lent = c .before .before in
+    after-round lent .round .ensures .length-up ∙ this-turn lent .loop .inv .0 .length-up
 
 same-length-8 : tie.Need-same-length-8 Inv-loop μ-loop
 same-length-8 c =
-    let at-round = after-round (c .before) in
-    at-round .round .ensures .length-down ∙ loop-head (at-round .before) .loop .inv .0 .length-down
+    let lent = c .before .before in
+    after-round lent .round .ensures .length-down ∙ this-turn lent .loop .inv .0 .length-down
 
 returns : tie.Need-returns Inv-loop μ-loop
 returns c =
-    let at-round = after-round (c .before) in
-    result-found (settled (loop-head (at-round .before) .loop .inv .0) (at-round .round .ensures) (c .before .lacks .ensures)
-    (c .if1 .taken))
+    let lent = c .before .before in
+    result-found (settled (this-turn lent .loop .inv .0) (after-round lent .round .ensures) (c .before .lacks .ensures) (c .if1 .taken))
 
 lacks-requires-2 : tie.Need-lacks-requires-2 Inv-loop μ-loop
 lacks-requires-2 c κs =
-    let at-round = after-round (c .before .before) in
-    (omega (arith, at-round .round .ensures .sizes .size-s), omega (arith, at-round .round .ensures .sizes .size-y))
+    let sizes = after-round (c .before .before .before) .round .ensures .sizes in
+    (omega (arith, sizes .size-s), omega (arith, sizes .size-y))
 
 same-length-9 : tie.Need-same-length-9 Inv-loop μ-loop
 same-length-9 c =
-    let at-loop = loop-head (after-added c .before .before) in
-    (after-added c .added .given ∙ at-loop .loop .inv .1 .0) ∙ sym (start (at-loop .before) .pre .names-added)
+    let lent = after-lacks (c .before) .before in
+    after-added lent .added .given ∙ this-turn lent .loop .inv .1 .0 ∙ sym (entry lent .pre .names-added)
 
 same-length-10 : tie.Need-same-length-10 Inv-loop μ-loop
 same-length-10 c =
-    let at-loop = loop-head (after-added c .before .before) in
-    (after-deleted (else1 (c .before) .before .before) .deleted .given ∙ at-loop .loop .inv .1 .1) ∙ sym (start (at-loop .before) .pre .names-deleted)
+    let lent = after-lacks (c .before) .before in
+    after-deleted lent .deleted .given ∙ this-turn lent .loop .inv .1 .1 ∙ sym (entry lent .pre .names-deleted)
 
 same-length-11 : tie.Need-same-length-11 Inv-loop μ-loop
 same-length-11 c =
-    let at-loop = loop-head (after-added c .before .before) in
-    at-loop .loop .inv .0 .sizes .size-u ∙ sym (start (at-loop .before) .pre .lengths .size-u)
+    let lent = after-lacks (c .before) .before in
+    this-turn lent .loop .inv .0 .sizes .size-u ∙ sym (entry lent .pre .lengths .size-u)
 
 same-length-12 : tie.Need-same-length-12 Inv-loop μ-loop
 same-length-12 c =
-    after-added c .before .round .ensures .sizes .size-x ∙ sym (start (loop-head (after-added c .before .before) .before) .pre .lengths .size-x)
+    let lent = after-lacks (c .before) .before in
+    after-round lent .round .ensures .sizes .size-x ∙ sym (entry lent .pre .lengths .size-x)
 
 same-length-13 : tie.Need-same-length-13 Inv-loop μ-loop
 same-length-13 c =
-    after-added c .before .round .ensures .sizes .size-y ∙ sym (start (loop-head (after-added c .before .before) .before) .pre .lengths .size-y)
+    let lent = after-lacks (c .before) .before in
+    after-round lent .round .ensures .sizes .size-y ∙ sym (entry lent .pre .lengths .size-y)
 
 same-length-14 : tie.Need-same-length-14 Inv-loop μ-loop
 same-length-14 c =
-    after-added c .before .round .ensures .sizes .size-d ∙ sym (start (loop-head (after-added c .before .before) .before) .pre .lengths .size-d)
+    let lent = after-lacks (c .before) .before in
+    after-round lent .round .ensures .sizes .size-d ∙ sym (entry lent .pre .lengths .size-d)
 
 same-length-15 : tie.Need-same-length-15 Inv-loop μ-loop
 same-length-15 c =
-    after-added c .before .round .ensures .length-up ∙ loop-head (after-added c .before .before) .loop .inv .0 .length-up
+    let lent = after-lacks (c .before) .before in
+    after-round lent .round .ensures .length-up ∙ this-turn lent .loop .inv .0 .length-up
 
 same-length-16 : tie.Need-same-length-16 Inv-loop μ-loop
 same-length-16 c =
-    after-added c .before .round .ensures .length-down ∙ loop-head (after-added c .before .before) .loop .inv .0 .length-down
+    let lent = after-lacks (c .before) .before in
+    after-round lent .round .ensures .length-down ∙ this-turn lent .loop .inv .0 .length-down
 
 returns-2 : tie.Need-returns-2 Inv-loop μ-loop
 returns-2 c =
+    let lent = after-lacks (c .before) .before in
     result-none _ _ _ _ _ _ _ _ _
-    (stuck (loop-head (after-added c .before .before) .loop .inv .0) (after-added c .before .round .ensures)
-    (c .before .lacks2 .ensures) (c .if2 .taken))
+    (stuck (this-turn lent .loop .inv .0) (after-round lent .round .ensures) (c .before .lacks2 .ensures) (c .if2 .taken))
 
 keep-requires : tie.Need-keep-requires Inv-loop μ-loop
 keep-requires c κs =
-    let at-round = after-round (else1 (c .before .before .before) .before) in
-    (at-round .round .ensures .sizes .size-y, loop-head (at-round .before) .loop .inv .0 .sizes .size-u)
+    let lent = after-lacks (c .before .before .before) .before in
+    (after-round lent .round .ensures .sizes .size-y, this-turn lent .loop .inv .0 .sizes .size-u)
 
 loop-less : tie.Need-loop-less Inv-loop μ-loop
 loop-less c =
-    let at-else1 = else1 (else2 c .before) in
-    let at-round = after-round (at-else1 .before) in
-    smaller (loop-head (at-round .before) .loop .inv .0) (at-round .round .ensures) (at-else1 .before .lacks .ensures)
-    (at-else1 .if1 .left) (c .before .before .keep .ensures)
+    let at-lacks2 = none-lacking c .before in
+    let at-lacks = after-lacks at-lacks2 in
+    smaller (this-turn (at-lacks .before) .loop .inv .0) (after-round (at-lacks .before) .round .ensures) (at-lacks .lacks .ensures)
+    (not-settled at-lacks2 .if1 .left) (c .before .before .keep .ensures)
 
 loop-again : tie.Need-loop-again Inv-loop μ-loop
 loop-again c =
-    let at-else1 = else1 (else2 c .before) in
-    let at-round = after-round (at-else1 .before) in
-    let at-deleted = after-deleted (at-else1 .before .before) in
-    let at-loop = loop-head (at-round .before) in (
-      go-on (at-loop .loop .inv .0) (at-round .round .ensures) (else2 c .before .lacks2 .ensures) (else2 c .if2 .left)
+    let at-lacks2 = none-lacking c .before in
+    let lent = after-lacks at-lacks2 .before in
+    let inv = this-turn lent .loop .inv in (
+      go-on (inv .0) (after-round lent .round .ensures) (at-lacks2 .lacks2 .ensures) (none-lacking c .if2 .left)
           (c .before .before .keep .ensures),
-      (
-        (at-deleted .before .before .added .given ∙ at-loop .loop .inv .1 .0),
-        (at-deleted .deleted .given ∙ at-loop .loop .inv .1 .1),
-      ),
+      (after-added lent .added .given ∙ inv .1 .0, after-deleted lent .deleted .given ∙ inv .1 .1),
     )
 
 pub settle-spec : {M : Type 1} → statement M
