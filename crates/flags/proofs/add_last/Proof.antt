@@ -1,4 +1,5 @@
--- `flags::add_last` meets its contract: the first f flags of the last row are written, the others are as they were; the measure is how many are left. Assumes nothing.
+-- `flags::add_last` meets its contract: the first f flags of the last row are written, the others are as they were; the measure is how many
+-- are left. Assumes nothing.
 use mathlib.Core.Path.{refl}
 use mathlib.Core.Bool.{false, _||_}
 use Prim.Native.Nat.{_+_, _*_, _≤_, _-_}

@@ -10,8 +10,8 @@ use Rattle.flags.proofs.add_want.Tie as tie
 abbrev start : tie.Else1 → tie.Start
 start c = c .before .before .before
 
-abbrev else1 : tie.After-bad → tie.Else1
-else1 c = c .before .before .before
+abbrev attribute-known : tie.After-bad → tie.Else1
+attribute-known c = c .before .before .before
 
 cast-a : tie.Need-cast-a
 cast-a c = search needs
@@ -30,8 +30,8 @@ same-length c = c .before .before .add-lacking .ensures .size
 
 returns-2 : tie.Need-returns-2
 returns-2 c =
-    let at-else1 = else1 (c .before) in
-    want-added (start at-else1 .args .w) (at-else1 .if1 .left) (c .before .before .add-lacking .ensures)
+    let at-known = attribute-known (c .before) in
+    want-added (start at-known .args .w) (at-known .if1 .left) (c .before .before .add-lacking .ensures)
 
 pub add-want-spec : {M : Type 1} → statement M
 add-want-spec =

@@ -25,8 +25,8 @@ after-clear-flags c = c .before .before .before
 abbrev loop-head : tie.Then1 Inv-loop μ-loop → tie.At-loop Inv-loop μ-loop
 loop-head c = c .before .before .before
 
-abbrev then1 : tie.After-table2 Inv-loop μ-loop → tie.Then1 Inv-loop μ-loop
-then1 c = c .before .before .before
+abbrev junior-found : tie.After-table2 Inv-loop μ-loop → tie.Then1 Inv-loop μ-loop
+junior-found c = c .before .before .before
 
 mul-direct : tie.Need-mul-direct Inv-loop μ-loop
 mul-direct c = search needs
@@ -65,13 +65,13 @@ loop-less c = search needs
 
 loop-again : tie.Need-loop-again Inv-loop μ-loop
 loop-again c =
-    let at-then1 = then1 (c .before) in
-    let at-loop = loop-head at-then1 in
-    let start = entry (after-clear-flags at-loop .before) .args in (
+    let at-junior = junior-found (c .before) in
+    let at-loop = loop-head at-junior in
+    let start = entry (after-clear-flags at-loop .before) .args in
+    let j = at-loop .loop .j in
+    let is-junior = junior-member (start .juniors .now) (start .k) j ∙ sym (at-junior .before .has .ensures) ∙ at-junior .if1 .taken in (
       omega arith,
-      juniors-add (start .juniors .now) (start .k) (start .rows .now) (at-loop .loop .j)
-          (junior-member (start .juniors .now) (start .k)
-          (at-loop .loop .j) ∙ sym (at-then1 .before .has .ensures) ∙ at-then1 .if1 .taken) (at-loop .loop .inv .1)
+      juniors-add (start .juniors .now) (start .k) (start .rows .now) j is-junior (at-loop .loop .inv .1)
           (c .before .before .add-last .ensures),
     )
 
@@ -83,13 +83,11 @@ loop-less-2 c = search needs
 
 loop-again-2 : tie.Need-loop-again-2 Inv-loop μ-loop
 loop-again-2 c =
-    let start = entry (after-clear-flags (c .before .before .before) .before) .args in (
-      omega arith,
-      juniors-skip (start .juniors .now) (start .k) (start .rows .now) (c .before .before .before .loop .j)
-          (junior-member (start .juniors .now) (start .k)
-          (c .before .before .before .loop .j) ∙ sym (c .before .has .ensures) ∙ c .if1 .left)
-          (c .before .before .before .loop .inv .1),
-    )
+    let at-loop = c .before .before .before in
+    let start = entry (after-clear-flags at-loop .before) .args in
+    let j = at-loop .loop .j in
+    let no-junior = junior-member (start .juniors .now) (start .k) j ∙ sym (c .before .has .ensures) ∙ c .if1 .left in
+    (omega arith, juniors-skip (start .juniors .now) (start .k) (start .rows .now) j no-junior (at-loop .loop .inv .1))
 
 same-length : tie.Need-same-length Inv-loop μ-loop
 same-length c = c .before .loop .inv .1 .size ∙ after-clear-flags (c .before) .clear-flags .ensures .size

@@ -60,7 +60,9 @@ loop-again c =
     )
 
 returns-2 : tie.Need-returns-2 Inv-loop μ-loop
-returns-2 c = let last : c .before .loop .d ≡ 32 = omega (arith, c .before .loop .inv .0, c .loop-test .left) in sym (ap (anyBelow _) (sym last) ∙ c .before .loop .inv .1)
+returns-2 c =
+    let last : c .before .loop .d ≡ 32 = omega (arith, c .before .loop .inv .0, c .loop-test .left) in
+    sym (ap (anyBelow _) (sym last) ∙ c .before .loop .inv .1)
 
 pub do-listed-reach-spec : {M : Type 1} → statement M
 do-listed-reach-spec =

@@ -11,7 +11,10 @@ do-listed-reach-requires c κs = search needs
 
 returns : tie.Need-returns
 unfolding contentsOf
-returns c = let start = c .before .before .before in c .do-listed-reach .ensures ∙ below-same (contentsOf (start .args .b)) (start .args .rows .now) (start .args .c) (start .pre .0) (start .pre .1 .1)
+returns c =
+    let start = c .before .before .before in
+    c .do-listed-reach .ensures
+    ∙ below-same (contentsOf (start .args .b)) (start .args .rows .now) (start .args .c) (start .pre .0) (start .pre .1 .1)
 
 pub is-below-listed-spec : {M : Type 1} → statement M
 is-below-listed-spec = tie.close (tie.spec do-listed-reach-requires returns)

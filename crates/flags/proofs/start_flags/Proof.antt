@@ -13,17 +13,14 @@ start c = c .before .before .before .before
 abbrev after-clear-flags : tie.After-slice-known2 → tie.After-clear-flags
 after-clear-flags c = c .before .before
 
-abbrev after-clear-flags-from-else3 : tie.Else3 → tie.After-clear-flags
-after-clear-flags-from-else3 c = c .before .before .before .before .before
+abbrev crew-placed : tie.After-slice-known3 → tie.Else2
+crew-placed c = c .before .before .before .before
 
-abbrev else2 : tie.After-slice-known3 → tie.Else2
-else2 c = c .before .before .before .before
+abbrev person-placed : tie.After-write-values2 → tie.Else3
+person-placed c = c .before .before
 
-abbrev else3 : tie.After-write-values2 → tie.Else3
-else3 c = c .before .before
-
-abbrev after-write-values2 : tie.After-slice-known5 → tie.After-write-values2
-after-write-values2 c = c .before .before .before .before .before .before
+abbrev after-person-values : tie.After-slice-known5 → tie.After-write-values2
+after-person-values c = c .before .before .before .before .before .before
 
 clear-flags-requires : tie.Need-clear-flags-requires
 clear-flags-requires c κs = omega (arith, c .before .before .before .pre)
@@ -51,14 +48,14 @@ write-values-requires c κs =
 
 same-length-2 : tie.Need-same-length-2
 same-length-2 c =
-    c .before .before .write-values .ensures .size ∙ after-clear-flags (else2 c .before .before) .clear-flags .ensures .size
+    c .before .before .write-values .ensures .size ∙ after-clear-flags (crew-placed c .before .before) .clear-flags .ensures .size
 
 returns-2 : tie.Need-returns-2
 returns-2 c =
-    let at-clear-flags = after-clear-flags (else2 c .before .before) in
+    let at-clear-flags = after-clear-flags (crew-placed c .before .before) in
     let at-start = start at-clear-flags in
     start-crew (at-start .args .facts .now) (at-start .args .crews) (at-start .args .person) (at-start .args .k)
-    (at-clear-flags .clear-flags .ensures) (else2 c .before .if1 .taken) (else2 c .if2 .left)
+    (at-clear-flags .clear-flags .ensures) (crew-placed c .before .if1 .taken) (crew-placed c .if2 .left)
     (c .before .before .write-values .ensures)
 
 cast-p : tie.Need-cast-p
@@ -79,8 +76,9 @@ mul-write-values-2 c = search needs
 
 write-values-requires-2 : tie.Need-write-values-requires-2
 write-values-requires-2 c κs =
-    let at-clear-flags = after-clear-flags-from-else3 (c .before) in
-    (omega (arith, c .before .if3 .left), at-clear-flags .clear-flags .ensures .size ∙ start at-clear-flags .pre)
+    let placed = c .before in
+    let at-clear-flags = after-clear-flags (placed .before .before .before) in
+    (omega (arith, placed .if3 .left), at-clear-flags .clear-flags .ensures .size ∙ start at-clear-flags .pre)
 
 mul-write-set : tie.Need-mul-write-set
 mul-write-set c = search needs
@@ -90,9 +88,9 @@ add-write-set c = search needs
 
 write-set-requires : tie.Need-write-set-requires
 write-set-requires c κs =
-    let at-else3 = else3 (c .before .before .before) in
-    let at-clear-flags = after-clear-flags-from-else3 at-else3 in (
-      omega (arith, at-else3 .if3 .left),
+    let at-placed = person-placed (c .before .before .before) in
+    let at-clear-flags = after-clear-flags (at-placed .before .before .before) in (
+      omega (arith, at-placed .if3 .left),
       (
         omega arith,
         omega (
@@ -106,18 +104,18 @@ write-set-requires c κs =
 
 same-length-4 : tie.Need-same-length-4
 same-length-4 c =
-    let at-write-values2 = after-write-values2 c in
-    let at-clear-flags = after-clear-flags-from-else3 (at-write-values2 .before .before) in
-    c .before .before .write-set .ensures .size ∙ at-write-values2 .write-values2 .ensures .size ∙ at-clear-flags .clear-flags .ensures .size
+    let at-values = after-person-values c in
+    let at-clear-flags = after-clear-flags (person-placed at-values .before .before .before) in
+    c .before .before .write-set .ensures .size ∙ at-values .write-values2 .ensures .size ∙ at-clear-flags .clear-flags .ensures .size
 
 returns-4 : tie.Need-returns-4
 returns-4 c =
-    let at-else3 = else3 (after-write-values2 c) in
-    let at-clear-flags = after-clear-flags-from-else3 (after-write-values2 c .before .before) in
+    let at-placed = person-placed (after-person-values c) in
+    let at-clear-flags = after-clear-flags (at-placed .before .before .before) in
     let at-start = start at-clear-flags in
     start-person (at-start .args .facts .now) (at-start .args .crews) (at-start .args .person) (at-start .args .k)
-    (at-clear-flags .clear-flags .ensures) (at-else3 .before .before .if1 .left) (at-else3 .if3 .left)
-    (after-write-values2 c .write-values2 .ensures) (c .before .before .write-set .ensures)
+    (at-clear-flags .clear-flags .ensures) (at-placed .before .before .if1 .left) (at-placed .if3 .left)
+    (after-person-values c .write-values2 .ensures) (c .before .before .write-set .ensures)
 
 pub start-flags-spec : {M : Type 1} → statement M
 start-flags-spec =
