@@ -69,15 +69,16 @@ loop-again : tie.Need-loop-again Inv-loop μ-loop
 loop-again c =
     let at-is-adding = after-is-adding (c .before) in
     let at-loop-turn = loop-turn (at-is-adding .before) in
-    let start = entry (at-loop-turn .before) in
-    let i = at-loop-turn .before .loop .i in
+    let at-loop = at-loop-turn .before in
+    let start = entry at-loop in
+    let i = at-loop .loop .i in
     let from = start .args .from in
-    let five : 5 * (from + i) + 5 - 5 * (from + i) ≡ 5 = omega arith in (
+    let taken = 5 * (from + i) + 5 - 5 * (from + i) in
+    let five : taken ≡ 5 = omega arith in (
       omega (arith, at-loop-turn .loop-test .taken),
-      carry-more (start .args .ledger .now) (at-loop-turn .before .loop .ledger) _
-          (start .args .draft .now) from i (5 * (from + i) + 5 - 5 * (from + i)) _ _
+      carry-more (start .args .ledger .now) (at-loop .loop .ledger) _ (start .args .draft .now) from i taken _ _
           (omega (arith, at-loop-turn .loop-test .taken, start .pre)) five (at-is-adding .before .request-of .ensures)
-          (at-is-adding .is-adding .ensures) (c .before .before .put-fact .ensures) (at-loop-turn .before .loop .inv .1),
+          (at-is-adding .is-adding .ensures) (c .before .before .put-fact .ensures) (at-loop .loop .inv .1),
     )
 
 same-length : tie.Need-same-length Inv-loop μ-loop

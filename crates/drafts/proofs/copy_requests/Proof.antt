@@ -48,14 +48,23 @@ loop-less c = search needs
 
 loop-again : tie.Need-loop-again Inv-loop μ-loop
 loop-again c =
-    let start = c .before .before .before in
-    (omega (arith, c .before .loop-test .taken), (simp length-set (c .before .before .loop .inv .1 .0), copy-more (start .args .out .now) (c .before .before .loop .out) (start .args .draft .now) (5 * start .args .at) (5 * start .args .from) (c .before .before .loop .k) (omega (arith, c .before .loop-test .taken, start .pre .1)) (omega (arith, c .before .loop-test .taken, start .pre .0)) (c .before .before .loop .inv .1 .1)))
+    let loop-turn = c .before in
+    let at-loop = loop-turn .before in
+    let start = at-loop .before in
+    let copied = copy-more (start .args .out .now) (at-loop .loop .out) (start .args .draft .now) (5 * start .args .at) (5 * start .args .from)
+    (at-loop .loop .k) (omega (arith, loop-turn .loop-test .taken, start .pre .1)) (omega (arith, loop-turn .loop-test .taken, start .pre .0))
+    (at-loop .loop .inv .1 .1) in
+    (omega (arith, loop-turn .loop-test .taken), (simp length-set (at-loop .loop .inv .1 .0), copied))
 
 same-length : tie.Need-same-length Inv-loop μ-loop
 same-length c = c .before .loop .inv .1 .0
 
 returns : tie.Need-returns Inv-loop μ-loop
-returns c = let start = c .before .before in copy-all (start .args .out .now) (c .before .loop .out) (start .args .draft .now) (start .args .at) (start .args .from) (start .args .n) (c .before .loop .k) (start .pre .0) (omega (arith, c .before .loop .inv .0, c .loop-test .left)) (c .before .loop .inv .1 .1)
+returns c =
+    let at-loop = c .before in
+    let start = at-loop .before in
+    copy-all (start .args .out .now) (at-loop .loop .out) (start .args .draft .now) (start .args .at) (start .args .from) (start .args .n)
+    (at-loop .loop .k) (start .pre .0) (omega (arith, at-loop .loop .inv .0, c .loop-test .left)) (at-loop .loop .inv .1 .1)
 
 pub copy-requests-spec : {M : Type 1} → statement M
 copy-requests-spec =
