@@ -31,9 +31,9 @@ returns c =
 
 is-reached-requires : tie.Need-is-reached-requires
 is-reached-requires c κs =
-    let else1 = c .before .before in
-    let searched = after-search (else1 .before) in
-    let w = searched .search .ensures .written (not-false _ (else1 .if1 .left)) in
+    let run-found = c .before .before in
+    let searched = after-search (run-found .before) in
+    let w = searched .search .ensures .written (not-false _ (run-found .if1 .left)) in
     ((start searched .pre .0, (w .few-up, w .most-down)), (w .size-up, w .size-down))
 
 same-length-3 : tie.Need-same-length-3
@@ -45,10 +45,10 @@ same-length-4 c = search needs
 returns-2 : tie.Need-returns-2
 unfolding contentsOf
 returns-2 c =
-    let else1 = c .before .before .before in
-    let searched = after-search (else1 .before) in
+    let run-found = c .before .before .before in
+    let searched = after-search (run-found .before) in
     found-best (contentsOf (start searched .args .b)) (start searched .pre .0) (c .is-reached .result)
-    (searched .search .ensures .written (not-false _ (else1 .if1 .left))) (c .is-reached .ensures)
+    (searched .search .ensures .written (not-false _ (run-found .if1 .left))) (c .is-reached .ensures)
 
 pub best-plan-spec : {M : Type 1} → statement M
 best-plan-spec =

@@ -26,7 +26,9 @@ mul-result-2 : tie.Need-mul-result-2
 mul-result-2 c = omega (arith, values-few (c .before .before .before .args .z) (c .before .before .before .pre))
 
 add-result-2 : tie.Need-add-result-2
-add-result-2 c = omega (arith, values-few (c .before .before .before .args .z) (c .before .before .before .pre), c .before .before .before .pre .crews-most)
+add-result-2 c =
+    let start = c .before .before .before in
+    omega (arith, values-few (start .args .z) (start .pre), start .pre .crews-most)
 
 returns : tie.Need-returns
 unfolding factCount

@@ -18,11 +18,11 @@ use Rattle.planner.proofs.is_reached.Tie as tie
 abbrev entry : tie.After-ledger2 → tie.Start
 entry c = c .before .before .before .before
 
-abbrev entry-from-ledger4 : tie.After-ledger4 → tie.Start
-entry-from-ledger4 c = c .before .before .before .before .before .before .before
+abbrev after-additions : tie.After-ledger4 → tie.After-carry-out
+after-additions c = c .before .before
 
-abbrev after-carry-out : tie.After-is-met → tie.After-carry-out
-after-carry-out c = c .before .before .before .before .before .before
+abbrev after-deletions : tie.After-is-met → tie.After-carry-out2
+after-deletions c = c .before .before .before
 
 sub-n : tie.Need-sub-n
 sub-n c = omega (arith, c .before .before .pre .0 .1 .1)
@@ -37,23 +37,25 @@ slice-aggregate-carry-out-2 : tie.Need-slice-aggregate-carry-out-2
 slice-aggregate-carry-out-2 c = search needs
 
 carry-out-requires-2 : tie.Need-carry-out-requires-2
-carry-out-requires-2 c κs = omega (arith, entry-from-ledger4 c .pre .0 .1 .1, entry-from-ledger4 c .pre .1 .1)
+carry-out-requires-2 c κs =
+    let start = entry (after-additions c .before) in
+    omega (arith, start .pre .0 .1 .1, start .pre .1 .1)
 
 slice-aggregate-is-met : tie.Need-slice-aggregate-is-met
 slice-aggregate-is-met c = search needs
 
 is-met-requires : tie.Need-is-met-requires
-is-met-requires c κs = entry-from-ledger4 (c .before .before .before) .pre .0 .0
+is-met-requires c κs = entry (after-additions (c .before .before .before) .before) .pre .0 .0
 
 returns : tie.Need-returns
 returns c =
-    let start = entry (after-carry-out c .before) in
-    c .is-met .ensures ∙ ap (λ (l : List ℕ). met (contentsOf (start .args .b)) (holds l))
-    (c .before .before .before .carry-out2 .ensures ∙ ap (λ (l : List ℕ). carried l
-    (map bytesOf (asks (start .args .down .now) (start .args .at) (5280 - start .args .at))))
-    (after-carry-out c .carry-out .ensures)
-    ∙ sym (carried-append (start .args .b .facts) (map bytesOf (asks (start .args .up .now) 0 (start .args .ups)))
-    (map bytesOf (asks (start .args .down .now) (start .args .at) (5280 - start .args .at)))))
+    let at-additions = after-additions (after-deletions c .before) in
+    let start = entry (at-additions .before) .args in
+    let additions = map bytesOf (asks (start .up .now) 0 (start .ups)) in
+    let deletions = map bytesOf (asks (start .down .now) (start .at) (5280 - start .at)) in
+    c .is-met .ensures ∙ ap (λ (l : List ℕ). met (contentsOf (start .b)) (holds l))
+    (after-deletions c .carry-out2 .ensures ∙ ap (λ (l : List ℕ). carried l deletions) (at-additions .carry-out .ensures)
+    ∙ sym (carried-append (start .b .facts) additions deletions))
 
 pub is-reached-spec : {M : Type 1} → statement M
 is-reached-spec =

@@ -12,8 +12,8 @@ start c = c .before .before .before
 abbrev after-read : tie.After-b → tie.After-read
 after-read c = c .before .before .before
 
-abbrev after-enum-told : tie.After-out → tie.After-enum-told
-after-enum-told c = c .before .before .before .before
+abbrev book-accepted : tie.After-out → tie.After-enum-told
+book-accepted c = c .before .before .before .before
 
 read-requires : tie.Need-read-requires
 read-requires c κs = search needs
@@ -42,11 +42,11 @@ same-length c = c .before .out .given
 
 returns-2 : tie.Need-returns-2
 returns-2 c =
-    let at-enum-told = after-enum-told (c .before) in
-    let at-start = start (at-enum-told .before .before) in
+    let at-accepted = book-accepted (c .before) in
+    let at-start = start (at-accepted .before .before) in
     promise-accepted (at-start .args .book .now) _ _ _
-    (read-accepted (at-start .args .book .now) (at-enum-told .before .before .read .result)
-    (at-enum-told .before .before .read .ensures) (at-enum-told .enum-told .given .1)) (c .before .before .plan-in .ensures)
+    (read-accepted (at-start .args .book .now) (at-accepted .before .before .read .result)
+    (at-accepted .before .before .read .ensures) (at-accepted .enum-told .given .1)) (c .before .before .plan-in .ensures)
 
 pub plan-spec : {M : Type 1} → statement M
 plan-spec =

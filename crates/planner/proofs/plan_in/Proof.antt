@@ -18,8 +18,8 @@ above-of h e = omega arith
 abbrev start : tie.After-fact-count → tie.Start
 start c = c .before .before .before
 
-abbrev else1 : tie.After-best-plan → tie.Else1
-else1 c = c .before .before .before
+abbrev buffer-long : tie.After-best-plan → tie.Else1
+buffer-long c = c .before .before .before
 
 abbrev planned : tie.After-give-arg → tie.After-best-plan
 planned c = c .before .before .before .before .before
@@ -57,7 +57,7 @@ give-requires : tie.Need-give-requires
 unfolding contentsOf
 give-requires c κs =
     let found = planned c .best-plan .ensures in
-    let long = above-of (else1 (planned c) .if1 .left) (else1 (planned c) .before .fact-count .ensures) in (
+    let long = above-of (buffer-long (planned c) .if1 .left) (buffer-long (planned c) .before .fact-count .ensures) in (
       (omega (arith, found .few-up), (omega (arith, found .most-down), omega (arith, found .few, long))),
       (omega arith, omega arith),
     )
@@ -70,8 +70,8 @@ unfolding contentsOf
 returns-2 c =
     let gave = c .before .before in
     let found = planned (gave .before) in
-    let long = above-of (else1 found .if1 .left) (else1 found .before .fact-count .ensures) in
-    let entry = start (else1 found .before) in
+    let long = above-of (buffer-long found .if1 .left) (buffer-long found .before .fact-count .ensures) in
+    let entry = start (buffer-long found .before) in
     answered-long (contentsOf (entry .args .b)) _ long
     (given-decided (contentsOf (entry .args .b)) (entry .pre) (found .best-plan .ensures) (entry .args .out .now) long (gave .give .ensures))
 
