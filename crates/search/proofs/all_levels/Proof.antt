@@ -17,48 +17,42 @@ none-found : {b : Contents} {up down : List ℕ} {found : Bool} {ups at : ℕ} �
 none-found e never = record { written = λ f. absurd (true≢false (sym f ∙ e)); stuck = λ f. never }
 
 -- The places that the answers name, each seen from a later one.
-abbrev after-fill-reach : tie.After-crew-levels-arg2 → tie.After-fill-reach
-after-fill-reach c = c .before .before .before .before .before .before .before .before .before .before .before .before .before
-
 abbrev entry : tie.After-reach → tie.Start
 entry c = c .before .before .before .before .before .before .before .before .before .before
 
-abbrev after-reach : tie.After-facts2 → tie.After-reach
-after-reach c = c .before .before .before .before .before .before
+abbrev after-fill-reach : tie.After-first-rows → tie.After-fill-reach
+after-fill-reach c = c .before .before .before
 
-abbrev reached : tie.After-reach3 → tie.After-fill-reach
-reached c = c .before .before .before .before .before .before .before .before .before
+abbrev after-first-rows : tie.After-reach3 → tie.After-first-rows
+after-first-rows c = c .before .before .before .before .before .before
 
-abbrev begun : tie.After-rows3 → tie.After-first-rows
-begun c = c .before .before .before .before .before .before .before
+abbrev lent-reach : tie.After-crew-levels-arg2 → tie.After-reach3
+lent-reach c = c .before .before .before .before
 
 abbrev start : tie.After-crew-levels-arg2 → tie.Start
-start c = entry (after-fill-reach c .before)
+start c = entry (after-fill-reach (after-first-rows (lent-reach c)) .before)
 
-abbrev after-first-rows : tie.After-table → tie.After-first-rows
-after-first-rows c = c .before .before .before .before .before .before .before .before
-
-abbrev after-table2 : tie.After-struct-known → tie.After-table2
-after-table2 c = c .before .before .before .before .before
+abbrev table-after-crews : tie.After-struct-known → tie.After-table2
+table-after-crews c = c .before .before .before .before .before
 
 abbrev after-crew-levels : tie.After-struct-known → tie.After-crew-levels
-after-crew-levels c = after-table2 c .before .before .before .before
+after-crew-levels c = table-after-crews c .before .before .before .before
 
-abbrev else1 : tie.After-table3 → tie.Else1
-else1 c = c .before .before .before
+abbrev up-after-crews : tie.After-struct-known → tie.After-up
+up-after-crews c = c .before .before .before .before
+
+abbrev crews-found : tie.After-table3 → tie.Else1
+crews-found c = c .before .before .before
+
+abbrev up-after-person : tie.After-struct-known2 → tie.After-up2
+up-after-person c = c .before .before .before .before
 
 abbrev after-person-level : tie.After-struct-known2 → tie.After-person-level
-after-person-level c = c .before .before .before .before .before .before
+after-person-level c = up-after-person c .before .before
 
-abbrev after-up : tie.Then1 → tie.After-up
-after-up c = c .before .before .before .before .before
-
-abbrev after-down : tie.After-struct-known2 → tie.After-down
-after-down c =
-    c .before .before .before .before .before .before .before .before .before .before .before .before .before .before .before
-
-abbrev after-down2 : tie.After-struct-known2 → tie.After-down2
-after-down2 c = c .before .before
+-- What the levels of the crews leave, seen from behind the level of the person.
+abbrev after-crews : tie.After-struct-known2 → tie.After-struct-known
+after-crews c = crews-found (after-person-level c .before .before .before) .before
 
 slice-aggregate-fill-reach : tie.Need-slice-aggregate-fill-reach
 slice-aggregate-fill-reach c = search needs
@@ -78,7 +72,7 @@ first-rows-requires c κs = refl
 
 slice-aggregate-crew-levels : tie.Need-slice-aggregate-crew-levels
 unfolding contentsOf
-slice-aggregate-crew-levels c = sym (entry (after-reach c) .pre .0 .0 .facts-room)
+slice-aggregate-crew-levels c = sym (entry (after-fill-reach (c .before .before) .before) .pre .0 .0 .facts-room)
 
 slice-aggregate-crew-levels-2 : tie.Need-slice-aggregate-crew-levels-2
 slice-aggregate-crew-levels-2 c = search needs
@@ -90,10 +84,10 @@ slice-aggregate-crew-levels-4 : tie.Need-slice-aggregate-crew-levels-4
 slice-aggregate-crew-levels-4 c = refl
 
 slice-aggregate-crew-levels-5 : tie.Need-slice-aggregate-crew-levels-5
-slice-aggregate-crew-levels-5 c = sym (reached c .fill-reach .ensures .0)
+slice-aggregate-crew-levels-5 c = sym (after-fill-reach (after-first-rows c) .fill-reach .ensures .0)
 
 slice-aggregate-crew-levels-6 : tie.Need-slice-aggregate-crew-levels-6
-slice-aggregate-crew-levels-6 c = sym (begun c .first-rows .ensures .size)
+slice-aggregate-crew-levels-6 c = sym (after-first-rows (c .before) .first-rows .ensures .size)
 
 slice-aggregate-crew-levels-7 : tie.Need-slice-aggregate-crew-levels-7
 slice-aggregate-crew-levels-7 c = refl
@@ -101,8 +95,8 @@ slice-aggregate-crew-levels-7 c = refl
 crew-levels-requires : tie.Need-crew-levels-requires
 unfolding contentsOf
 crew-levels-requires c κs =
-    let at-first-rows = after-first-rows (c .before .before) in
-    let reached = at-first-rows .before .before .before .fill-reach .ensures in (
+    let at-first-rows = after-first-rows (lent-reach c) in
+    let reached = after-fill-reach at-first-rows .fill-reach .ensures in (
       record {
         accepted = start c .pre .0 .0;
         moves = start c .pre .0 .1 .0;
@@ -122,7 +116,7 @@ crew-levels-requires c κs =
     )
 
 same-length : tie.Need-same-length
-same-length c = after-up c .up .given
+same-length c = up-after-crews (c .before) .up .given
 
 same-length-2 : tie.Need-same-length-2
 same-length-2 c = c .before .before .before .down .given
@@ -139,32 +133,32 @@ slice-aggregate-person-level c =
     sym (start (at-crew-levels .before) .pre .0 .0 .facts-room)
 
 slice-aggregate-person-level-2 : tie.Need-slice-aggregate-person-level-2
-slice-aggregate-person-level-2 c = sym (after-table2 (c .before .before .before) .before .rows4 .given)
+slice-aggregate-person-level-2 c = sym (table-after-crews (c .before .before .before) .before .rows4 .given)
 
 slice-aggregate-person-level-3 : tie.Need-slice-aggregate-person-level-3
-slice-aggregate-person-level-3 c = sym (after-table2 (else1 c .before) .table2 .given)
+slice-aggregate-person-level-3 c = sym (table-after-crews (crews-found c .before) .table2 .given)
 
 person-level-requires : tie.Need-person-level-requires
 unfolding contentsOf
 person-level-requires c κs =
-    let at-else1 = else1 (c .before .before) in
-    let at-crew-levels = after-crew-levels (at-else1 .before) in
+    let at-found = crews-found (c .before .before) in
+    let at-crew-levels = after-crew-levels (at-found .before) in
     let at-start = start (at-crew-levels .before) in (
       record {
         accepted = at-start .pre .0 .0;
         moves = at-start .pre .0 .1 .1;
-        rows = after-table2 (at-else1 .before) .table2 .given;
+        rows = table-after-crews (at-found .before) .table2 .given;
         same-facts = refl;
       },
-      at-crew-levels .crew-levels .ensures .settled (was-found _ (at-else1 .if1 .left)),
+      at-crew-levels .crew-levels .ensures .settled (was-found _ (at-found .if1 .left)),
     )
 
 same-length-3 : tie.Need-same-length-3
 same-length-3 c =
-    after-down2 (c .before) .before .before .up2 .given ∙ after-down (c .before) .before .before .up .given
+    up-after-person (c .before) .up2 .given ∙ up-after-crews (after-crews (c .before)) .up .given
 
 same-length-4 : tie.Need-same-length-4
-same-length-4 c = c .before .before .before .down2 .given ∙ after-down (c .before) .down .given
+same-length-4 c = c .before .before .before .down2 .given ∙ after-crews (c .before) .before .before .down .given
 
 returns-2 : tie.Need-returns-2
 returns-2 c =
@@ -181,11 +175,13 @@ add-t53 c =
 
 same-length-5 : tie.Need-same-length-5
 same-length-5 c =
-    after-down2 (c .before .before .before) .before .before .up2 .given ∙ after-down (c .before .before .before) .before .before .up .given
+    let at-person = c .before .before .before in
+    up-after-person at-person .up2 .given ∙ up-after-crews (after-crews at-person) .up .given
 
 same-length-6 : tie.Need-same-length-6
 same-length-6 c =
-    after-down2 (c .before .before .before) .down2 .given ∙ after-down (c .before .before .before) .down .given
+    let at-person = c .before .before .before in
+    at-person .before .before .down2 .given ∙ after-crews at-person .before .before .down .given
 
 returns-3 : tie.Need-returns-3
 returns-3 c =

@@ -38,7 +38,11 @@ loop-less : tie.Need-loop-less Inv-loop μ-loop
 loop-less c = search needs
 
 loop-again : tie.Need-loop-again Inv-loop μ-loop
-loop-again c = (omega arith, (simp length-set (c .before .loop .inv .1 .0), one-more (c .before .loop .u) (c .before .loop .f) (omega (arith, c .before .loop .inv .1 .0)) (c .before .loop .inv .1 .1)))
+loop-again c =
+    let at-loop = c .before in
+    let size = at-loop .loop .inv .1 .0 in
+    let one = one-more (at-loop .loop .u) (at-loop .loop .f) (omega (arith, size)) (at-loop .loop .inv .1 .1) in
+    (omega arith, (simp length-set size, one))
 
 same-length : tie.Need-same-length Inv-loop μ-loop
 same-length c = c .before .loop .inv .1 .0 ∙ sym (c .before .before .pre)

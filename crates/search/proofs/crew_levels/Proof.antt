@@ -21,8 +21,10 @@ small : {k crews : ℕ} → k < crews → crews ≤ 32 → k + 1 < 256
 small h b = omega arith
 
 -- After the last crew.
-scanned : {b : Contents} {k n : ℕ} {rows : List Bool} {ups at : ℕ} {up down : List ℕ} → Driving b k rows ups up at down → k ≡ n → Scanned b n rows up down true ups at
-scanned {b} {k} {n} {rows} {ups} {at} {up} {down} d e = record { settled = λ f. subst (λ (i : ℕ). Driving b i rows ups up at down) e d; stuck = λ f. absurd (true≢false f) }
+scanned : {b : Contents} {k n : ℕ} {rows : List Bool} {ups at : ℕ} {up down : List ℕ} → Driving b k rows ups up at down → k ≡ n
+    → Scanned b n rows up down true ups at
+scanned {b} {k} {n} {rows} {ups} {at} {up} {down} d e =
+    record { settled = λ f. subst (λ (i : ℕ). Driving b i rows ups up at down) e d; stuck = λ f. absurd (true≢false f) }
 
 abbrev Inv-loop : tie.InvT-loop
 Inv-loop b facts juniors adds dels added₀ deleted₀ reach rows₀ table₀ up₀ down₀ n ups₀ at₀ k₀ added deleted rows table up down ups at k =
@@ -47,6 +49,9 @@ after-deleted c = c .before .before .before .before .before .before .before .bef
 abbrev loop-head : tie.After-struct-known Inv-loop μ-loop → tie.At-loop Inv-loop μ-loop
 loop-head c = loop-turn (after-crew-level (after-deleted c) .before) .before
 
+abbrev entry : tie.After-struct-known Inv-loop μ-loop → tie.Start Inv-loop μ-loop
+entry c = start (loop-head c .before)
+
 abbrev after-up : tie.After-struct-known Inv-loop μ-loop → tie.After-up Inv-loop μ-loop
 after-up c = c .before .before .before .before
 
@@ -63,32 +68,32 @@ crew-level-requires c κs =
 same-length : tie.Need-same-length Inv-loop μ-loop
 same-length c =
     after-deleted (c .before) .before .before .added .given ∙
-    (loop-head (c .before) .loop .inv .1 .0 .0 .room-added ∙ sym (start (loop-head (c .before) .before) .pre .1 .0 .0 .room-added))
+    (loop-head (c .before) .loop .inv .1 .0 .0 .room-added ∙ sym (entry (c .before) .pre .1 .0 .0 .room-added))
 
 same-length-2 : tie.Need-same-length-2 Inv-loop μ-loop
 same-length-2 c =
     after-deleted (c .before) .deleted .given ∙
-    (loop-head (c .before) .loop .inv .1 .0 .0 .room-deleted ∙ sym (start (loop-head (c .before) .before) .pre .1 .0 .0 .room-deleted))
+    (loop-head (c .before) .loop .inv .1 .0 .0 .room-deleted ∙ sym (entry (c .before) .pre .1 .0 .0 .room-deleted))
 
 same-length-3 : tie.Need-same-length-3 Inv-loop μ-loop
 same-length-3 c =
     after-rows c .rows .given ∙
-    (loop-head (c .before) .loop .inv .1 .1 .rows-right .size ∙ sym (start (loop-head (c .before) .before) .pre .1 .1 .rows-right .size))
+    (loop-head (c .before) .loop .inv .1 .1 .rows-right .size ∙ sym (entry (c .before) .pre .1 .1 .rows-right .size))
 
 same-length-4 : tie.Need-same-length-4 Inv-loop μ-loop
 same-length-4 c =
     after-up (c .before) .before .before .table .given ∙
-    (loop-head (c .before) .loop .inv .1 .0 .1 .size ∙ sym (start (loop-head (c .before) .before) .pre .1 .0 .1 .size))
+    (loop-head (c .before) .loop .inv .1 .0 .1 .size ∙ sym (entry (c .before) .pre .1 .0 .1 .size))
 
 same-length-5 : tie.Need-same-length-5 Inv-loop μ-loop
 same-length-5 c =
     after-up (c .before) .up .given ∙
-    (loop-head (c .before) .loop .inv .1 .1 .size-up ∙ sym (start (loop-head (c .before) .before) .pre .1 .1 .size-up))
+    (loop-head (c .before) .loop .inv .1 .1 .size-up ∙ sym (entry (c .before) .pre .1 .1 .size-up))
 
 same-length-6 : tie.Need-same-length-6 Inv-loop μ-loop
 same-length-6 c =
     c .before .before .before .down .given ∙
-    (loop-head (c .before) .loop .inv .1 .1 .size-down ∙ sym (start (loop-head (c .before) .before) .pre .1 .1 .size-down))
+    (loop-head (c .before) .loop .inv .1 .1 .size-down ∙ sym (entry (c .before) .pre .1 .1 .size-down))
 
 returns : tie.Need-returns Inv-loop μ-loop
 returns c =

@@ -16,9 +16,8 @@ start c = c .before .before .before .before
 abbrev after-moves-listed : tie.After-all-levels-arg → tie.After-moves-listed
 after-moves-listed c = c .before .before .before .before .before .before .before
 
-abbrev after-moves-listed-from-all-levels-arg6 : tie.After-all-levels-arg6 → tie.After-moves-listed
-after-moves-listed-from-all-levels-arg6 c =
-    c .before .before .before .before .before .before .before .before .before .before .before .before
+abbrev lent-gains : tie.After-all-levels-arg6 → tie.After-all-levels-arg
+lent-gains c = c .before .before .before .before .before
 
 slice-aggregate-moves-listed : tie.Need-slice-aggregate-moves-listed
 slice-aggregate-moves-listed c = search needs
@@ -87,8 +86,9 @@ part-all-levels-end-3 c = search needs
 
 all-levels-requires : tie.Need-all-levels-requires
 all-levels-requires c κs =
-    let sides = after-moves-listed-from-all-levels-arg6 c .moves-listed .ensures in
-    let at-start = start (after-moves-listed-from-all-levels-arg6 c .before) in
+    let at-moves-listed = after-moves-listed (lent-gains c) in
+    let sides = at-moves-listed .moves-listed .ensures in
+    let at-start = start (at-moves-listed .before) in
     let pre = at-start .pre in
     let room = simp length-map at (at-start .good .0 .1 .1 .1 .1 .0 .1 .1 .1 .0 .1 .0 .1) in
     let crews = side-moves (at-start .args .b) (pre .0) room (sides .crew-more) (sides .crew-less) in
