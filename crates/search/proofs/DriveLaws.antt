@@ -61,7 +61,10 @@ module _ (b : Contents) (ok : Admitted b) where
   crew-none S a v c far =
       not-on (crewHolds (b .juniors) (λ f. tracked b f && S (numberOf b f)) a v c)
       (λ e. ⊎-elim
-      (λ d. let t = tracked-crew b (record { 0 = c }) a v (and-both (tracked b (CrewHolds (record { 0 = c }) a v)) (S (numberOf b (CrewHolds (record { 0 = c }) a v))) d .0) in omega (arith, t .0))
+      (λ d.
+      let own = CrewHolds (record { 0 = c }) a v in
+      let t = tracked-crew b (record { 0 = c }) a v (and-both (tracked b own) (S (numberOf b own)) d .0) in
+      omega (arith, t .0))
       (λ w. true≢false (sym (w .1 .0) ∙ no-juniors c (w .0) far))
       (crew-holds-cases (b .juniors) (λ f. tracked b f && S (numberOf b f)) a v c e))
 
@@ -95,7 +98,8 @@ module _ (b : Contents) (ok : Admitted b) where
         R = allFacts;
         us = [];
         ds = [];
-        upto = upto-first (depot-lawful b) (depot-local b) (λ g. refl) (bad b) (starts b) (bounds-first (depot b) (bad b) (starts b) allFacts within-all permitted-all) within-all;
+        upto = upto-first (depot-lawful b) (depot-local b) (λ g. refl) (bad b) (starts b)
+            (bounds-first (depot b) (bad b) (starts b) allFacts within-all permitted-all) within-all;
         full = λ g low high. le-leb (g / 160) (personLevel b) high;
         none = λ g high. lt-leb (g / 160) (personLevel b) high;
         rows-right = record {
@@ -129,14 +133,16 @@ module _ (b : Contents) (ok : Admitted b) where
   -- ---------------------------------------------------------------- tables from rows
 
   -- The table of crew k out of the rows below it.
-  pub crew-table : {R : State} {k : ℕ} {rows before table : List Bool} → Rows b R k rows → k < b .sizes .crews → flags.CrewTable (b .juniors) k rows before table
+  pub crew-table : {R : State} {k : ℕ} {rows before table : List Bool} → Rows b R k rows → k < b .sizes .crews
+      → flags.CrewTable (b .juniors) k rows before table
       → ((j : ℕ) → j < 5120 → getD before j false ≡ false) → CrewTableRight b R k table
   unfolding row
   crew-table {R} {k} {rows} right is-crew made blank =
       record {
         rows = λ c f l h. made .kept (160 * c + f) (omega arith) ∙ blank (160 * c + f) (omega arith);
         own = λ f h. made .last f (omega arith)
-            ∙ any-same (λ j. isJunior (b .juniors) k j && getD rows (160 * j + f) false) (λ j. isJunior (b .juniors) k j && crewHolds (b .juniors) (lift b R) (record { 0 = f / 16 }) (f % 16) j) k
+            ∙ any-same (λ j. isJunior (b .juniors) k j && getD rows (160 * j + f) false)
+            (λ j. isJunior (b .juniors) k j && crewHolds (b .juniors) (lift b R) (record { 0 = f / 16 }) (f % 16) j) k
             (λ j l. ap (λ (x : Bool). isJunior (b .juniors) k j && x) (right .values j f (omega (arith, ok .sized .crews-most)) (λ i. l) h));
       }
 
@@ -157,7 +163,8 @@ module _ (b : Contents) (ok : Admitted b) where
       record { size = filled .size; values = values; crews = crews }
     where
       stays : (c f : ℕ) → (c ≡ k → ⊥) → f < 160 → getD rows′ (160 * c + f) false ≡ getD rows (160 * c + f) false
-      stays c f other h = dite (decLt c k) (λ (l : c < k). filled .below (160 * c + f) (omega arith)) (λ (l : c < k → ⊥). filled .above (160 * c + f) (omega arith))
+      stays c f other h =
+          dite (decLt c k) (λ (l : c < k). filled .below (160 * c + f) (omega arith)) (λ (l : c < k → ⊥). filled .above (160 * c + f) (omega arith))
 
       flag : (f : ℕ) → f < 128 → getD x (160 + f) false ≡ crewHolds (b .juniors) (lift b (onLevel k R (direct x))) (record { 0 = f / 16 }) (f % 16) k
       flag f h =
@@ -181,7 +188,8 @@ module _ (b : Contents) (ok : Admitted b) where
           ∙ sym (lower-holds b R (direct x) k c (record { 0 = f / 16 }) (f % 16) (λ y p q. omega arith)))
           (λ (i : c < b .sizes .crews → ⊥).
           stays c f other (omega arith) ∙ right .values c f l (λ j. absurd (i j)) h
-          ∙ crew-none R (record { 0 = f / 16 }) (f % 16) c (omega arith) ∙ sym (crew-none (onLevel k R (direct x)) (record { 0 = f / 16 }) (f % 16) c (omega arith))))
+          ∙ crew-none R (record { 0 = f / 16 }) (f % 16) c (omega arith)
+          ∙ sym (crew-none (onLevel k R (direct x)) (record { 0 = f / 16 }) (f % 16) c (omega arith))))
 
       crews : (c d : ℕ) → c < 32 → (c < b .sizes .crews → c < suc k) → d < 32 → getD rows′ (160 * c + (128 + d)) false ≡ downward (b .juniors) (λ y. eqb y d) c
       crews c d l low h =
@@ -190,7 +198,8 @@ module _ (b : Contents) (ok : Admitted b) where
           rw e (filled .crews d h
           ∙ sym (downward-step (b .juniors) (λ y. eqb y d) k
           ∙ ap (λ (y : Bool). eqb k d || y)
-          (any-same (λ j. isJunior (b .juniors) k j && downward (b .juniors) (λ y. eqb y d) j) (λ j. isJunior (b .juniors) k j && getD rows (160 * j + (128 + d)) false) k
+          (any-same (λ j. isJunior (b .juniors) k j && downward (b .juniors) (λ y. eqb y d) j)
+          (λ j. isJunior (b .juniors) k j && getD rows (160 * j + (128 + d)) false) k
           (λ j m. ap (λ (y : Bool). isJunior (b .juniors) k j && y) (sym (right .crews j d (omega (arith, ok .sized .crews-most)) (λ i. m) h)))))))
           (λ (other : c ≡ k → ⊥).
           stays c (128 + d) other (omega arith)
@@ -205,7 +214,10 @@ module _ (b : Contents) (ok : Admitted b) where
   asks-append : (out : List ℕ) (k m n : ℕ) → asks out k (m + n) ≡ asks out k m ++ asks out (k + m) n
   unfolding asks
   asks-append out k zero n = let z : 0 + n ≡ n = omega arith in let e : k + 0 ≡ k = omega arith in rw (z, e) refl
-  asks-append out k (suc m) n = let z : suc m + n ≡ suc (m + n) = omega arith in let e : k + suc m ≡ suc k + m = omega arith in rw (z, e) (ap (λ (xs : List Ask). askAt out k ∷ xs) (asks-append out (suc k) m n))
+  asks-append out k (suc m) n =
+      let z : suc m + n ≡ suc (m + n) = omega arith in
+      let e : k + suc m ≡ suc k + m = omega arith in
+      rw (z, e) (ap (λ (xs : List Ask). askAt out k ∷ xs) (asks-append out (suc k) m n))
 
   -- ---------------------------------------------------------------- one level more
 
@@ -217,7 +229,8 @@ module _ (b : Contents) (ok : Admitted b) where
       pub all-at : (f : ℕ) → f < 160 → getD u f false ≡ true
 
     module _ {k : ℕ} {rows : List Bool} {ups : ℕ} {up₀ : List ℕ} {at : ℕ} {down₀ : List ℕ} (drive : Driving b k rows ups up₀ at down₀) (low : k ≤ personLevel b)
-        {T : List Bool} {adds dels : Moves} {p : ℕ} (w : Within (depot b) (world T adds dels p) k (drive .R)) {bads s u : List Bool} (handed : Handed k bads s u) where
+        {T : List Bool} {adds dels : Moves} {p : ℕ} (w : Within (depot b) (world T adds dels p) k (drive .R)) {bads s u : List Bool}
+        (handed : Handed k bads s u) where
       same-bad : (f : ℕ) → f < 160 → direct bads f ≡ bad b (160 * k + f)
       same-bad f h = direct-low bads f h ∙ handed .bad-at f h
 
@@ -237,33 +250,47 @@ module _ (b : Contents) (ok : Admitted b) where
       drive-stuck stuck =
           let f = stuck .fact in
           let h : f < 160 = direct-in s f (stuck .held) in
-          stuck-none w (depot-lawful b) (bad b) (direct bads) same-bad (starts b) (direct s) (λ g e. same-s (g % 160) (omega arith) ∙ e) (λ g e i. drive .upto .starts g i)
+          stuck-none w (depot-lawful b) (bad b) (direct bads) same-bad (starts b) (direct s) (λ g e. same-s (g % 160) (omega arith) ∙ e)
+          (λ g e i. drive .upto .starts g i)
           f h (sym (same-s f h) ∙ stuck .held) (stuck .missing) (stuck .rounds) (rw whole-u (drive .upto .bounds))
 
       module _ {x : List Bool} {up down : List ℕ} {n at′ : ℕ} (settled : Settled adds dels p T bads s u x ups up₀ up n at down₀ down at′) where
+        -- The requests of this level.
+        abbrev up-here : List Ask
+        up-here = asks up ups n
+
+        abbrev down-here : List Ask
+        down-here = asks down at′ (at - at′)
+
         next-upto : Upto (depot b) levelOf (bad b) (starts b) (suc k) (onLevel k (drive .R) (direct x))
             (drive .us ++ map (toWhole k) (asks up ups n)) (map (toWhole k) (asks down at′ (at - at′)) ++ drive .ds)
         next-upto =
-            upto-next (depot-lawful b) (depot-local b) (λ g. refl) (bad b) (starts b) (drive .upto) (world T adds dels p) w (direct s) (direct u) (direct x) (asks up ups n) (asks down at′ (at - at′)) (direct bads)
+            upto-next (depot-lawful b) (depot-local b) (λ g. refl) (bad b) (starts b) (drive .upto) (world T adds dels p) w
+            (direct s) (direct u) (direct x) up-here down-here (direct bads)
             same-bad same-s same-u (settled .rounds) (settled .additions) (settled .deletions) (settled .grown)
 
         pub up-next : map bytesOf (drive .us ++ map (toWhole k) (asks up ups n)) ≡ map bytesOf (asks up 0 (ups + n))
         up-next =
-            map-append bytesOf (drive .us) (map (toWhole k) (asks up ups n))
-            ∙ rw (bytes-whole k (asks up ups n), drive .bytes-up, asks-same up₀ up 0 ups (λ j l h. sym (settled .stands-up j (omega arith))))
-            (sym (ap (map bytesOf) (asks-append up 0 ups n) ∙ map-append bytesOf (asks up 0 ups) (asks up (0 + ups) n) ∙ ap (λ (i : ℕ). map bytesOf (asks up 0 ups) ++ map bytesOf (asks up i n)) (omega arith)))
+            map-append bytesOf (drive .us) (map (toWhole k) up-here)
+            ∙ rw (bytes-whole k up-here, drive .bytes-up, asks-same up₀ up 0 ups (λ j l h. sym (settled .stands-up j (omega arith))))
+            (sym (ap (map bytesOf) (asks-append up 0 ups n)
+            ∙ map-append bytesOf (asks up 0 ups) (asks up (0 + ups) n)
+            ∙ ap (λ (i : ℕ). map bytesOf (asks up 0 ups) ++ map bytesOf (asks up i n)) (omega arith)))
 
         pub down-next : map bytesOf (map (toWhole k) (asks down at′ (at - at′)) ++ drive .ds) ≡ map bytesOf (asks down at′ (5280 - at′))
         down-next =
             let e : at - at′ + (5280 - at) ≡ 5280 - at′ = omega (arith, settled .down-to, drive .most-down) in
             let f : at′ + (at - at′) ≡ at = omega (arith, settled .down-to) in
-            map-append bytesOf (map (toWhole k) (asks down at′ (at - at′))) (drive .ds)
-            ∙ rw (bytes-whole k (asks down at′ (at - at′)), drive .bytes-down, asks-same down₀ down at (5280 - at) (λ j l h. sym (settled .stands-down j l)))
-            (sym (ap (λ (i : ℕ). map bytesOf (asks down at′ i)) (sym e) ∙ ap (map bytesOf) (asks-append down at′ (at - at′) (5280 - at)) ∙ map-append bytesOf (asks down at′ (at - at′)) (asks down (at′ + (at - at′)) (5280 - at))
-            ∙ ap (λ (i : ℕ). map bytesOf (asks down at′ (at - at′)) ++ map bytesOf (asks down i (5280 - at))) f))
+            map-append bytesOf (map (toWhole k) down-here) (drive .ds)
+            ∙ rw (bytes-whole k down-here, drive .bytes-down, asks-same down₀ down at (5280 - at) (λ j l h. sym (settled .stands-down j l)))
+            (sym (ap (λ (i : ℕ). map bytesOf (asks down at′ i)) (sym e)
+            ∙ ap (map bytesOf) (asks-append down at′ (at - at′) (5280 - at))
+            ∙ map-append bytesOf down-here (asks down (at′ + (at - at′)) (5280 - at))
+            ∙ ap (λ (i : ℕ). map bytesOf down-here ++ map bytesOf (asks down i (5280 - at))) f))
 
         -- A settled level: everything but the rows.
-        pub drive-next : {rows′ : List Bool} → Rows b (onLevel k (drive .R) (direct x)) (suc k) rows′ → length up ≡ 26400 → length down ≡ 26400 → Driving b (suc k) rows′ (ups + n) up at′ down
+        pub drive-next : {rows′ : List Bool} → Rows b (onLevel k (drive .R) (direct x)) (suc k) rows′ → length up ≡ 26400 → length down ≡ 26400
+            → Driving b (suc k) rows′ (ups + n) up at′ down
         drive-next right size-up size-down =
             record {
               R = onLevel k (drive .R) (direct x);
@@ -283,6 +310,7 @@ module _ (b : Contents) (ok : Admitted b) where
             }
 
         -- After the last level there is the best plan.
-        pub drive-best : k ≡ personLevel b → Best (depot b) (bad b) (starts b) (drive .us ++ map (toWhole k) (asks up ups n)) (map (toWhole k) (asks down at′ (at - at′)) ++ drive .ds)
+        pub drive-best : k ≡ personLevel b → Best (depot b) (bad b) (starts b) (drive .us ++ map (toWhole k) (asks up ups n))
+            (map (toWhole k) (asks down at′ (at - at′)) ++ drive .ds)
         drive-best last = upto-best (depot-lawful b) (depot-local b) (λ g. refl) (bad b) (starts b) {n = suc k}
             (λ g h. on-level-out k (drive .R) (direct x) g (omega arith) ∙ drive .none g (omega arith)) next-upto

@@ -26,26 +26,37 @@ pub record Parts (z : Sizes) (r : Rule) : Type 0 where
 pub rule-parts : (z : Sizes) (r : Rule) → ruleFits z r ≡ true → Parts z r
 unfolding ruleFits
 rule-parts z r e =
-    let aim = (between 1 4 (r .op) && isValue z (r .a) (r .v)) || (between 5 6 (r .op) && isCrewField z (r .a) (r .v)) in
-    let three = and-both (headGood z (r .op) (r .role .0) (r .a) (r .v) (r .n) && allBelow (termFits z r) (r .n)) (leb 5 (r .op) || allBelow (λ j. leb (termOf r j .kind) 2) (r .n)) e in
-    let two = and-both (headGood z (r .op) (r .role .0) (r .a) (r .v) (r .n)) (allBelow (termFits z r) (r .n)) (three .0) in
-    let head = and-both (aim && leb (r .role .0) 15) (leb (r .n) 8) (two .0) in
-    let first = and-both aim (leb (r .role .0) 15) (head .0) in
+    let on-value = between 1 4 (r .op) && isValue z (r .a) (r .v) in
+    let on-crew = between 5 6 (r .op) && isCrewField z (r .a) (r .v) in
+    let head-good = headGood z (r .op) (r .role .0) (r .a) (r .v) (r .n) in
+    let terms-fit = allBelow (termFits z r) (r .n) in
+    let terms-own = allBelow (λ j. leb (termOf r j .kind) 2) (r .n) in
+    let three = and-both (head-good && terms-fit) (leb 5 (r .op) || terms-own) e in
+    let two = and-both head-good terms-fit (three .0) in
+    let head = and-both ((on-value || on-crew) && leb (r .role .0) 15) (leb (r .n) 8) (two .0) in
+    let first = and-both (on-value || on-crew) (leb (r .role .0) 15) (head .0) in
     record {
-      aims = ⊎-elim (λ x. inl (and-both (between 1 4 (r .op)) (isValue z (r .a) (r .v)) x)) (λ x. inr (and-both (between 5 6 (r .op)) (isCrewField z (r .a) (r .v)) x))
-          (or-cases (between 1 4 (r .op) && isValue z (r .a) (r .v)) (between 5 6 (r .op) && isCrewField z (r .a) (r .v)) (first .0));
+      aims = ⊎-elim
+          (λ x. inl (and-both (between 1 4 (r .op)) (isValue z (r .a) (r .v)) x))
+          (λ x. inr (and-both (between 5 6 (r .op)) (isCrewField z (r .a) (r .v)) x))
+          (or-cases on-value on-crew (first .0));
       role = first .1;
       kinds = λ j l. kind-of j (all-at (termFits z r) (r .n) j (two .1) l);
-      own = λ few j l. ⊎-elim (λ x. absurd (omega (arith, leb-true 5 (r .op) x))) (λ x. leb-true (termOf r j .kind) 2 (all-at (λ j. leb (termOf r j .kind) 2) (r .n) j x l))
-          (or-cases (leb 5 (r .op)) (allBelow (λ j. leb (termOf r j .kind) 2) (r .n)) (three .1));
+      own = λ few j l. ⊎-elim
+          (λ x. absurd (omega (arith, leb-true 5 (r .op) x)))
+          (λ x. leb-true (termOf r j .kind) 2 (all-at (λ j. leb (termOf r j .kind) 2) (r .n) j x l))
+          (or-cases (leb 5 (r .op)) terms-own (three .1));
     }
   where
     kind-of : (j : ℕ) → termFits z r j ≡ true → (1 ≤ termOf r j .kind) × (termOf r j .kind ≤ 4)
     kind-of j x =
+        let kind = termOf r j .kind in
+        let value = isValue z (termOf r j .a) (termOf r j .v) in
+        let crew = isCrewField z (termOf r j .a) (termOf r j .v) in
         ⊎-elim
-        (λ y. let k = between-true 1 2 (termOf r j .kind) (and-both (between 1 2 (termOf r j .kind)) (isValue z (termOf r j .a) (termOf r j .v)) y .0) in (k .0, omega (arith, k .1)))
-        (λ y. let k = between-true 3 4 (termOf r j .kind) (and-both (between 3 4 (termOf r j .kind)) (isCrewField z (termOf r j .a) (termOf r j .v)) y .0) in (omega (arith, k .0), k .1))
-        (or-cases (between 1 2 (termOf r j .kind) && isValue z (termOf r j .a) (termOf r j .v)) (between 3 4 (termOf r j .kind) && isCrewField z (termOf r j .a) (termOf r j .v)) x)
+        (λ y. let k = between-true 1 2 kind (and-both (between 1 2 kind) value y .0) in (k .0, omega (arith, k .1)))
+        (λ y. let k = between-true 3 4 kind (and-both (between 3 4 kind) crew y .0) in (omega (arith, k .0), k .1))
+        (or-cases (between 1 2 kind && value) (between 3 4 kind && crew) x)
 
 module _ (z : Sizes) (range : InRange z) where
   -- A crew of the book is below 32.

@@ -31,6 +31,7 @@ use Rattle.reach.specs.Inner.Depot.{depot}
 use Rattle.flags.specs.Inner.Flags as flags
 use Rattle.search.specs.Inner.Drive.{Driving}
 use Rattle.search.specs.Inner.Scan.{SideMoves, AllAllowed, BlankTable, Scanned, Searched}
+use Rattle.search.proofs.Tables.{CrewTableRight}
 use Rattle.search.proofs.WithinLaws.{within, all-good}
 use Rattle.search.proofs.SubjectLaws.{crew-level, crew-terms, crew-adds, crew-dels, person-level, person-terms, person-adds, person-dels}
 use Rattle.search.proofs.DriveLaws.{Handed, crew-table, person-table, rows-next, drive-stuck, drive-next, drive-best, up-next, down-next}
@@ -57,7 +58,8 @@ pub starts-allowed : (s : List Bool) {u : List Bool} → AllAllowed u → direct
 starts-allowed s {u} all f e = let h : f < 160 = direct-in s f e in direct-low u f h ∙ all .at f h
 
 -- The table and the row of a crew, by juniors that are the book's.
-pub table-same : {js js′ : List ℕ} {k : ℕ} {rows before table : List Bool} → js ≡ js′ → flags.CrewTable js k rows before table → flags.CrewTable js′ k rows before table
+pub table-same : {js js′ : List ℕ} {k : ℕ} {rows before table : List Bool} → js ≡ js′ → flags.CrewTable js k rows before table
+    → flags.CrewTable js′ k rows before table
 table-same {k = k} {rows} {before} {table} e made = subst (λ (js : List ℕ). flags.CrewTable js k rows before table) e made
 
 pub row-same : {js js′ : List ℕ} {k : ℕ} {x rows rows′ : List Bool} → js ≡ js′ → flags.FilledRow js k x rows rows′ → flags.FilledRow js′ k x rows rows′
@@ -86,7 +88,8 @@ module _ (bk : Book) (ok : Admitted (contentsOf bk)) where
   book-good room = all-good (contentsOf bk) ok (bk .rules) same-rules few room
 
   pub side-moves : {adds dels : List ℕ} {add₁ add₂ del₁ del₂ : ℕ} → length (bk .rules .rules) ≡ 512
-      → MovesOf (bk .rules) add₁ add₂ (bk .query .roles) (movesIn adds) (bk .rules .count) → MovesOf (bk .rules) del₁ del₂ (bk .query .roles) (movesIn dels) (bk .rules .count)
+      → MovesOf (bk .rules) add₁ add₂ (bk .query .roles) (movesIn adds) (bk .rules .count)
+      → MovesOf (bk .rules) del₁ del₂ (bk .query .roles) (movesIn dels) (bk .rules .count)
       → SideMoves bk add₁ add₂ del₁ del₂ (movesIn adds) (movesIn dels)
   side-moves room more less =
       record { room = room; more = more; less = less; sound-adds = moves-sound (book-good room) more; sound-dels = moves-sound (book-good room) less }
@@ -109,25 +112,36 @@ module _ (bk : Book) (ok : Admitted (contentsOf bk)) where
     unfolding contentsOf
     right-table = made
 
+    table-right : CrewTableRight (contentsOf bk) (drive .R) k table
+    table-right = crew-table (contentsOf bk) ok (drive .rows-right) crew-is right-table (blank .blank)
+
     inside : Within (depot (contentsOf bk)) (world table adds dels k) k (drive .R)
     inside =
-        within (contentsOf bk) ok (bk .rules) same-rules few (mv .room) table (drive .R) (crew-level (contentsOf bk) ok (bk .rules) same-rules few (mv .room) k crew-is)
-        (crew-terms (contentsOf bk) ok (bk .rules) same-rules few (mv .room) k crew-is table (drive .R) (crew-table (contentsOf bk) ok (drive .rows-right) crew-is right-table (blank .blank)))
-        adds dels (crew-adds (contentsOf bk) ok (bk .rules) same-rules few (mv .room)) (crew-dels (contentsOf bk) ok (bk .rules) same-rules few (mv .room)) (moves-more mv) (moves-less mv)
+        within (contentsOf bk) ok (bk .rules) same-rules few (mv .room) table (drive .R)
+        (crew-level (contentsOf bk) ok (bk .rules) same-rules few (mv .room) k crew-is)
+        (crew-terms (contentsOf bk) ok (bk .rules) same-rules few (mv .room) k crew-is table (drive .R) table-right)
+        adds dels
+        (crew-adds (contentsOf bk) ok (bk .rules) same-rules few (mv .room))
+        (crew-dels (contentsOf bk) ok (bk .rules) same-rules few (mv .room))
+        (moves-more mv) (moves-less mv)
 
     handed : Handed (contentsOf bk) ok (bk .rules) same-rules few (mv .room) k bads s u
     handed = record { bad-at = badf .at; start-at = start .at; all-at = all .at }
 
-    pub crew-scanned : {x rows′ : List Bool} {up down : List ℕ} {found : Bool} {n at′ : ℕ} → Result adds dels k table bads s u x ups up₀ up at down₀ down found n at′
-        → flags.FilledRow (bk .juniors) k x rows rows′ → length up ≡ 26400 → length down ≡ 26400 → Scanned (contentsOf bk) (k + 1) rows′ up down found (ups + n) at′
+    pub crew-scanned : {x rows′ : List Bool} {up down : List ℕ} {found : Bool} {n at′ : ℕ}
+        → Result adds dels k table bads s u x ups up₀ up at down₀ down found n at′
+        → flags.FilledRow (bk .juniors) k x rows rows′ → length up ≡ 26400 → length down ≡ 26400
+        → Scanned (contentsOf bk) (k + 1) rows′ up down found (ups + n) at′
     crew-scanned {x} {rows′} {up} {down} {found} {n} {at′} result filled size-up size-down =
         record {
           settled = λ e.
               let done = result .found e in
               subst (λ (i : ℕ). Driving (contentsOf bk) i rows′ (ups + n) up at′ down) (sym (add-one k))
               (drive-next (contentsOf bk) ok (bk .rules) same-rules few (mv .room) drive (omega (arith, crew-is)) inside handed done
-              (rows-next (contentsOf bk) ok (drive .rows-right) crew-is (crew-table (contentsOf bk) ok (drive .rows-right) crew-is right-table (blank .blank)) (done .whole) right-row) size-up size-down);
-          stuck = λ e. record { never = drive-stuck (contentsOf bk) ok (bk .rules) same-rules few (mv .room) drive (omega (arith, crew-is)) inside handed (result .none e) };
+              (rows-next (contentsOf bk) ok (drive .rows-right) crew-is table-right (done .whole) right-row) size-up size-down);
+          stuck = λ e. record {
+            never = drive-stuck (contentsOf bk) ok (bk .rules) same-rules few (mv .room) drive (omega (arith, crew-is)) inside handed (result .none e);
+          };
         }
       where
         right-row : flags.FilledRow (contentsOf bk .juniors) k x rows rows′
@@ -142,9 +156,13 @@ module _ (bk : Book) (ok : Admitted (contentsOf bk)) where
     person-inside : Within (depot (contentsOf bk)) (world table adds dels (bk .query .person .0)) (bk .sizes .crews) (drive .R)
     unfolding contentsOf
     person-inside =
-        within (contentsOf bk) ok (bk .rules) same-rules few (mv .room) table (drive .R) (person-level (contentsOf bk) ok (bk .rules) same-rules few (mv .room))
+        within (contentsOf bk) ok (bk .rules) same-rules few (mv .room) table (drive .R)
+        (person-level (contentsOf bk) ok (bk .rules) same-rules few (mv .room))
         (person-terms (contentsOf bk) ok (bk .rules) same-rules few (mv .room) table (drive .R) (person-table (contentsOf bk) ok (drive .rows-right) made))
-        adds dels (person-adds (contentsOf bk) ok (bk .rules) same-rules few (mv .room)) (person-dels (contentsOf bk) ok (bk .rules) same-rules few (mv .room)) (moves-more mv) (moves-less mv)
+        adds dels
+        (person-adds (contentsOf bk) ok (bk .rules) same-rules few (mv .room))
+        (person-dels (contentsOf bk) ok (bk .rules) same-rules few (mv .room))
+        (moves-more mv) (moves-less mv)
 
     person-handed : Handed (contentsOf bk) ok (bk .rules) same-rules few (mv .room) (bk .sizes .crews) bads s u
     person-handed = record { bad-at = badf .at; start-at = start .at; all-at = all .at }
@@ -153,11 +171,15 @@ module _ (bk : Book) (ok : Admitted (contentsOf bk)) where
     unfolding contentsOf
     last-level = refl
 
+    at-last : bk .sizes .crews ≤ personLevel (contentsOf bk)
+    at-last = omega (arith, last-level)
+
     crews-few : bk .sizes .crews ≤ 32
     unfolding contentsOf
     crews-few = ok .sized .crews-most
 
-    pub person-searched : {x : List Bool} {up down : List ℕ} {found : Bool} {n at′ : ℕ} → Result adds dels (bk .query .person .0) table bads s u x ups up₀ up at down₀ down found n at′
+    pub person-searched : {x : List Bool} {up down : List ℕ} {found : Bool} {n at′ : ℕ}
+        → Result adds dels (bk .query .person .0) table bads s u x ups up₀ up at down₀ down found n at′
         → length up ≡ 26400 → length down ≡ 26400 → Searched (contentsOf bk) up down found (ups + n) at′
     person-searched {x} {up} {down} {found} {n} {at′} result size-up size-down =
         record {
@@ -166,15 +188,17 @@ module _ (bk : Book) (ok : Admitted (contentsOf bk)) where
               record {
                 us = drive .us ++ map (toWhole (bk .sizes .crews)) (asks up ups n);
                 ds = map (toWhole (bk .sizes .crews)) (asks down at′ (at - at′)) ++ drive .ds;
-                best = drive-best (contentsOf bk) ok (bk .rules) same-rules few (mv .room) drive (omega (arith, last-level)) person-inside person-handed done last-level;
-                bytes-up = up-next (contentsOf bk) ok (bk .rules) same-rules few (mv .room) drive (omega (arith, last-level)) person-inside person-handed done;
-                bytes-down = down-next (contentsOf bk) ok (bk .rules) same-rules few (mv .room) drive (omega (arith, last-level)) person-inside person-handed done;
+                best = drive-best (contentsOf bk) ok (bk .rules) same-rules few (mv .room) drive at-last person-inside person-handed done last-level;
+                bytes-up = up-next (contentsOf bk) ok (bk .rules) same-rules few (mv .room) drive at-last person-inside person-handed done;
+                bytes-down = down-next (contentsOf bk) ok (bk .rules) same-rules few (mv .room) drive at-last person-inside person-handed done;
                 few-up = omega (arith, drive .few-up, done .few-up, crews-few);
                 most-down = omega (arith, drive .most-down, done .down-to);
                 size-up = size-up;
                 size-down = size-down;
               };
-          stuck = λ e. record { never = drive-stuck (contentsOf bk) ok (bk .rules) same-rules few (mv .room) drive (omega (arith, last-level)) person-inside person-handed (result .none e) };
+          stuck = λ e. record {
+            never = drive-stuck (contentsOf bk) ok (bk .rules) same-rules few (mv .room) drive at-last person-inside person-handed (result .none e);
+          };
         }
 
 -- ---------------------------------------------------------------- which crews each crew reaches

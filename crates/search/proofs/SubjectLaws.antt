@@ -6,6 +6,7 @@ use mathlib.Core.List.{List}
 use Prim.Native.Nat.{ℕ, _+_, _*_, _/_, _≤_, _<_}
 use native.Mathlib.Decide.{decLt}
 use native.Mathlib.Omega.{arith}
+use lib.Dec.{eqb}
 use lib.ListN.{length, getD}
 use borrow.Author.Tests.{lt-ltb, le-ltb, eq-eqb}
 use Rattle.facts.specs.declared.Person.{Person}
@@ -44,7 +45,8 @@ module _ (b : Contents) (ok : Admitted b) (rs : Rules) (same-rules : b .rules �
   unfolding numberOf
   number-value p a v t = let s = tracked-value b p (record { 0 = a }) v t in omega (arith, s .1 .0, s .1 .1)
 
-  number-crew : (c a v : ℕ) → tracked b (CrewHolds (record { 0 = c }) (record { 0 = a }) v) ≡ true → (numberOf b (CrewHolds (record { 0 = c }) (record { 0 = a }) v) / 160 ≡ c) × (c < personLevel b)
+  number-crew : (c a v : ℕ) → tracked b (CrewHolds (record { 0 = c }) (record { 0 = a }) v) ≡ true
+      → (numberOf b (CrewHolds (record { 0 = c }) (record { 0 = a }) v) / 160 ≡ c) × (c < personLevel b)
   unfolding numberOf
   number-crew c a v t = let s = tracked-crew b (record { 0 = c }) (record { 0 = a }) v t in (omega (arith, s .1 .0, s .1 .1), s .0)
 
@@ -61,7 +63,8 @@ module _ (b : Contents) (ok : Admitted b) (rs : Rules) (same-rules : b .rules �
     crew-good : (r : Rule) → Parts (b .sizes) r → OnCrew (r .op) → fieldsGood (b .sizes) (r .op) (r .role .0) k (r .a) (r .v) ≡ true
     crew-good r p h =
         let at = crew-op (r .op) h in
-        fields-on-crew (b .sizes) (r .op) (r .role .0) k (r .a) (r .v) (omega (arith, at .0)) (at .1) (lt-ltb k (b .sizes .crews) is-crew) (rule-value (b .sizes) (ok .sized) r p (at .1)) (p .role)
+        fields-on-crew (b .sizes) (r .op) (r .role .0) k (r .a) (r .v) (omega (arith, at .0)) (at .1) (lt-ltb k (b .sizes .crews) is-crew)
+        (rule-value (b .sizes) (ok .sized) r p (at .1)) (p .role)
 
     crew-tracks : (r : Rule) → Parts (b .sizes) r → OnCrew (r .op) → tracked b (aimed (r .op) k (r .a) (r .v)) ≡ true
     unfolding tracked
@@ -81,7 +84,8 @@ module _ (b : Contents) (ok : Admitted b) (rs : Rules) (same-rules : b .rules �
         let at = crew-op (r .op) h in
         ap subjectOf (aimed-crew (r .op) k (r .a) (r .v) (at .0) (at .1)) ∙ subject-crew (record { 0 = k }) (record { 0 = r .a }) (r .v)
 
-    crew-from : (op sub a v role : ℕ) → fieldsGood (b .sizes) op role sub a v ≡ true → tracked b (aimed op sub a v) ≡ true → numberOf b (aimed op sub a v) / 160 ≡ k → OnCrew op × (sub ≡ k)
+    crew-from : (op sub a v role : ℕ) → fieldsGood (b .sizes) op role sub a v ≡ true → tracked b (aimed op sub a v) ≡ true
+        → numberOf b (aimed op sub a v) / 160 ≡ k → OnCrew op × (sub ≡ k)
     crew-from op sub a v role good t at =
         let range = fields-op (b .sizes) op role sub a v good in
         dite (decLt op 3)
@@ -112,7 +116,8 @@ module _ (b : Contents) (ok : Admitted b) (rs : Rules) (same-rules : b .rules �
     }
 
     -- The terms of a rule on crews, at the crew's level.
-    pub crew-terms : (T : List Bool) (R : State) → CrewTableRight b R k T → (S : State) (r : Rule) → Parts (b .sizes) r → GoodRule r → OnCrew (r .op) → (j : ℕ) → j < r .n
+    pub crew-terms : (T : List Bool) (R : State) → CrewTableRight b R k T → (S : State) (r : Rule) → Parts (b .sizes) r → GoodRule r → OnCrew (r .op)
+        → (j : ℕ) → j < r .n
         → termShown T S (getD (r .terms) j noTerm) ≡ termHolds (b .juniors) (lift b (onLevel k R S)) (Group (record { 0 = k })) (getD (r .terms) j noTerm)
     unfolding termOf
     crew-terms T R table S r p good h j l =
@@ -134,6 +139,9 @@ module _ (b : Contents) (ok : Admitted b) (rs : Rules) (same-rules : b .rules �
 
   person : ℕ
   person = b .query .person .0
+
+  is-asked : eqb (b .query .person .0) (b .query .person .0) ≡ true
+  is-asked = eq-eqb (b .query .person .0) (b .query .person .0) refl
 
   -- An op on a person names a value or a crew.
   by-op : {C : Type 0} (op : ℕ) → OnPerson op → ((1 ≤ op) × (op ≤ 2) → C) → ((4 < op) × (op ≤ 6) → C) → C
@@ -160,12 +168,13 @@ module _ (b : Contents) (ok : Admitted b) (rs : Rules) (same-rules : b .rules �
       by-op (r .op) h
       (λ at.
       let low = value-bounds (b .sizes) (r .a) (r .v) (ok .sized) (rule-value (b .sizes) (ok .sized) r p (omega (arith, at .1))) in
-      rw (aimed-value (r .op) (b .query .person .0) (r .a) (r .v) (at .1), eq-eqb (b .query .person .0) (b .query .person .0) refl, lt-ltb (r .a) 8 (low .0), lt-ltb (r .v) 16 (low .1)) refl)
+      rw (aimed-value (r .op) (b .query .person .0) (r .a) (r .v) (at .1), is-asked, lt-ltb (r .a) 8 (low .0), lt-ltb (r .v) 16 (low .1)) refl)
       (λ at.
       let low = crew-low (b .sizes) (ok .sized) (r .a) (r .v) (rule-crew (b .sizes) (ok .sized) r p (at .0)) in
-      rw (aimed-member (r .op) (b .query .person .0) (r .a) (r .v) (at .0), eq-eqb (b .query .person .0) (b .query .person .0) refl, lt-ltb (r .a) 32 (low .0)) refl)
+      rw (aimed-member (r .op) (b .query .person .0) (r .a) (r .v) (at .0), is-asked, lt-ltb (r .a) 32 (low .0)) refl)
 
-  person-number : (r : Rule) → Parts (b .sizes) r → OnPerson (r .op) → numberOf b (aimed (r .op) person (r .a) (r .v)) ≡ 160 * personLevel b + placeOf (r .op) (r .a) (r .v)
+  person-number : (r : Rule) → Parts (b .sizes) r → OnPerson (r .op)
+      → numberOf b (aimed (r .op) person (r .a) (r .v)) ≡ 160 * personLevel b + placeOf (r .op) (r .a) (r .v)
   unfolding numberOf placeOf
   person-number r p h =
       by-op (r .op) h
@@ -179,7 +188,8 @@ module _ (b : Contents) (ok : Admitted b) (rs : Rules) (same-rules : b .rules �
       (λ at. ap subjectOf (aimed-value (r .op) (b .query .person .0) (r .a) (r .v) (at .1)) ∙ subject-value (b .query .person) (record { 0 = r .a }) (r .v))
       (λ at. ap subjectOf (aimed-member (r .op) (b .query .person .0) (r .a) (r .v) (at .0)) ∙ subject-member (b .query .person) (record { 0 = r .a }))
 
-  person-from : (op sub a v role : ℕ) → fieldsGood (b .sizes) op role sub a v ≡ true → tracked b (aimed op sub a v) ≡ true → numberOf b (aimed op sub a v) / 160 ≡ personLevel b → OnPerson op × (sub ≡ person)
+  person-from : (op sub a v role : ℕ) → fieldsGood (b .sizes) op role sub a v ≡ true → tracked b (aimed op sub a v) ≡ true
+      → numberOf b (aimed op sub a v) / 160 ≡ personLevel b → OnPerson op × (sub ≡ person)
   unfolding person
   person-from op sub a v role good t at =
       let range = fields-op (b .sizes) op role sub a v good in
@@ -210,8 +220,10 @@ module _ (b : Contents) (ok : Admitted b) (rs : Rules) (same-rules : b .rules �
     from-number = person-from;
   }
 
-  pub person-terms : (T : List Bool) (R : State) → PersonTableRight b R T → (S : State) (r : Rule) → Parts (b .sizes) r → GoodRule r → OnPerson (r .op) → (j : ℕ) → j < r .n
-      → termShown T S (getD (r .terms) j noTerm) ≡ termHolds (b .juniors) (lift b (onLevel (personLevel b) R S)) (User (b .query .person)) (getD (r .terms) j noTerm)
+  pub person-terms : (T : List Bool) (R : State) → PersonTableRight b R T → (S : State) (r : Rule) → Parts (b .sizes) r → GoodRule r
+      → OnPerson (r .op) → (j : ℕ) → j < r .n
+      → termShown T S (getD (r .terms) j noTerm)
+      ≡ termHolds (b .juniors) (lift b (onLevel (personLevel b) R S)) (User (b .query .person)) (getD (r .terms) j noTerm)
   unfolding termOf
   person-terms T R table S r p good h j l = person-term b R S T table (getD (r .terms) j noTerm) (good .terms j l) (p .kinds j l .0) (p .kinds j l .1)
 

@@ -40,17 +40,21 @@ module _ (b : Contents) (R S : State) where
       rw (lt-ltb k (b .sizes .crews) h, lt-ltb (a .0) 8 s, lt-ltb v 16 t) (on-level-at k R S (16 * a .0 + v) (omega arith))
 
   -- The query's person's own values and crews.
+  is-asked : eqb (b .query .person .0) (b .query .person .0) ≡ true
+  is-asked = eq-eqb (b .query .person .0) (b .query .person .0) refl
+
   person-value : (a : Attr) (v : ℕ) → a .0 < 8 → v < 16 → lift b (onLevel (personLevel b) R S) (Holds (b .query .person) a v) ≡ S (16 * a .0 + v)
   unfolding lift tracked numberOf
   person-value a v s t =
-      rw (eq-eqb (b .query .person .0) (b .query .person .0) refl, lt-ltb (a .0) 8 s, lt-ltb v 16 t) (on-level-at (personLevel b) R S (16 * a .0 + v) (omega arith))
+      rw (is-asked, lt-ltb (a .0) 8 s, lt-ltb v 16 t) (on-level-at (personLevel b) R S (16 * a .0 + v) (omega arith))
 
   person-member : (c : ℕ) → c < 32 → lift b (onLevel (personLevel b) R S) (Member (b .query .person) (record { 0 = c })) ≡ S (128 + c)
   unfolding lift tracked numberOf
-  person-member c h = rw (eq-eqb (b .query .person .0) (b .query .person .0) refl, lt-ltb c 32 h) (on-level-at (personLevel b) R S (128 + c) (omega arith))
+  person-member c h = rw (is-asked, lt-ltb c 32 h) (on-level-at (personLevel b) R S (128 + c) (omega arith))
 
   -- A lower crew's values are settled.
-  lower-value : (k x : ℕ) (a : Attr) (v : ℕ) → (x < b .sizes .crews → x < k) → lift b (onLevel k R S) (CrewHolds (record { 0 = x }) a v) ≡ lift b R (CrewHolds (record { 0 = x }) a v)
+  lower-value : (k x : ℕ) (a : Attr) (v : ℕ) → (x < b .sizes .crews → x < k)
+      → lift b (onLevel k R S) (CrewHolds (record { 0 = x }) a v) ≡ lift b R (CrewHolds (record { 0 = x }) a v)
   unfolding numberOf
   lower-value k x a v low =
       lift-same b (onLevel k R S) R (CrewHolds (record { 0 = x }) a v)
@@ -66,6 +70,9 @@ module _ (b : Contents) (R S : State) where
   -- ---------------------------------------------------------------- a crew's terms
 
   module _ (k : ℕ) (T : List Bool) (table : CrewTableRight b R k T) (is-crew : k < b .sizes .crews) where
+    abbrev held-by-crews : Fact → Bool
+    held-by-crews = lift b (onLevel k R S)
+
     -- What a crew effectively holds.
     pub crew-effective : (a : Attr) (v : ℕ) → a .0 < 8 → v < 16 → effective T S (16 * a .0 + v) ≡ crewHolds (b .juniors) (lift b (onLevel k R S)) a v k
     unfolding effective inherited
@@ -73,12 +80,15 @@ module _ (b : Contents) (R S : State) where
         let f = 16 * a .0 + v in
         let at : f / 16 ≡ a .0 = omega arith in
         let rest : f % 16 ≡ v = omega arith in
-        let none : anyBelow (λ c. S (128 + c) && row T c f) 32 ≡ false = any-false (λ c. S (128 + c) && row T c f) 32 (λ c l. ap (λ (x : Bool). S (128 + c) && x) (table .rows c f l (omega arith)) ∙ and-false (S (128 + c))) in
+        let none : anyBelow (λ c. S (128 + c) && row T c f) 32 ≡ false =
+        any-false (λ c. S (128 + c) && row T c f) 32
+        (λ c l. ap (λ (x : Bool). S (128 + c) && x) (table .rows c f l (omega arith)) ∙ and-false (S (128 + c))) in
         rw (none, or-false (row T 32 f), table .own f (omega arith), at, rest)
-        (sym (crew-holds-step (b .juniors) (lift b (onLevel k R S)) a v k
+        (sym (crew-holds-step (b .juniors) held-by-crews a v k
         ∙ rw (crew-value k a v is-crew s t)
         (ap (λ (x : Bool). S f || x)
-        (any-same (λ j. isJunior (b .juniors) k j && crewHolds (b .juniors) (lift b (onLevel k R S)) a v j) (λ j. isJunior (b .juniors) k j && crewHolds (b .juniors) (lift b R) a v j) k
+        (any-same (λ j. isJunior (b .juniors) k j && crewHolds (b .juniors) held-by-crews a v j)
+        (λ j. isJunior (b .juniors) k j && crewHolds (b .juniors) (lift b R) a v j) k
         (λ j l. ap (λ (x : Bool). isJunior (b .juniors) k j && x) (lower-holds k j a v (λ x h i. omega arith)))))))
 
     pub crew-term : (t : Term) → TermInRange t → t .kind ≤ 2 → 1 ≤ t .kind
@@ -87,16 +97,25 @@ module _ (b : Contents) (R S : State) where
     crew-term t good two one =
         dite (ℕ-discrete (t .kind) 1)
         (λ (is : t .kind ≡ 1).
-        rw (term-crew-direct (b .juniors) (lift b (onLevel k R S)) t (record { 0 = k }) is, is) (sym (crew-value k (record { 0 = t .a }) (t .v) is-crew (good .value is .0) (good .value is .1))))
+        rw (term-crew-direct (b .juniors) held-by-crews t (record { 0 = k }) is, is)
+        (sym (crew-value k (record { 0 = t .a }) (t .v) is-crew (good .value is .0) (good .value is .1))))
         (λ (no : t .kind ≡ 1 → ⊥).
         let is : t .kind ≡ 2 = omega arith in
-        rw (term-crew-effective (b .juniors) (lift b (onLevel k R S)) t (record { 0 = k }) is, is) (crew-effective (record { 0 = t .a }) (t .v) (good .value-2 is .0) (good .value-2 is .1)))
+        rw (term-crew-effective (b .juniors) held-by-crews t (record { 0 = k }) is, is)
+        (crew-effective (record { 0 = t .a }) (t .v) (good .value-2 is .0) (good .value-2 is .1)))
 
   -- ---------------------------------------------------------------- the query's person's terms
 
   module _ (T : List Bool) (table : PersonTableRight b R T) where
     abbrev held : Fact → Bool
     held = lift b (onLevel (personLevel b) R S)
+
+    -- The person is in crew d, and so in crew a by way of d.
+    abbrev in-crew : ℕ → Bool
+    in-crew d = held (Member (b .query .person) (record { 0 = d }))
+
+    abbrev in-by : ℕ → ℕ → Bool
+    in-by a d = in-crew d && downward (b .juniors) (λ y. eqb y a) d
 
     person-effective : (a : Attr) (v : ℕ) → a .0 < 8 → v < 16
         → effective T S (16 * a .0 + v) ≡ personHolds (b .juniors) (lift b (onLevel (personLevel b) R S)) (b .query .person) a v
@@ -107,8 +126,9 @@ module _ (b : Contents) (R S : State) where
         let rest : f % 16 ≡ v = omega arith in
         rw (person-holds-step (b .juniors) held (b .query .person) a v, table .own f (omega arith), person-value a v s t)
         (ap (λ (x : Bool). S f || x)
-        (any-same (λ c. S (128 + c) && row T c f) (λ d. lift b (onLevel (personLevel b) R S) (Member (b .query .person) (record { 0 = d })) && crewHolds (b .juniors) (lift b (onLevel (personLevel b) R S)) a v d) 32
-        (λ c l. rw (person-member c l, table .values c f l (omega arith), at, rest) (ap (λ (x : Bool). S (128 + c) && x) (sym (lower-holds (personLevel b) c a v (λ x h i. i)))))))
+        (any-same (λ c. S (128 + c) && row T c f) (λ d. in-crew d && crewHolds (b .juniors) held a v d) 32
+        (λ c l. rw (person-member c l, table .values c f l (omega arith), at, rest)
+        (ap (λ (x : Bool). S (128 + c) && x) (sym (lower-holds (personLevel b) c a v (λ x h i. i)))))))
 
     person-reaches : (a : ℕ) → a < 32 → effective T S (128 + a) ≡ personIn (b .juniors) (lift b (onLevel (personLevel b) R S)) (b .query .person) a
     unfolding effective inherited
@@ -116,17 +136,15 @@ module _ (b : Contents) (R S : State) where
         rw (
           person-in-step (b .juniors) held (b .query .person) a,
           table .own (128 + a) (omega arith),
-          any-same (λ c. S (128 + c) && row T c (128 + a)) (λ d. lift b (onLevel (personLevel b) R S) (Member (b .query .person) (record { 0 = d })) && downward (b .juniors) (λ x. eqb x a) d) 32
+          any-same (λ c. S (128 + c) && row T c (128 + a)) (λ d. in-by a d) 32
               (λ c l. rw (person-member c l, table .crews c a l s) refl),
         )
         (absorbed (S (128 + a)) refl)
       where
-        absorbed : (x : Bool) → S (128 + a) ≡ x
-            → (x || anyBelow (λ d. lift b (onLevel (personLevel b) R S) (Member (b .query .person) (record { 0 = d })) && downward (b .juniors) (λ y. eqb y a) d) 32)
-            ≡ anyBelow (λ d. lift b (onLevel (personLevel b) R S) (Member (b .query .person) (record { 0 = d })) && downward (b .juniors) (λ y. eqb y a) d) 32
+        absorbed : (x : Bool) → S (128 + a) ≡ x → (x || anyBelow (λ d. in-by a d) 32) ≡ anyBelow (λ d. in-by a d) 32
         absorbed false e = refl
         absorbed true e =
-            sym (any-from (λ d. lift b (onLevel (personLevel b) R S) (Member (b .query .person) (record { 0 = d })) && downward (b .juniors) (λ y. eqb y a) d) 32 a
+            sym (any-from (λ d. in-by a d) 32 a
             (rw (person-member a s, e, downward-here (b .juniors) (λ y. eqb y a) a (eq-eqb a a refl)) refl) s)
 
     pub person-term : (t : Term) → TermInRange t → 1 ≤ t .kind → t .kind ≤ 4
@@ -134,10 +152,14 @@ module _ (b : Contents) (R S : State) where
     unfolding termShown
     person-term t good one four =
         dite (ℕ-discrete (t .kind) 1)
-        (λ (is : t .kind ≡ 1). rw (term-person-direct (b .juniors) held t (b .query .person) is, is) (sym (person-value (record { 0 = t .a }) (t .v) (good .value is .0) (good .value is .1))))
+        (λ (is : t .kind ≡ 1).
+        rw (term-person-direct (b .juniors) held t (b .query .person) is, is)
+        (sym (person-value (record { 0 = t .a }) (t .v) (good .value is .0) (good .value is .1))))
         (λ (no1 : t .kind ≡ 1 → ⊥).
         dite (ℕ-discrete (t .kind) 2)
-        (λ (is : t .kind ≡ 2). rw (term-person-effective (b .juniors) held t (b .query .person) is, is) (person-effective (record { 0 = t .a }) (t .v) (good .value-2 is .0) (good .value-2 is .1)))
+        (λ (is : t .kind ≡ 2).
+        rw (term-person-effective (b .juniors) held t (b .query .person) is, is)
+        (person-effective (record { 0 = t .a }) (t .v) (good .value-2 is .0) (good .value-2 is .1)))
         (λ (no2 : t .kind ≡ 2 → ⊥).
         dite (ℕ-discrete (t .kind) 3)
         (λ (is : t .kind ≡ 3). rw (term-in-direct (b .juniors) held t (b .query .person) is, is) (sym (person-member (t .a) (good .crew no1 no2))))

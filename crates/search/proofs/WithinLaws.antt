@@ -38,7 +38,8 @@ use Rattle.reach.specs.Inner.Depot.{depot}
 use Rattle.search.proofs.RuleParts.{Parts, rule-parts, crew-low, rule-crew}
 
 -- A request with a move's fields is the move's.
-ask-same : (q : Ask) (m : Move) (p : ℕ) → m .fact ≡ q .fact % 160 → m .op ≡ q .op → m .role ≡ q .role → q .subject ≡ p → m .a ≡ q .a → m .v ≡ q .v → toLevel q ≡ askOf p m
+ask-same : (q : Ask) (m : Move) (p : ℕ) → m .fact ≡ q .fact % 160 → m .op ≡ q .op → m .role ≡ q .role → q .subject ≡ p → m .a ≡ q .a → m .v ≡ q .v
+    → toLevel q ≡ askOf p m
 ask-same q m p f o r s a v = rw (f, o, r, s, a, v) refl
 
 module _ (b : Contents) (ok : Admitted b) (rs : Rules) (same-rules : b .rules ≡ listed rs) (few : rs .count ≤ 512) (room : length (rs .rules) ≡ 512) where
@@ -70,7 +71,8 @@ module _ (b : Contents) (ok : Admitted b) (rs : Rules) (same-rules : b .rules �
     pub tracks : (r : Rule) → Parts (b .sizes) r → Op (r .op) → tracked b (aimed (r .op) p (r .a) (r .v)) ≡ true
     pub number : (r : Rule) → Parts (b .sizes) r → Op (r .op) → numberOf b (aimed (r .op) p (r .a) (r .v)) ≡ 160 * k + placeOf (r .op) (r .a) (r .v)
     pub subject : (r : Rule) → Op (r .op) → subjectOf (aimed (r .op) p (r .a) (r .v)) ≡ s
-    pub from-number : (op sub a v role : ℕ) → fieldsGood (b .sizes) op role sub a v ≡ true → tracked b (aimed op sub a v) ≡ true → numberOf b (aimed op sub a v) / 160 ≡ k → Op op × (sub ≡ p)
+    pub from-number : (op sub a v role : ℕ) → fieldsGood (b .sizes) op role sub a v ≡ true → tracked b (aimed op sub a v) ≡ true
+        → numberOf b (aimed op sub a v) / 160 ≡ k → Op op × (sub ≡ p)
 
   -- One side of a level: the ops that add, or those that delete.
   pub record SideIs (Op : ℕ → Type 0) (one two : ℕ) (on : Bool) : Type 0 where
@@ -115,7 +117,8 @@ module _ (b : Contents) (ok : Admitted b) (rs : Rules) (same-rules : b .rules �
           terms = rw (level .subject r op) (sym (rule-same S r parts good op) ∙ shows);
         })
 
-    may-rule : (S : State) (j : ℕ) (on : Bool) → j < rs .count → Op (ruleAt rs j .op) → adds (ruleAt rs j .op) ≡ on → member (b .query .roles) (ruleAt rs j .role .0) ≡ true
+    may-rule : (S : State) (j : ℕ) (on : Bool) → j < rs .count → Op (ruleAt rs j .op) → adds (ruleAt rs j .op) ≡ on
+        → member (b .query .roles) (ruleAt rs j .role .0) ≡ true
         → ruleShown T S (ruleAt rs j) ≡ true → May b (onLevel k R S) on (wholeAsk (ruleAt rs j))
     unfolding wholeAsk
     may-rule S j on l op add role shows =
@@ -144,7 +147,8 @@ module _ (b : Contents) (ok : Admitted b) (rs : Rules) (same-rules : b .rules �
     fields-of : (q : Ask) → wellFormed (b .sizes) (bytesOf q) ≡ true → fieldsGood (b .sizes) (q .op) (q .role) (q .subject) (q .a) (q .v) ≡ true
     fields-of q e = well-formed-parts (b .sizes) (bytesOf q) e .1
 
-    named-parts : (F : Fact → Bool) (q : Ask) (r : Rule) → fieldsGood (b .sizes) (q .op) (q .role) (q .subject) (q .a) (q .v) ≡ true → PermittedBy (b .juniors) F (asked q) r → Named F q r
+    named-parts : (F : Fact → Bool) (q : Ask) (r : Rule) → fieldsGood (b .sizes) (q .op) (q .role) (q .subject) (q .a) (q .v) ≡ true
+        → PermittedBy (b .juniors) F (asked q) r → Named F q r
     named-parts F q r good e =
         let by = rw (request-parts (bytesOf q)) at e in
         record {
@@ -170,18 +174,22 @@ module _ (b : Contents) (ok : Admitted b) (rs : Rules) (same-rules : b .rules �
           subst (May b (onLevel k R S) on) (sym whole)
           (may-rule S j on l (op .0) (op .1) (parts .1) (sym (move-met T S (all-good .good j l) move) ∙ some .holds))
 
-      some-of : (S : State) (q : Ask) → q .fact / 160 ≡ k → May b (onLevel k R S) on q → (j : ℕ) → j < rs .count → Named (lift b (onLevel k R S)) q (ruleAt rs j) → Some T ms p S (toLevel q)
+      some-of : (S : State) (q : Ask) → q .fact / 160 ≡ k → May b (onLevel k R S) on q → (j : ℕ) → j < rs .count
+          → Named (lift b (onLevel k R S)) q (ruleAt rs j) → Some T ms p S (toLevel q)
       some-of S q here may j l named =
           let r = ruleAt rs j in
           let fact-of = ap (λ (x : Request). x .fact) (request-parts (bytesOf q)) in
           let on-level = sym (ap (numberOf b) fact-of) ∙ may .number in
           let parts = rule-parts (b .sizes) r (fits-at j l) in
           let good = all-good .good j l in
-          let where-at = level .from-number (q .op) (q .subject) (q .a) (q .v) (q .role) (fields-of q (may .formed)) (sym (ap (tracked b) fact-of) ∙ may .of-fact) (ap (λ (n : ℕ). n / 160) on-level ∙ here) in
+          let of-fact = sym (ap (tracked b) fact-of) ∙ may .of-fact in
+          let at-level = ap (λ (n : ℕ). n / 160) on-level ∙ here in
+          let where-at = level .from-number (q .op) (q .subject) (q .a) (q .v) (q .role) (fields-of q (may .formed)) of-fact at-level in
           let op : Op (r .op) = subst Op (sym (named .op)) (where-at .0) in
           let aim : aimed (q .op) (q .subject) (q .a) (q .v) ≡ aimed (r .op) p (r .a) (r .v) = rw (named .op, named .a, named .v, where-at .1) refl in
           let number : q .fact ≡ 160 * k + placeOf (r .op) (r .a) (r .v) = sym on-level ∙ ap (numberOf b) aim ∙ level .number r parts op in
-          let chosen = chosen-from one two (b .query .roles) r (side .from (r .op) op (ap adds (named .op) ∙ may .adding)) (ap (member (b .query .roles)) (named .role) ∙ may .role) in
+          let on-side = side .from (r .op) op (ap adds (named .op) ∙ may .adding) in
+          let chosen = chosen-from one two (b .query .roles) r on-side (ap (member (b .query .roles)) (named .role) ∙ may .role) in
           let found = moves .every j l chosen in
           let move = found .2 in
           let about : subjectOf (aimed (q .op) (q .subject) (q .a) (q .v)) ≡ s = ap subjectOf aim ∙ level .subject r op in
@@ -191,7 +199,8 @@ module _ (b : Contents) (ok : Admitted b) (rs : Rules) (same-rules : b .rules �
           record {
             index = found .0;
             listed = found .1;
-            same = ask-same q (moveAt ms (found .0)) p fact (move .op ∙ named .op) (move .role ∙ named .role) (where-at .1) (move .a ∙ named .a) (move .v ∙ named .v);
+            same = ask-same q (moveAt ms (found .0)) p fact (move .op ∙ named .op) (move .role ∙ named .role) (where-at .1) (move .a ∙ named .a)
+                (move .v ∙ named .v);
             holds = move-met T S good move ∙ shows;
             known = omega arith;
           }
@@ -201,7 +210,8 @@ module _ (b : Contents) (ok : Admitted b) (rs : Rules) (same-rules : b .rules �
       side-out S q here may =
           let found = permitted-cases (b .juniors) (lift b (onLevel k R S)) (asked q) (b .rules) noRule (may .allows) in
           let l : found .0 < rs .count = rw listed-length at (found .1 .0) in
-          some-of S q here may (found .0) l (named-parts (lift b (onLevel k R S)) q (ruleAt rs (found .0)) (fields-of q (may .formed)) (rw (listed-at (found .0) l) at (found .1 .1)))
+          some-of S q here may (found .0) l
+          (named-parts (lift b (onLevel k R S)) q (ruleAt rs (found .0)) (fields-of q (may .formed)) (rw (listed-at (found .0) l) at (found .1 .1)))
 
     -- The level's world is the depot's at that level.
     pub within : {add₁ add₂ del₁ del₂ : ℕ} (adds dels : Moves) → SideIs Op add₁ add₂ true → SideIs Op del₁ del₂ false
@@ -217,6 +227,7 @@ module _ (b : Contents) (ok : Admitted b) (rs : Rules) (same-rules : b .rules �
         into-depot S true q some = side-into up adds more S q some
         into-depot S false q some = side-into down dels less S q some
 
-        out-depot : (S : State) (on : Bool) (q : Ask) → q .fact / 160 ≡ k → depot b .May (onLevel k R S) (req on q) → world T adds dels p .May S (req on (toLevel q))
+        out-depot : (S : State) (on : Bool) (q : Ask) → q .fact / 160 ≡ k → depot b .May (onLevel k R S) (req on q)
+            → world T adds dels p .May S (req on (toLevel q))
         out-depot S true q here may = side-out up adds more S q here may
         out-depot S false q here may = side-out down dels less S q here may
