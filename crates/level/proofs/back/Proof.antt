@@ -24,8 +24,11 @@ abbrev μ-loop : tie.MeasureT-loop
 abbrev at-loop : tie.After-turn-at Inv-loop μ-loop → tie.At-loop Inv-loop μ-loop
 at-loop c = c .before .before .before
 
+abbrev start : tie.After-slice-known3 Inv-loop μ-loop → tie.Start Inv-loop μ-loop
+start c = c .before .before .before .before .before .before .before
+
 abbrev at-start : tie.At-loop Inv-loop μ-loop → tie.Start Inv-loop μ-loop
-at-start c = c .before .before .before .before .before .before .before .before
+at-start c = start (c .before)
 
 abbrev at-turn : tie.After-backs Inv-loop μ-loop → tie.After-turn-at Inv-loop μ-loop
 at-turn c = c .before .before
@@ -33,18 +36,15 @@ at-turn c = c .before .before
 abbrev at-move : tie.After-slice-known4 Inv-loop μ-loop → tie.After-move-at Inv-loop μ-loop
 at-move c = c .before .before .before .before
 
-abbrev at-then : tie.After-slice-known4 Inv-loop μ-loop → tie.Then1 Inv-loop μ-loop
-at-then c = at-move c .before
+abbrev move-backs : tie.After-slice-known4 Inv-loop μ-loop → tie.Then1 Inv-loop μ-loop
+move-backs c = at-move c .before
 
 abbrev at-put : tie.After-slice-known5 Inv-loop μ-loop → tie.After-slice-known4 Inv-loop μ-loop
 at-put c = c .before .before .before .before
 
-abbrev at-start-first : tie.After-slice-known3 Inv-loop μ-loop → tie.Start Inv-loop μ-loop
-at-start-first c = c .before .before .before .before .before .before .before
-
 loop-holds : tie.Need-loop-holds Inv-loop μ-loop
 loop-holds c =
-    let s = at-start-first c in (
+    let s = start c in (
       back-first (movesIn (s .args .dels .now)) (s .args .subject) (s .args .out .now) (s .pre .1 .0),
       sweeping-anew _ (s .pre .1 .1) (omega arith) (λ h. h),
     )
@@ -79,26 +79,26 @@ room c =
 
 cast-deleted : tie.Need-cast-deleted Inv-loop μ-loop
 cast-deleted c =
-    let t = at-turn (at-then c .before) in
+    let t = at-turn (move-backs c .before) in
     omega (arith, t .turn-at .ensures .fits, at-start (at-loop t) .pre .0 .few)
 
 sub-deleted : tie.Need-sub-deleted Inv-loop μ-loop
-sub-deleted c = omega (arith, at-loop (at-turn (at-then c .before)) .loop .inv .0 .down)
+sub-deleted c = omega (arith, at-loop (at-turn (move-backs c .before)) .loop .inv .0 .down)
 
 mul-deleted : tie.Need-mul-deleted Inv-loop μ-loop
-mul-deleted c = omega (arith, room (at-then c))
+mul-deleted c = omega (arith, room (move-backs c))
 
 slice-write-deleted : tie.Need-slice-write-deleted Inv-loop μ-loop
 slice-write-deleted c =
-    let h = at-then c in
+    let h = move-backs c in
     omega (arith, room h, at-loop (at-turn (h .before)) .loop .inv .1 .named)
 
 sub-at : tie.Need-sub-at Inv-loop μ-loop
-sub-at c = omega (arith, room (at-then c), at-start (at-loop (at-turn (at-then c .before))) .pre .1 .0 .below)
+sub-at c = omega (arith, room (move-backs c), at-start (at-loop (at-turn (move-backs c .before))) .pre .1 .0 .below)
 
 note-requires : tie.Need-note-requires Inv-loop μ-loop
 note-requires c κs =
-    let h = at-then (c .before) in
+    let h = move-backs (c .before) in
     let t = at-turn (h .before) in
     let k = at-loop t .loop .inv .0 in
     let s = at-start (at-loop t) in (
@@ -107,17 +107,17 @@ note-requires c κs =
     )
 
 next-requires : tie.Need-next-requires Inv-loop μ-loop
-next-requires c κs = at-turn (at-then (at-put c) .before) .turn-at .ensures .fits
+next-requires c κs = at-turn (move-backs (at-put c) .before) .turn-at .ensures .fits
 
 loop-less : tie.Need-loop-less Inv-loop μ-loop
 loop-less c =
-    let h = at-then (at-put (c .before)) in
+    let h = move-backs (at-put (c .before)) in
     fired-less _ _ _ _ (omega (arith, room h, at-start (at-loop (at-turn (h .before))) .pre .1 .0 .below))
 
 loop-again : tie.Need-loop-again Inv-loop μ-loop
 loop-again c =
     let p = at-put (c .before) in
-    let h = at-then p in
+    let h = move-backs p in
     let t = at-turn (h .before) in
     let s = at-start (at-loop t) in
     let inv = at-loop t .loop .inv in (

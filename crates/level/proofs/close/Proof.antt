@@ -24,8 +24,11 @@ abbrev μ-loop : tie.MeasureT-loop
 abbrev at-loop : tie.After-turn-at Inv-loop μ-loop → tie.At-loop Inv-loop μ-loop
 at-loop c = c .before .before .before
 
+abbrev start : tie.After-slice-known3 Inv-loop μ-loop → tie.Start Inv-loop μ-loop
+start c = c .before .before .before .before .before .before
+
 abbrev at-start : tie.At-loop Inv-loop μ-loop → tie.Start Inv-loop μ-loop
-at-start c = c .before .before .before .before .before .before .before
+at-start c = start (c .before)
 
 abbrev at-turn : tie.After-fires Inv-loop μ-loop → tie.After-turn-at Inv-loop μ-loop
 at-turn c = c .before .before
@@ -33,18 +36,15 @@ at-turn c = c .before .before
 abbrev at-move : tie.After-slice-known4 Inv-loop μ-loop → tie.After-move-at Inv-loop μ-loop
 at-move c = c .before .before .before .before
 
-abbrev at-then : tie.After-slice-known4 Inv-loop μ-loop → tie.Then1 Inv-loop μ-loop
-at-then c = at-move c .before
+abbrev move-fires : tie.After-slice-known4 Inv-loop μ-loop → tie.Then1 Inv-loop μ-loop
+move-fires c = at-move c .before
 
 abbrev at-put : tie.After-slice-known5 Inv-loop μ-loop → tie.After-slice-known4 Inv-loop μ-loop
 at-put c = c .before .before .before .before
 
-abbrev at-start-first : tie.After-slice-known3 Inv-loop μ-loop → tie.Start Inv-loop μ-loop
-at-start-first c = c .before .before .before .before .before .before
-
 loop-holds : tie.Need-loop-holds Inv-loop μ-loop
 loop-holds c =
-    let s = at-start-first c in (
+    let s = start c in (
       kept-first (movesIn (s .args .adds .now)) (s .args .subject) (s .args .out .now) (s .pre .1 .0),
       sweeping-anew _ (s .pre .1 .1) (omega arith) (λ h. h),
     )
@@ -79,12 +79,12 @@ room c =
 
 add-note : tie.Need-add-note Inv-loop μ-loop
 add-note c =
-    let s = at-start (at-loop (at-turn (at-then c .before))) in
-    omega (arith, room (at-then c), s .pre .1 .0 .room, s .good .1 .1 .1 .1 .1 .1 .1 .0)
+    let s = at-start (at-loop (at-turn (move-fires c .before))) in
+    omega (arith, room (move-fires c), s .pre .1 .0 .room, s .good .1 .1 .1 .1 .1 .1 .1 .0)
 
 note-requires : tie.Need-note-requires Inv-loop μ-loop
 note-requires c κs =
-    let h = at-then (c .before) in
+    let h = move-fires (c .before) in
     let t = at-turn (h .before) in
     let k = at-loop t .loop .inv .0 in
     let s = at-start (at-loop t) in
@@ -92,30 +92,30 @@ note-requires c κs =
 
 cast-added : tie.Need-cast-added Inv-loop μ-loop
 cast-added c =
-    let t = at-turn (at-then (at-put c) .before) in
+    let t = at-turn (move-fires (at-put c) .before) in
     omega (arith, t .turn-at .ensures .fits, at-start (at-loop t) .pre .0 .few)
 
 mul-added : tie.Need-mul-added Inv-loop μ-loop
-mul-added c = omega (arith, room (at-then (at-put c)))
+mul-added c = omega (arith, room (move-fires (at-put c)))
 
 slice-write-added : tie.Need-slice-write-added Inv-loop μ-loop
 slice-write-added c =
-    let h = at-then (at-put c) in
+    let h = move-fires (at-put c) in
     omega (arith, room h, at-loop (at-turn (h .before)) .loop .inv .1 .named)
 
 add-n : tie.Need-add-n Inv-loop μ-loop
-add-n c = omega (arith, room (at-then (at-put c)))
+add-n c = omega (arith, room (move-fires (at-put c)))
 
 next-requires : tie.Need-next-requires Inv-loop μ-loop
-next-requires c κs = at-turn (at-then (at-put c) .before) .turn-at .ensures .fits
+next-requires c κs = at-turn (move-fires (at-put c) .before) .turn-at .ensures .fits
 
 loop-less : tie.Need-loop-less Inv-loop μ-loop
-loop-less c = fired-less _ _ _ _ (omega (arith, room (at-then (at-put (c .before)))))
+loop-less c = fired-less _ _ _ _ (omega (arith, room (move-fires (at-put (c .before)))))
 
 loop-again : tie.Need-loop-again Inv-loop μ-loop
 loop-again c =
     let p = at-put (c .before) in
-    let h = at-then p in
+    let h = move-fires p in
     let t = at-turn (h .before) in
     let inv = at-loop t .loop .inv in (
       kept-add (inv .0) (at-start (at-loop t) .pre .0) (t .turn-at .ensures .fits) (h .before .fires .ensures) (h .if1 .taken)

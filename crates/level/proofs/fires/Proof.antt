@@ -10,28 +10,28 @@ use Rattle.level.proofs.fires.Tie as tie
 
 -- The places that the answers name, each seen from a later one: the start, from the slices and from where the fact was read, and that place from the
 -- second test's yes.
-abbrev from-slices : tie.After-shared-slice-known3 → tie.Start
-from-slices c = c .before .before .before
+abbrev start : tie.After-shared-slice-known3 → tie.Start
+start c = c .before .before .before
 
 abbrev at-start : tie.After-wide → tie.Start
-at-start c = from-slices (c .before .before)
+at-start c = start (c .before .before)
 
-abbrev at-fact : tie.Then2 → tie.After-wide
-at-fact c = c .before .before .before .before
+abbrev after-wide : tie.Then2 → tie.After-wide
+after-wide c = c .before .before .before .before
 
 mul-at : tie.Need-mul-at
 mul-at c =
-    let s = from-slices c in
+    let s = start c in
     omega (arith, listed-room (s .pre .0 .0) (s .pre .0 .1))
 
 mul-wide : tie.Need-mul-wide
 mul-wide c =
-    let s = from-slices c in
+    let s = start c in
     omega (arith, listed-room (s .pre .0 .0) (s .pre .0 .1))
 
 shared-slice-read-wide : tie.Need-shared-slice-read-wide
 shared-slice-read-wide c =
-    let s = from-slices (c .before) in
+    let s = start (c .before) in
     omega (arith, listed-room (s .pre .0 .0) (s .pre .0 .1))
 
 wide-requires : tie.Need-wide-requires
@@ -58,7 +58,7 @@ shared-slice-read-if2 c =
 
 meets-requires : tie.Need-meets-requires
 meets-requires c κs =
-    let r = at-fact c in
+    let r = after-wide c in
     let s = at-start r in
     (listed-room (s .pre .0 .0) (s .pre .0 .1), (listed-stands (s .pre .0 .0) (s .pre .0 .1), s .pre .1 .0))
 

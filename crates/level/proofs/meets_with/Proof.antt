@@ -22,14 +22,14 @@ abbrev μ-loop : tie.MeasureT-loop
 μ-loop ms at table x f n j₀ j = n - j
 
 -- The places that the answers name, each seen from a later one: the start, where the fact was read, where the number of terms was, the loop's turn.
-abbrev from-slices : tie.After-shared-slice-known3 Inv-loop μ-loop → tie.Start Inv-loop μ-loop
-from-slices c = c .before .before .before
+abbrev start : tie.After-shared-slice-known3 Inv-loop μ-loop → tie.Start Inv-loop μ-loop
+start c = c .before .before .before
 
 abbrev at-start : tie.After-wide Inv-loop μ-loop → tie.Start Inv-loop μ-loop
-at-start c = from-slices (c .before .before)
+at-start c = start (c .before .before)
 
-abbrev at-fact : tie.After-wide2 Inv-loop μ-loop → tie.After-wide Inv-loop μ-loop
-at-fact c = c .before .before
+abbrev after-wide : tie.After-wide2 Inv-loop μ-loop → tie.After-wide Inv-loop μ-loop
+after-wide c = c .before .before
 
 abbrev at-count : tie.In-loop Inv-loop μ-loop → tie.After-wide2 Inv-loop μ-loop
 at-count c = c .before .before
@@ -38,14 +38,14 @@ abbrev at-turn : tie.After-lit Inv-loop μ-loop → tie.In-loop Inv-loop μ-loop
 at-turn c = c .before .before .before
 
 -- What was read of the move before its terms.
-abbrev reading : (c : tie.After-wide2 Inv-loop μ-loop) → Reading (at-start (at-fact c) .args .ms .now) (at-start (at-fact c) .args .at) (c .wide2 .result)
-reading c = record { fine = at-start (at-fact c) .pre .0 .1; count = c .wide2 .ensures }
+abbrev reading : (c : tie.After-wide2 Inv-loop μ-loop) → Reading (at-start (after-wide c) .args .ms .now) (at-start (after-wide c) .args .at) (c .wide2 .result)
+reading c = record { fine = at-start (after-wide c) .pre .0 .1; count = c .wide2 .ensures }
 
 mul-wide : tie.Need-mul-wide Inv-loop μ-loop
-mul-wide c = omega (arith, from-slices c .pre .0 .0)
+mul-wide c = omega (arith, start c .pre .0 .0)
 
 shared-slice-read-wide : tie.Need-shared-slice-read-wide Inv-loop μ-loop
-shared-slice-read-wide c = omega (arith, from-slices (c .before) .pre .0 .0)
+shared-slice-read-wide c = omega (arith, start (c .before) .pre .0 .0)
 
 wide-requires : tie.Need-wide-requires Inv-loop μ-loop
 wide-requires c κs = search needs
@@ -64,8 +64,8 @@ wide-requires-2 c κs = search needs
 
 loop-holds : tie.Need-loop-holds Inv-loop μ-loop
 loop-holds c =
-    let s = at-start (at-fact c) in
-    (omega arith, with-read (s .args .ms .now) (s .args .at) (s .args .table .now) (s .args .x .now) (at-fact c .wide .ensures))
+    let s = at-start (after-wide c) in
+    (omega arith, with-read (s .args .ms .now) (s .args .at) (s .args .table .now) (s .args .x .now) (after-wide c .wide .ensures))
 
 -- A term's place among the numbers is one of the move's fourteen.
 few : (c : tie.In-loop Inv-loop μ-loop) → at-count c .wide2 .result ≤ 8
@@ -90,8 +90,8 @@ lit-requires : tie.Need-lit-requires Inv-loop μ-loop
 lit-requires c κs =
     let t = c .before .before in
     let n = at-count t in
-    let s = at-start (at-fact n) in (
-      fact-fits (s .args .ms .now) (s .args .at) (s .pre .0 .1) (at-fact n .wide .ensures),
+    let s = at-start (after-wide n) in (
+      fact-fits (s .args .ms .now) (s .args .at) (s .pre .0 .1) (after-wide n .wide .ensures),
       (term-fits (reading n) (t .before .loop .j) (t .loop-test .taken) (c .wide3 .ensures), s .pre .1),
     )
 
@@ -99,9 +99,9 @@ returns : tie.Need-returns Inv-loop μ-loop
 returns c =
     let t = at-turn (c .before) in
     let n = at-count t in
-    let s = at-start (at-fact n) in
+    let s = at-start (after-wide n) in
     sym (t .before .loop .inv .1
-    ∙ places-fail (reading n) (λ k. getD (s .args .x .now) k false || touches (s .args .table .now) (at-fact n .wide .result) k)
+    ∙ places-fail (reading n) (λ k. getD (s .args .x .now) k false || touches (s .args .table .now) (after-wide n .wide .result) k)
     (t .before .loop .j) (t .loop-test .taken) (c .before .before .wide3 .ensures) (sym (c .before .lit .ensures) ∙ not-true _ (c .if1 .taken)))
 
 add-j : tie.Need-add-j Inv-loop μ-loop
@@ -114,19 +114,19 @@ loop-again : tie.Need-loop-again Inv-loop μ-loop
 loop-again c =
     let t = at-turn (c .before) in
     let n = at-count t in
-    let s = at-start (at-fact n) in (
+    let s = at-start (after-wide n) in (
       omega arith,
       t .before .loop .inv .1
-          ∙ places-pass (reading n) (λ k. getD (s .args .x .now) k false || touches (s .args .table .now) (at-fact n .wide .result) k)
+          ∙ places-pass (reading n) (λ k. getD (s .args .x .now) k false || touches (s .args .table .now) (after-wide n .wide .result) k)
           (t .before .loop .j) (t .loop-test .taken) (c .before .before .wide3 .ensures) (sym (c .before .lit .ensures) ∙ not-false _ (c .if1 .left)),
     )
 
 returns-2 : tie.Need-returns-2 Inv-loop μ-loop
 returns-2 c =
     let n = c .before .before in
-    let s = at-start (at-fact n) in
+    let s = at-start (after-wide n) in
     sym (c .before .loop .inv .1
-    ∙ places-out (reading n) (λ k. getD (s .args .x .now) k false || touches (s .args .table .now) (at-fact n .wide .result) k)
+    ∙ places-out (reading n) (λ k. getD (s .args .x .now) k false || touches (s .args .table .now) (after-wide n .wide .result) k)
     (c .before .loop .j) (c .loop-test .left))
 
 pub meets-with-spec : {M : Type 1} → statement M

@@ -140,8 +140,8 @@ shared-slice-read-t16-2 c = search needs
 returns : tie.Need-returns
 unfolding moveAt moveFrom
 returns c =
-    let at-wide2 = c .before .before .before .before in
-    rw (at-wide2 .before .before .wide .ensures, at-wide2 .wide2 .ensures) refl
+    let second-wide = c .before .before .before .before in
+    rw (second-wide .before .before .wide .ensures, second-wide .wide2 .ensures) refl
 
 pub move-at-spec : {M : Type 1} → statement M
 move-at-spec =
