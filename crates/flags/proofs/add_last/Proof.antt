@@ -53,14 +53,12 @@ loop-less c = search needs
 
 loop-again : tie.Need-loop-again Inv-loop μ-loop
 loop-again c =
-    let at-start = c .before .before .before .before in (
-      omega arith,
-      written-more (getD (c .before .before .before .loop .table)
-          (5120 + c .before .before .before .loop .f) false || getD (at-start .args .rows .now)
-          (160 * at-start .args .j + c .before .before .before .loop .f) false) (5120 + c .before .before .before .loop .f)
-          (c .before .before .before .loop .inv .1) refl (omega (arith, at-start .pre .1 .1))
-          (rw (c .before .before .before .loop .inv .1 .above (5120 + c .before .before .before .loop .f) (omega arith)) refl),
-    )
+    let at-loop = c .before .before .before in
+    let at-start = at-loop .before in
+    let f = at-loop .loop .f in
+    let written = at-loop .loop .inv .1 in
+    let flag = getD (at-loop .loop .table) (5120 + f) false || getD (at-start .args .rows .now) (160 * at-start .args .j + f) false in
+    (omega arith, written-more flag (5120 + f) written refl (omega (arith, at-start .pre .1 .1)) (rw (written .above (5120 + f) (omega arith)) refl))
 
 same-length : tie.Need-same-length Inv-loop μ-loop
 same-length c = c .before .loop .inv .1 .size

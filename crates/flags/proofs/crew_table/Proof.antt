@@ -94,8 +94,8 @@ same-length c = c .before .loop .inv .1 .size ∙ after-clear-flags (c .before) 
 
 returns : tie.Need-returns Inv-loop μ-loop
 returns c =
-    let at-clear-flags = c .before .before .before .before in
-    let at-start = at-clear-flags .before .before .before .before .before .before in
+    let at-clear-flags = after-clear-flags (c .before) in
+    let at-start = entry (at-clear-flags .before) in
     let start = at-start .args in
     let last : c .before .loop .j ≡ start .k = omega (arith, c .before .loop .inv .0, c .loop-test .left) in
     crew-table-all (start .juniors .now) (start .k) (start .rows .now) (at-start .pre .1 .1 .1)

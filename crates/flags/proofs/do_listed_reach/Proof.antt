@@ -16,6 +16,10 @@ Inv-loop listed rows c d₀ d = (d ≤ 32) × (anyBelow (listedReaches listed ro
 abbrev μ-loop : tie.MeasureT-loop
 μ-loop listed rows c d₀ d = 32 - d
 
+-- The place that the answers name, seen from a later one.
+abbrev loop-head : tie.After-shared-slice-known2 Inv-loop μ-loop → tie.At-loop Inv-loop μ-loop
+loop-head c = c .before .before .before
+
 loop-holds : tie.Need-loop-holds Inv-loop μ-loop
 loop-holds c = (omega arith, any-zero _)
 
@@ -39,7 +43,7 @@ shared-slice-read-reached c = search needs
 
 returns : tie.Need-returns Inv-loop μ-loop
 returns c =
-    let at-loop = c .before .before .before .before in
+    let at-loop = loop-head (c .before) in
     let start = at-loop .before .before .args in
     sym (any-from (listedReaches (start .listed) (start .rows .now) (start .c)) 32 (at-loop .loop .d)
     (rw (← c .before .before .has .ensures) (c .if1 .taken)) (c .before .before .before .loop-test .taken))
@@ -52,7 +56,7 @@ loop-less c = search needs
 
 loop-again : tie.Need-loop-again Inv-loop μ-loop
 loop-again c =
-    let at-loop = c .before .before .before .before in
+    let at-loop = loop-head (c .before) in
     let start = at-loop .before .before .args in (
       omega arith,
       any-next (listedReaches (start .listed) (start .rows .now) (start .c)) (at-loop .loop .d)

@@ -60,7 +60,7 @@ same-length c = c .before .loop .inv .1 .size ∙ after-clear-flags (c .before) 
 
 returns : tie.Need-returns Inv-loop μ-loop
 returns c =
-    let at-clear-flags = c .before .before .before .before in
+    let at-clear-flags = after-clear-flags (c .before) in
     let last : c .before .loop .c ≡ 32 = omega (arith, c .before .loop .inv .0, c .loop-test .left) in
     first-rows-all (at-clear-flags .clear-flags .ensures .size ∙ at-clear-flags .before .before .before .pre)
     (rw last at (c .before .loop .inv .1))

@@ -16,6 +16,9 @@ abbrev μ-loop : tie.MeasureT-loop
 μ-loop facts place w s₀ at m₀ s m = w - m
 
 -- The places that the answers name, each seen from a later one.
+abbrev after-byte-at : tie.After-write-bits Inv-loop μ-loop → tie.After-byte-at Inv-loop μ-loop
+after-byte-at c = c .before .before
+
 abbrev start : tie.After-byte-at Inv-loop μ-loop → tie.Start Inv-loop μ-loop
 start c = c .before .before .before .before .before
 
@@ -62,9 +65,9 @@ loop-less c = search needs
 
 loop-again : tie.Need-loop-again Inv-loop μ-loop
 loop-again c =
-    let at-byte-at = c .before .before .before .before in
+    let at-byte-at = after-byte-at (c .before .before) in
     let at-loop = at-byte-at .before .before in
-    let at-start = at-loop .before .before .before in (
+    let at-start = start at-byte-at in (
       omega arith,
       set-more (at-start .args .facts .now) (at-start .args .place) (at-start .args .at) (at-loop .loop .m)
           (at-start .args .w) (at-byte-at .before .loop-test .taken) (at-loop .loop .inv .1)
