@@ -44,9 +44,9 @@ at-put c = c .before .before .before .before
 
 loop-holds : tie.Need-loop-holds Inv-loop μ-loop
 loop-holds c =
-    let s = start c in (
-      back-first (movesIn (s .args .dels .now)) (s .args .subject) (s .args .out .now) (s .pre .1 .0),
-      sweeping-anew _ (s .pre .1 .1) (omega arith) (λ h. h),
+    let entry = start c in (
+      back-first (movesIn (entry .args .dels .now)) (entry .args .subject) (entry .args .out .now) (entry .pre .1 .0),
+      sweeping-anew _ (entry .pre .1 .1) (omega arith) (λ h. h),
     )
 
 turn-at-requires : tie.Need-turn-at-requires Inv-loop μ-loop
@@ -54,33 +54,33 @@ turn-at-requires c κs = turn-ready (c .before .before .loop .inv .1) (c .before
 
 backs-requires : tie.Need-backs-requires Inv-loop μ-loop
 backs-requires c κs =
-    let t = c .before in
-    let s = at-start (at-loop t) in
-    let w = at-loop t .loop .inv .0 .whole in
-    ((s .pre .0, t .turn-at .ensures .fits), (s .pre .1 .0 .length-x, (w .size, w .rows)))
+    let turn = c .before in
+    let entry = at-start (at-loop turn) in
+    let whole = at-loop turn .loop .inv .0 .whole in
+    ((entry .pre .0, turn .turn-at .ensures .fits), (entry .pre .1 .0 .length-x, (whole .size, whole .rows)))
 
 move-at-requires : tie.Need-move-at-requires Inv-loop μ-loop
 move-at-requires c κs =
-    let t = at-turn (c .before) in
-    let sound = at-start (at-loop t) .pre .0 in
-    (omega (arith, t .turn-at .ensures .fits, sound .few), listed-room sound (t .turn-at .ensures .fits))
+    let turn = at-turn (c .before) in
+    let sound = at-start (at-loop turn) .pre .0 in
+    (omega (arith, turn .turn-at .ensures .fits, sound .few), listed-room sound (turn .turn-at .ensures .fits))
 
 put-requires : tie.Need-put-requires Inv-loop μ-loop
 put-requires c κs =
-    let t = at-turn (c .before .before .before) in
-    let w = at-loop t .loop .inv .0 .whole in
-    (listed-fine (at-start (at-loop t) .pre .0) (t .turn-at .ensures .fits) (c .before .move-at .ensures) .fact, (w .size, w .rows))
+    let turn = at-turn (c .before .before .before) in
+    let whole = at-loop turn .loop .inv .0 .whole in
+    (listed-fine (at-start (at-loop turn) .pre .0) (turn .turn-at .ensures .fits) (c .before .move-at .ensures) .fact, (whole .size, whole .rows))
 
 -- A move fires only where there is room for its request.
 room : (c : tie.Then1 Inv-loop μ-loop) → at-start (at-loop (at-turn (c .before))) .args .end < at-loop (at-turn (c .before)) .loop .at + 160
 room c =
-    let t = at-turn (c .before) in
-    back-left (at-loop t .loop .inv .0) (at-start (at-loop t) .pre .0) (t .turn-at .ensures .fits) (c .before .backs .ensures) (c .if1 .taken)
+    let turn = at-turn (c .before) in
+    back-left (at-loop turn .loop .inv .0) (at-start (at-loop turn) .pre .0) (turn .turn-at .ensures .fits) (c .before .backs .ensures) (c .if1 .taken)
 
 cast-deleted : tie.Need-cast-deleted Inv-loop μ-loop
 cast-deleted c =
-    let t = at-turn (move-backs c .before) in
-    omega (arith, t .turn-at .ensures .fits, at-start (at-loop t) .pre .0 .few)
+    let turn = at-turn (move-backs c .before) in
+    omega (arith, turn .turn-at .ensures .fits, at-start (at-loop turn) .pre .0 .few)
 
 sub-deleted : tie.Need-sub-deleted Inv-loop μ-loop
 sub-deleted c = omega (arith, at-loop (at-turn (move-backs c .before)) .loop .inv .0 .down)
@@ -90,20 +90,20 @@ mul-deleted c = omega (arith, room (move-backs c))
 
 slice-write-deleted : tie.Need-slice-write-deleted Inv-loop μ-loop
 slice-write-deleted c =
-    let h = move-backs c in
-    omega (arith, room h, at-loop (at-turn (h .before)) .loop .inv .1 .named)
+    let fired = move-backs c in
+    omega (arith, room fired, at-loop (at-turn (fired .before)) .loop .inv .1 .named)
 
 sub-at : tie.Need-sub-at Inv-loop μ-loop
 sub-at c = omega (arith, room (move-backs c), at-start (at-loop (at-turn (move-backs c .before))) .pre .1 .0 .below)
 
 note-requires : tie.Need-note-requires Inv-loop μ-loop
 note-requires c κs =
-    let h = move-backs (c .before) in
-    let t = at-turn (h .before) in
-    let k = at-loop t .loop .inv .0 in
-    let s = at-start (at-loop t) in (
-      listed-fine (s .pre .0) (t .turn-at .ensures .fits) (at-move (c .before) .move-at .ensures),
-      omega (arith, room h, k .size, k .down, s .pre .1 .0 .below, s .pre .1 .0 .room),
+    let fired = move-backs (c .before) in
+    let turn = at-turn (fired .before) in
+    let kept = at-loop turn .loop .inv .0 in
+    let entry = at-start (at-loop turn) in (
+      listed-fine (entry .pre .0) (turn .turn-at .ensures .fits) (at-move (c .before) .move-at .ensures),
+      omega (arith, room fired, kept .size, kept .down, entry .pre .1 .0 .below, entry .pre .1 .0 .room),
     )
 
 next-requires : tie.Need-next-requires Inv-loop μ-loop
@@ -111,39 +111,39 @@ next-requires c κs = at-turn (move-backs (at-put c) .before) .turn-at .ensures 
 
 loop-less : tie.Need-loop-less Inv-loop μ-loop
 loop-less c =
-    let h = move-backs (at-put (c .before)) in
-    fired-less _ _ _ _ (omega (arith, room h, at-start (at-loop (at-turn (h .before))) .pre .1 .0 .below))
+    let fired = move-backs (at-put (c .before)) in
+    fired-less _ _ _ _ (omega (arith, room fired, at-start (at-loop (at-turn (fired .before))) .pre .1 .0 .below))
 
 loop-again : tie.Need-loop-again Inv-loop μ-loop
 loop-again c =
-    let p = at-put (c .before) in
-    let h = move-backs p in
-    let t = at-turn (h .before) in
-    let s = at-start (at-loop t) in
-    let inv = at-loop t .loop .inv in (
-      back-add (inv .0) (s .pre .0) (s .pre .1 .0 .below) (t .turn-at .ensures .fits) (h .before .backs .ensures) (h .if1 .taken)
-          (at-move p .move-at .ensures) (p .before .before .put .ensures) (c .before .before .before .note .ensures),
-      sweeping-anew _ (simp length-set (inv .1 .named)) (t .turn-at .ensures .names) (λ _. c .next .ensures .fits),
+    let put-in = at-put (c .before) in
+    let fired = move-backs put-in in
+    let turn = at-turn (fired .before) in
+    let entry = at-start (at-loop turn) in
+    let inv = at-loop turn .loop .inv in (
+      back-add (inv .0) (entry .pre .0) (entry .pre .1 .0 .below) (turn .turn-at .ensures .fits) (fired .before .backs .ensures) (fired .if1 .taken)
+          (at-move put-in .move-at .ensures) (put-in .before .before .put .ensures) (c .before .before .before .note .ensures),
+      sweeping-anew _ (simp length-set (inv .1 .named)) (turn .turn-at .ensures .names) (λ _. c .next .ensures .fits),
     )
 
 add-quiet : tie.Need-add-quiet Inv-loop μ-loop
 add-quiet c =
-    let t = at-turn (c .before) in
-    omega (arith, turn-quiet (t .turn-at .ensures) (t .before .before .loop-test .taken), at-start (at-loop t) .pre .0 .few)
+    let turn = at-turn (c .before) in
+    omega (arith, turn-quiet (turn .turn-at .ensures) (turn .before .before .loop-test .taken), at-start (at-loop turn) .pre .0 .few)
 
 next-requires-2 : tie.Need-next-requires-2 Inv-loop μ-loop
 next-requires-2 c κs = at-turn (c .before) .turn-at .ensures .fits
 
 loop-less-2 : tie.Need-loop-less-2 Inv-loop μ-loop
 loop-less-2 c =
-    let t = at-turn (c .before .before) in
-    quiet-less _ (t .turn-at .ensures) (t .before .before .loop-test .taken)
+    let turn = at-turn (c .before .before) in
+    quiet-less _ (turn .turn-at .ensures) (turn .before .before .loop-test .taken)
 
 loop-again-2 : tie.Need-loop-again-2 Inv-loop μ-loop
 loop-again-2 c =
-    let t = at-turn (c .before .before) in
-    let inv = at-loop t .loop .inv in
-    (inv .0, sweeping-quiet (inv .1) (t .turn-at .ensures) (c .before .before .backs .ensures) (c .before .if1 .left) (c .next2 .ensures))
+    let turn = at-turn (c .before .before) in
+    let inv = at-loop turn .loop .inv in
+    (inv .0, sweeping-quiet (inv .1) (turn .turn-at .ensures) (c .before .before .backs .ensures) (c .before .if1 .left) (c .next2 .ensures))
 
 same-length : tie.Need-same-length Inv-loop μ-loop
 same-length c = c .before .loop .inv .1 .named ∙ sym (at-start (c .before) .pre .1 .1)

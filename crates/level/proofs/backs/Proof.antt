@@ -21,67 +21,77 @@ after-wide c = c .before .before .before .before
 
 mul-at : tie.Need-mul-at
 mul-at c =
-    let s = start c in
-    omega (arith, listed-room (s .pre .0 .0) (s .pre .0 .1))
+    let entry = start c in
+    omega (arith, listed-room (entry .pre .0 .0) (entry .pre .0 .1))
 
 mul-wide : tie.Need-mul-wide
 mul-wide c =
-    let s = start c in
-    omega (arith, listed-room (s .pre .0 .0) (s .pre .0 .1))
+    let entry = start c in
+    omega (arith, listed-room (entry .pre .0 .0) (entry .pre .0 .1))
 
 shared-slice-read-wide : tie.Need-shared-slice-read-wide
 shared-slice-read-wide c =
-    let s = start (c .before) in
-    omega (arith, listed-room (s .pre .0 .0) (s .pre .0 .1))
+    let entry = start (c .before) in
+    omega (arith, listed-room (entry .pre .0 .0) (entry .pre .0 .1))
 
 wide-requires : tie.Need-wide-requires
 wide-requires c κs = search needs
 
 shared-slice-read-if1 : tie.Need-shared-slice-read-if1
 shared-slice-read-if1 c =
-    let r = c .before in
-    let s = at-start r in
-    omega (arith, fact-fits (s .args .ms .now) (14 * s .args .i) (listed-stands (s .pre .0 .0) (s .pre .0 .1)) (r .wide .ensures), s .pre .1 .1 .0)
+    let fact-read = c .before in
+    let entry = at-start fact-read in
+    omega (
+      arith,
+      fact-fits (entry .args .ms .now) (14 * entry .args .i) (listed-stands (entry .pre .0 .0) (entry .pre .0 .1))
+          (fact-read .wide .ensures),
+      entry .pre .1 .1 .0,
+    )
 
 returns : tie.Need-returns
 unfolding backsIn moveAt
 returns c =
-    let r = c .before .before in
-    let s = at-start r in
-    rw (fact-flag (s .args .ms .now) (14 * s .args .i) (s .args .y .now) (r .wide .ensures) (c .if1 .taken))
+    let fact-read = c .before .before in
+    let entry = at-start fact-read in
+    rw (fact-flag (entry .args .ms .now) (14 * entry .args .i) (entry .args .y .now) (fact-read .wide .ensures) (c .if1 .taken))
 
 shared-slice-read-if2 : tie.Need-shared-slice-read-if2
 shared-slice-read-if2 c =
-    let r = c .before .before .before in
-    let s = at-start r in
-    omega (arith, fact-fits (s .args .ms .now) (14 * s .args .i) (listed-stands (s .pre .0 .0) (s .pre .0 .1)) (r .wide .ensures), s .pre .1 .0)
+    let fact-read = c .before .before .before in
+    let entry = at-start fact-read in
+    omega (
+      arith,
+      fact-fits (entry .args .ms .now) (14 * entry .args .i) (listed-stands (entry .pre .0 .0) (entry .pre .0 .1))
+          (fact-read .wide .ensures),
+      entry .pre .1 .0,
+    )
 
 meets-with-requires : tie.Need-meets-with-requires
 meets-with-requires c κs =
-    let r = after-wide c in
-    let s = at-start r in
-    ((listed-room (s .pre .0 .0) (s .pre .0 .1), listed-stands (s .pre .0 .0) (s .pre .0 .1)), s .pre .1 .1)
+    let fact-read = after-wide c in
+    let entry = at-start fact-read in
+    ((listed-room (entry .pre .0 .0) (entry .pre .0 .1), listed-stands (entry .pre .0 .0) (entry .pre .0 .1)), entry .pre .1 .1)
 
 returns-2 : tie.Need-returns-2
 unfolding backsIn moveAt
 returns-2 c =
-    let at-if1 = c .before .before .before in
-    let r = at-if1 .before .before in
-    let s = at-start r in
+    let lacking = c .before .before .before in
+    let fact-read = lacking .before .before in
+    let entry = at-start fact-read in
     rw (
-      fact-flag (s .args .ms .now) (14 * s .args .i) (s .args .y .now) (r .wide .ensures) (at-if1 .if1 .left),
-      fact-flag (s .args .ms .now) (14 * s .args .i) (s .args .x .now) (r .wide .ensures) (c .before .if2 .taken),
+      fact-flag (entry .args .ms .now) (14 * entry .args .i) (entry .args .y .now) (fact-read .wide .ensures) (lacking .if1 .left),
+      fact-flag (entry .args .ms .now) (14 * entry .args .i) (entry .args .x .now) (fact-read .wide .ensures) (c .before .if2 .taken),
     ) (c .meets-with .ensures)
 
 returns-3 : tie.Need-returns-3
 unfolding backsIn moveAt
 returns-3 c =
-    let at-if1 = c .before .before in
-    let r = at-if1 .before .before in
-    let s = at-start r in
+    let lacking = c .before .before in
+    let fact-read = lacking .before .before in
+    let entry = at-start fact-read in
     rw (
-      fact-flag (s .args .ms .now) (14 * s .args .i) (s .args .y .now) (r .wide .ensures) (at-if1 .if1 .left),
-      fact-flag (s .args .ms .now) (14 * s .args .i) (s .args .x .now) (r .wide .ensures) (c .if2 .left),
+      fact-flag (entry .args .ms .now) (14 * entry .args .i) (entry .args .y .now) (fact-read .wide .ensures) (lacking .if1 .left),
+      fact-flag (entry .args .ms .now) (14 * entry .args .i) (entry .args .x .now) (fact-read .wide .ensures) (c .if2 .left),
     )
 
 pub backs-spec : {M : Type 1} → statement M

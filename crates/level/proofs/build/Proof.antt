@@ -48,10 +48,10 @@ loop-less c = omega arith
 loop-again : tie.Need-loop-again Inv-loop μ-loop
 loop-again c =
     let at-put = c .before .before in
-    let at-if1 = at-put .before .before in
-    let at-loop-test = at-if1 .before .before in
+    let flag-set = at-put .before .before in
+    let at-loop-test = flag-set .before .before in
     let at-loop = at-loop-test .before in
-    build-put (at-loop .loop .inv) (at-loop-test .loop-test .taken) (at-if1 .if1 .taken) (at-put .put .ensures)
+    build-put (at-loop .loop .inv) (at-loop-test .loop-test .taken) (flag-set .if1 .taken) (at-put .put .ensures)
 
 add-f-2 : tie.Need-add-f-2 Inv-loop μ-loop
 add-f-2 c = omega arith

@@ -44,9 +44,9 @@ at-put c = c .before .before .before .before
 
 loop-holds : tie.Need-loop-holds Inv-loop μ-loop
 loop-holds c =
-    let s = start c in (
-      kept-first (movesIn (s .args .adds .now)) (s .args .subject) (s .args .out .now) (s .pre .1 .0),
-      sweeping-anew _ (s .pre .1 .1) (omega arith) (λ h. h),
+    let entry = start c in (
+      kept-first (movesIn (entry .args .adds .now)) (entry .args .subject) (entry .args .out .now) (entry .pre .1 .0),
+      sweeping-anew _ (entry .pre .1 .1) (omega arith) (λ h. h),
     )
 
 turn-at-requires : tie.Need-turn-at-requires Inv-loop μ-loop
@@ -54,54 +54,56 @@ turn-at-requires c κs = turn-ready (c .before .before .loop .inv .1) (c .before
 
 fires-requires : tie.Need-fires-requires Inv-loop μ-loop
 fires-requires c κs =
-    let t = c .before in
-    let s = at-start (at-loop t) in
-    let w = at-loop t .loop .inv .0 .whole in
-    ((s .pre .0, t .turn-at .ensures .fits), (w .size, s .pre .1 .0 .length-allowed))
+    let turn = c .before in
+    let entry = at-start (at-loop turn) in
+    let whole = at-loop turn .loop .inv .0 .whole in
+    ((entry .pre .0, turn .turn-at .ensures .fits), (whole .size, entry .pre .1 .0 .length-allowed))
 
 move-at-requires : tie.Need-move-at-requires Inv-loop μ-loop
 move-at-requires c κs =
-    let t = at-turn (c .before) in
-    let sound = at-start (at-loop t) .pre .0 in
-    (omega (arith, t .turn-at .ensures .fits, sound .few), listed-room sound (t .turn-at .ensures .fits))
+    let turn = at-turn (c .before) in
+    let sound = at-start (at-loop turn) .pre .0 in
+    (omega (arith, turn .turn-at .ensures .fits, sound .few), listed-room sound (turn .turn-at .ensures .fits))
 
 put-requires : tie.Need-put-requires Inv-loop μ-loop
 put-requires c κs =
-    let t = at-turn (c .before .before .before) in
-    let w = at-loop t .loop .inv .0 .whole in
-    (listed-fine (at-start (at-loop t) .pre .0) (t .turn-at .ensures .fits) (c .before .move-at .ensures) .fact, (w .size, w .rows))
+    let turn = at-turn (c .before .before .before) in
+    let whole = at-loop turn .loop .inv .0 .whole in
+    (listed-fine (at-start (at-loop turn) .pre .0) (turn .turn-at .ensures .fits) (c .before .move-at .ensures) .fact, (whole .size, whole .rows))
 
 -- A move fires only where there is room for its request.
 room : (c : tie.Then1 Inv-loop μ-loop) → at-loop (at-turn (c .before)) .loop .n < 160
 room c =
-    let t = at-turn (c .before) in
-    room-left (at-loop t .loop .inv .0) (at-start (at-loop t) .pre .0) (t .turn-at .ensures .fits) (c .before .fires .ensures) (c .if1 .taken)
+    let turn = at-turn (c .before) in
+    room-left (at-loop turn .loop .inv .0) (at-start (at-loop turn) .pre .0) (turn .turn-at .ensures .fits) (c .before .fires .ensures) (c .if1 .taken)
 
 add-note : tie.Need-add-note Inv-loop μ-loop
 add-note c =
-    let s = at-start (at-loop (at-turn (move-fires c .before))) in
-    omega (arith, room (move-fires c), s .pre .1 .0 .room, s .good .1 .1 .1 .1 .1 .1 .1 .0)
+    let entry = at-start (at-loop (at-turn (move-fires c .before))) in
+    omega (arith, room (move-fires c), entry .pre .1 .0 .room, entry .good .1 .1 .1 .1 .1 .1 .1 .0)
 
 note-requires : tie.Need-note-requires Inv-loop μ-loop
 note-requires c κs =
-    let h = move-fires (c .before) in
-    let t = at-turn (h .before) in
-    let k = at-loop t .loop .inv .0 in
-    let s = at-start (at-loop t) in
-    (listed-fine (s .pre .0) (t .turn-at .ensures .fits) (at-move (c .before) .move-at .ensures), omega (arith, room h, k .size, s .pre .1 .0 .room))
+    let fired = move-fires (c .before) in
+    let turn = at-turn (fired .before) in
+    let kept = at-loop turn .loop .inv .0 in
+    let entry = at-start (at-loop turn) in (
+      listed-fine (entry .pre .0) (turn .turn-at .ensures .fits) (at-move (c .before) .move-at .ensures),
+      omega (arith, room fired, kept .size, entry .pre .1 .0 .room),
+    )
 
 cast-added : tie.Need-cast-added Inv-loop μ-loop
 cast-added c =
-    let t = at-turn (move-fires (at-put c) .before) in
-    omega (arith, t .turn-at .ensures .fits, at-start (at-loop t) .pre .0 .few)
+    let turn = at-turn (move-fires (at-put c) .before) in
+    omega (arith, turn .turn-at .ensures .fits, at-start (at-loop turn) .pre .0 .few)
 
 mul-added : tie.Need-mul-added Inv-loop μ-loop
 mul-added c = omega (arith, room (move-fires (at-put c)))
 
 slice-write-added : tie.Need-slice-write-added Inv-loop μ-loop
 slice-write-added c =
-    let h = move-fires (at-put c) in
-    omega (arith, room h, at-loop (at-turn (h .before)) .loop .inv .1 .named)
+    let fired = move-fires (at-put c) in
+    omega (arith, room fired, at-loop (at-turn (fired .before)) .loop .inv .1 .named)
 
 add-n : tie.Need-add-n Inv-loop μ-loop
 add-n c = omega (arith, room (move-fires (at-put c)))
@@ -114,33 +116,33 @@ loop-less c = fired-less _ _ _ _ (omega (arith, room (move-fires (at-put (c .bef
 
 loop-again : tie.Need-loop-again Inv-loop μ-loop
 loop-again c =
-    let p = at-put (c .before) in
-    let h = move-fires p in
-    let t = at-turn (h .before) in
-    let inv = at-loop t .loop .inv in (
-      kept-add (inv .0) (at-start (at-loop t) .pre .0) (t .turn-at .ensures .fits) (h .before .fires .ensures) (h .if1 .taken)
-          (at-move p .move-at .ensures) (p .before .before .put .ensures) (c .before .before .before .note .ensures),
-      sweeping-anew _ (simp length-set (inv .1 .named)) (t .turn-at .ensures .names) (λ _. c .next .ensures .fits),
+    let put-in = at-put (c .before) in
+    let fired = move-fires put-in in
+    let turn = at-turn (fired .before) in
+    let inv = at-loop turn .loop .inv in (
+      kept-add (inv .0) (at-start (at-loop turn) .pre .0) (turn .turn-at .ensures .fits) (fired .before .fires .ensures) (fired .if1 .taken)
+          (at-move put-in .move-at .ensures) (put-in .before .before .put .ensures) (c .before .before .before .note .ensures),
+      sweeping-anew _ (simp length-set (inv .1 .named)) (turn .turn-at .ensures .names) (λ _. c .next .ensures .fits),
     )
 
 add-quiet : tie.Need-add-quiet Inv-loop μ-loop
 add-quiet c =
-    let t = at-turn (c .before) in
-    omega (arith, turn-quiet (t .turn-at .ensures) (t .before .before .loop-test .taken), at-start (at-loop t) .pre .0 .few)
+    let turn = at-turn (c .before) in
+    omega (arith, turn-quiet (turn .turn-at .ensures) (turn .before .before .loop-test .taken), at-start (at-loop turn) .pre .0 .few)
 
 next-requires-2 : tie.Need-next-requires-2 Inv-loop μ-loop
 next-requires-2 c κs = at-turn (c .before) .turn-at .ensures .fits
 
 loop-less-2 : tie.Need-loop-less-2 Inv-loop μ-loop
 loop-less-2 c =
-    let t = at-turn (c .before .before) in
-    quiet-less _ (t .turn-at .ensures) (t .before .before .loop-test .taken)
+    let turn = at-turn (c .before .before) in
+    quiet-less _ (turn .turn-at .ensures) (turn .before .before .loop-test .taken)
 
 loop-again-2 : tie.Need-loop-again-2 Inv-loop μ-loop
 loop-again-2 c =
-    let t = at-turn (c .before .before) in
-    let inv = at-loop t .loop .inv in
-    (inv .0, sweeping-quiet (inv .1) (t .turn-at .ensures) (c .before .before .fires .ensures) (c .before .if1 .left) (c .next2 .ensures))
+    let turn = at-turn (c .before .before) in
+    let inv = at-loop turn .loop .inv in
+    (inv .0, sweeping-quiet (inv .1) (turn .turn-at .ensures) (c .before .before .fires .ensures) (c .before .if1 .left) (c .next2 .ensures))
 
 same-length : tie.Need-same-length Inv-loop μ-loop
 same-length c = c .before .loop .inv .1 .named ∙ sym (at-start (c .before) .pre .1 .1)

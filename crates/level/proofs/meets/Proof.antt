@@ -69,17 +69,17 @@ wide-requires-2 c κs = search needs
 
 shared-slice-read-if1 : tie.Need-shared-slice-read-if1 Inv-loop μ-loop
 shared-slice-read-if1 c =
-    let t = at-turn c in
-    let n = at-count t in
-    omega (arith, at-start n .pre .1 .1, term-fits (reading n) (t .before .loop .j) (t .loop-test .taken) (c .before .wide2 .ensures))
+    let turn = at-turn c in
+    let counted = at-count turn in
+    omega (arith, at-start counted .pre .1 .1, term-fits (reading counted) (turn .before .loop .j) (turn .loop-test .taken) (c .before .wide2 .ensures))
 
 returns : tie.Need-returns Inv-loop μ-loop
 returns c =
-    let t = at-turn (c .before) in
-    let n = at-count t in
-    let s = at-start n in
-    sym (t .before .loop .inv .1
-    ∙ places-fail (reading n) (λ k. getD (s .args .x .now) k false) (t .before .loop .j) (t .loop-test .taken)
+    let turn = at-turn (c .before) in
+    let counted = at-count turn in
+    let entry = at-start counted in
+    sym (turn .before .loop .inv .1
+    ∙ places-fail (reading counted) (λ k. getD (entry .args .x .now) k false) (turn .before .loop .j) (turn .loop-test .taken)
     (c .before .before .wide2 .ensures) (not-true _ (c .if1 .taken)))
 
 add-j : tie.Need-add-j Inv-loop μ-loop
@@ -90,20 +90,20 @@ loop-less c = omega arith
 
 loop-again : tie.Need-loop-again Inv-loop μ-loop
 loop-again c =
-    let t = at-turn (c .before) in
-    let n = at-count t in
-    let s = at-start n in (
+    let turn = at-turn (c .before) in
+    let counted = at-count turn in
+    let entry = at-start counted in (
       omega arith,
-      t .before .loop .inv .1
-          ∙ places-pass (reading n) (λ k. getD (s .args .x .now) k false) (t .before .loop .j) (t .loop-test .taken)
+      turn .before .loop .inv .1
+          ∙ places-pass (reading counted) (λ k. getD (entry .args .x .now) k false) (turn .before .loop .j) (turn .loop-test .taken)
           (c .before .before .wide2 .ensures) (not-false _ (c .if1 .left)),
     )
 
 returns-2 : tie.Need-returns-2 Inv-loop μ-loop
 returns-2 c =
-    let n = c .before .before in
-    let s = at-start n in
-    sym (c .before .loop .inv .1 ∙ places-out (reading n) (λ k. getD (s .args .x .now) k false) (c .before .loop .j) (c .loop-test .left))
+    let counted = c .before .before in
+    let entry = at-start counted in
+    sym (c .before .loop .inv .1 ∙ places-out (reading counted) (λ k. getD (entry .args .x .now) k false) (c .before .loop .j) (c .loop-test .left))
 
 pub meets-spec : {M : Type 1} → statement M
 meets-spec =

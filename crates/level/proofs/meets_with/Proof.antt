@@ -64,8 +64,8 @@ wide-requires-2 c κs = search needs
 
 loop-holds : tie.Need-loop-holds Inv-loop μ-loop
 loop-holds c =
-    let s = at-start (after-wide c) in
-    (omega arith, with-read (s .args .ms .now) (s .args .at) (s .args .table .now) (s .args .x .now) (after-wide c .wide .ensures))
+    let entry = at-start (after-wide c) in
+    (omega arith, with-read (entry .args .ms .now) (entry .args .at) (entry .args .table .now) (entry .args .x .now) (after-wide c .wide .ensures))
 
 -- A term's place among the numbers is one of the move's fourteen.
 few : (c : tie.In-loop Inv-loop μ-loop) → at-count c .wide2 .result ≤ 8
@@ -88,21 +88,21 @@ wide-requires-3 c κs = search needs
 
 lit-requires : tie.Need-lit-requires Inv-loop μ-loop
 lit-requires c κs =
-    let t = c .before .before in
-    let n = at-count t in
-    let s = at-start (after-wide n) in (
-      fact-fits (s .args .ms .now) (s .args .at) (s .pre .0 .1) (after-wide n .wide .ensures),
-      (term-fits (reading n) (t .before .loop .j) (t .loop-test .taken) (c .wide3 .ensures), s .pre .1),
+    let turn = c .before .before in
+    let counted = at-count turn in
+    let entry = at-start (after-wide counted) in (
+      fact-fits (entry .args .ms .now) (entry .args .at) (entry .pre .0 .1) (after-wide counted .wide .ensures),
+      (term-fits (reading counted) (turn .before .loop .j) (turn .loop-test .taken) (c .wide3 .ensures), entry .pre .1),
     )
 
 returns : tie.Need-returns Inv-loop μ-loop
 returns c =
-    let t = at-turn (c .before) in
-    let n = at-count t in
-    let s = at-start (after-wide n) in
-    sym (t .before .loop .inv .1
-    ∙ places-fail (reading n) (λ k. getD (s .args .x .now) k false || touches (s .args .table .now) (after-wide n .wide .result) k)
-    (t .before .loop .j) (t .loop-test .taken) (c .before .before .wide3 .ensures) (sym (c .before .lit .ensures) ∙ not-true _ (c .if1 .taken)))
+    let turn = at-turn (c .before) in
+    let counted = at-count turn in
+    let entry = at-start (after-wide counted) in
+    sym (turn .before .loop .inv .1
+    ∙ places-fail (reading counted) (λ k. getD (entry .args .x .now) k false || touches (entry .args .table .now) (after-wide counted .wide .result) k)
+    (turn .before .loop .j) (turn .loop-test .taken) (c .before .before .wide3 .ensures) (sym (c .before .lit .ensures) ∙ not-true _ (c .if1 .taken)))
 
 add-j : tie.Need-add-j Inv-loop μ-loop
 add-j c = omega arith
@@ -112,21 +112,21 @@ loop-less c = omega arith
 
 loop-again : tie.Need-loop-again Inv-loop μ-loop
 loop-again c =
-    let t = at-turn (c .before) in
-    let n = at-count t in
-    let s = at-start (after-wide n) in (
+    let turn = at-turn (c .before) in
+    let counted = at-count turn in
+    let entry = at-start (after-wide counted) in (
       omega arith,
-      t .before .loop .inv .1
-          ∙ places-pass (reading n) (λ k. getD (s .args .x .now) k false || touches (s .args .table .now) (after-wide n .wide .result) k)
-          (t .before .loop .j) (t .loop-test .taken) (c .before .before .wide3 .ensures) (sym (c .before .lit .ensures) ∙ not-false _ (c .if1 .left)),
+      turn .before .loop .inv .1
+          ∙ places-pass (reading counted) (λ k. getD (entry .args .x .now) k false || touches (entry .args .table .now) (after-wide counted .wide .result) k)
+          (turn .before .loop .j) (turn .loop-test .taken) (c .before .before .wide3 .ensures) (sym (c .before .lit .ensures) ∙ not-false _ (c .if1 .left)),
     )
 
 returns-2 : tie.Need-returns-2 Inv-loop μ-loop
 returns-2 c =
-    let n = c .before .before in
-    let s = at-start (after-wide n) in
+    let counted = c .before .before in
+    let entry = at-start (after-wide counted) in
     sym (c .before .loop .inv .1
-    ∙ places-out (reading n) (λ k. getD (s .args .x .now) k false || touches (s .args .table .now) (after-wide n .wide .result) k)
+    ∙ places-out (reading counted) (λ k. getD (entry .args .x .now) k false || touches (entry .args .table .now) (after-wide counted .wide .result) k)
     (c .before .loop .j) (c .loop-test .left))
 
 pub meets-with-spec : {M : Type 1} → statement M

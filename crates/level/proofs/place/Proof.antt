@@ -37,8 +37,8 @@ add-result-4 c = search needs
 returns-3 : tie.Need-returns-3
 unfolding codeOf
 returns-3 c =
-    let at-if1 = c .before .before in
-    simp (ne-eqb _ _ (at-if1 .if1 .left), ne-eqb _ _ (c .before .if2 .left), eq-eqb _ _ (c .if3 .taken))
+    let not-kind-1 = c .before .before in
+    simp (ne-eqb _ _ (not-kind-1 .if1 .left), ne-eqb _ _ (c .before .if2 .left), eq-eqb _ _ (c .if3 .taken))
 
 add-result-5 : tie.Need-add-result-5
 add-result-5 c = search needs
@@ -46,8 +46,8 @@ add-result-5 c = search needs
 returns-4 : tie.Need-returns-4
 unfolding codeOf
 returns-4 c =
-    let at-if1 = c .before .before in
-    simp (ne-eqb _ _ (at-if1 .if1 .left), ne-eqb _ _ (c .before .if2 .left), ne-eqb _ _ (c .if3 .left))
+    let not-kind-1 = c .before .before in
+    simp (ne-eqb _ _ (not-kind-1 .if1 .left), ne-eqb _ _ (c .before .if2 .left), ne-eqb _ _ (c .if3 .left))
 
 pub place-spec : {M : Type 1} → statement M
 place-spec =

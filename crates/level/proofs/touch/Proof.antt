@@ -29,9 +29,9 @@ shared-slice-read-result c = search needs
 
 returns-4 : tie.Need-returns-4
 returns-4 c =
-    let at-if2 = c .before .before in
-    let at-start = at-if2 .before .before in
-    touch-row (at-start .args .table .now) (at-start .args .f) (at-start .args .k) (omega arith) (at-if2 .if2 .left) (omega arith)
+    let not-itself = c .before .before in
+    let at-start = not-itself .before .before in
+    touch-row (at-start .args .table .now) (at-start .args .f) (at-start .args .k) (omega arith) (not-itself .if2 .left) (omega arith)
 
 pub touch-spec : {M : Type 1} → statement M
 touch-spec =
