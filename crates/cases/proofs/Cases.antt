@@ -8,10 +8,12 @@ use Rattle.sets.specs.Sets.{bit, member, put, within, subset, memberAt, putAt, 
 use Rattle.facts.specs.Facts.{fits, setAt, setWidth, memberOf, holds, putFact, noFacts}
 use Rattle.lines.specs.Digits.{digit, isDigit, malformed, frameOf, byteAt}
 use Rattle.lines.specs.Lines.{extend, lines}
-use Rattle.gate.specs.Gate.{valuesOf, pairAt, quadAt, misplaced, lengthOf, mislengthed, sizesVerdict, edgeVerdict, ruleGood, foreign, ruleVerdict, factVerdict, queryGood}
+use Rattle.gate.specs.Gate.{valuesOf, pairAt, quadAt, misplaced, lengthOf, mislengthed, sizesVerdict, edgeVerdict, ruleGood, foreign, ruleVerdict, factVerdict}
+use Rattle.gate.specs.Gate.{queryGood}
 use Rattle.gate.specs.Gate.{queryVerdict, fieldsVerdict, verdict, lineVerdict}
 use Rattle.quantifiers.specs.Quantifiers.{allBelow, anyBelow, all, any}
-use Rattle.frames.specs.Book.{termAt, termsOf, ruleOf, juniorsAfter, factOf, factsAfter, rulesAfter, wantAt, wantsOf, queryOf, queryAfter, knownAfter, nothing, enter}
+use Rattle.frames.specs.Book.{termAt, termsOf, ruleOf, juniorsAfter, factOf, factsAfter, rulesAfter, wantAt, wantsOf, queryOf, queryAfter, knownAfter, nothing}
+use Rattle.frames.specs.Book.{enter}
 use Rattle.frames.specs.Book.{walk, bookOf}
 use Rattle.inherit.specs.Inheritance.{isJunior, downWithin, downward, crewHolds, personIn, personHolds}
 use Rattle.requests.specs.Requests.{aimed, requestOf, fieldsGood, wellFormed}

@@ -6,7 +6,8 @@ use Rattle.cases.specs.Refusals.{Turned, refusals}
 use Rattle.sets.specs.Sets.{within, numberAt}
 use Rattle.lines.specs.Digits.{digit, isDigit, malformed, frameOf, byteAt}
 use Rattle.lines.specs.Lines.{extend, lines}
-use Rattle.gate.specs.Gate.{valuesOf, pairAt, misplaced, lengthOf, mislengthed, sizesVerdict, edgeVerdict, ruleGood, foreign, ruleVerdict, queryGood, queryVerdict}
+use Rattle.gate.specs.Gate.{valuesOf, pairAt, misplaced, lengthOf, mislengthed, sizesVerdict, edgeVerdict, ruleGood, foreign, ruleVerdict, queryGood}
+use Rattle.gate.specs.Gate.{queryVerdict}
 use Rattle.gate.specs.Gate.{fieldsVerdict, verdict, lineVerdict}
 use Rattle.quantifiers.specs.Quantifiers.{allBelow, all, any}
 use Rattle.frames.specs.Book.{ruleOf, rulesAfter, knownAfter, nothing, enter, walk, bookOf}

@@ -27,7 +27,8 @@ pub fn carry_out(ledger: &mut [u8], draft: &[u8], from: usize, n: usize)
 // Copies n requests of a draft from request `from` on to the place of request `at` of `out`.
 pub fn copy_requests(draft: &[u8], from: usize, n: usize, out: &mut [u8], at: usize)
     requires { ⌜ (5 * (from + n) ≤ length (now draft)) × (5 * (at + n) ≤ length (now out)) ⌝ }
-    ensures { λ _. ⌜ now (out .exit) ≡ take (5 * at) (now (out .entry)) ++ (flat (map bytesOf (asks (now (draft .entry)) from n)) ++ drop (5 * (at + n)) (now (out .entry))) ⌝ }
+    ensures { λ _. ⌜ now (out .exit) ≡ take (5 * at) (now (out .entry)) ++
+        (flat (map bytesOf (asks (now (draft .entry)) from n)) ++ drop (5 * (at + n)) (now (out .entry))) ⌝ }
 {
     let source = 5 * from;
     let target = 5 * at;

@@ -37,7 +37,8 @@ fn is_sought(ledger: &[u8], c: u8, w: Sought) -> bool
 fn crew_tried(ledger: &[u8], juniors: &[u32], c: u8, w: Sought, seen: u32) -> Found
     requires { ⌜ (c < 32) × (length (now juniors) ≡ 32) ⌝ }
     requires { ⌜ Tried (now juniors) (sought (holds (now ledger)) w) seen ⌝ }
-    ensures { λ r. ⌜ (r .holds ≡ downward (now (juniors .entry)) (sought (holds (now (ledger .entry))) w) c) × Tried (now (juniors .entry)) (sought (holds (now (ledger .entry))) w) (r .seen) ⌝ }
+    ensures { λ r. ⌜ (r .holds ≡ downward (now (juniors .entry)) (sought (holds (now (ledger .entry))) w) c) × Tried (now (juniors .entry))
+        (sought (holds (now (ledger .entry))) w) (r .seen) ⌝ }
 {
     if is_sought(ledger, c, w) {
         return Found { holds: true, seen };
@@ -58,7 +59,8 @@ fn crew_tried(ledger: &[u8], juniors: &[u32], c: u8, w: Sought, seen: u32) -> Fo
 fn juniors_tried(ledger: &[u8], juniors: &[u32], c: u8, w: Sought, seen: u32) -> Found
     requires { ⌜ (c < 32) × (length (now juniors) ≡ 32) ⌝ }
     requires { ⌜ Tried (now juniors) (sought (holds (now ledger)) w) seen ⌝ }
-    ensures { λ r. ⌜ (r .holds ≡ juniorPasses (now (juniors .entry)) (sought (holds (now (ledger .entry))) w) c c) × Tried (now (juniors .entry)) (sought (holds (now (ledger .entry))) w) (r .seen) ⌝ }
+    ensures { λ r. ⌜ (r .holds ≡ juniorPasses (now (juniors .entry)) (sought (holds (now (ledger .entry))) w) c c) × Tried (now (juniors .entry))
+        (sought (holds (now (ledger .entry))) w) (r .seen) ⌝ }
 {
     let mut tried = seen;
     let mut j: u8 = 0;

@@ -335,7 +335,8 @@ pub fn close(
     requires { ⌜ Sound (movesIn (now adds)) ⌝ }
     requires { ⌜ Ready (now table) (now allowed) (now x) (length (now out)) start ⌝ }
     requires { ⌜ length (now added) ≡ levelSize ⌝ }
-    ensures { λ r. ⌜ Closed (movesIn (now (adds .entry))) subject (now (table .entry)) (now (allowed .entry)) (now (x .entry)) (now (x .exit)) start (now (out .entry)) (now (out .exit)) r ⌝ }
+    ensures { λ r. ⌜ Closed (movesIn (now (adds .entry))) subject (now (table .entry)) (now (allowed .entry)) (now (x .entry)) (now (x .exit)) start
+        (now (out .entry)) (now (out .exit)) r ⌝ }
 {
     let count = adds.len() / MOVE_SIZE;
     let mut n: usize = 0;
@@ -410,7 +411,8 @@ pub fn backs(ms: &[u16], i: usize, table: &[bool], x: &[bool], y: &[bool]) -> bo
     false
 }
 
-// Puts back into `y` what of `x` the moves can delete, until nothing is left, and notes each request in `out`, downwards from request `end`. Returns where the notes begin.
+// Puts back into `y` what of `x` the moves can delete, until nothing is left, and notes each request in `out`, downwards from request `end`. Returns
+// where the notes begin.
 // `deleted` has the numbers of the moves that were put back last time, as `added` has for `close`.
 pub fn back(
     dels: &[u16],
@@ -426,7 +428,8 @@ pub fn back(
     requires { ⌜ Sound (movesIn (now dels)) ⌝ }
     requires { ⌜ ReadyBack (now table) (now bad) (now x) (now y) (length (now out)) end ⌝ }
     requires { ⌜ length (now deleted) ≡ levelSize ⌝ }
-    ensures { λ r. ⌜ ClosedBack (movesIn (now (dels .entry))) subject (now (table .entry)) (now (bad .entry)) (now (x .entry)) (now (y .exit)) end (now (out .entry)) (now (out .exit)) r ⌝ }
+    ensures { λ r. ⌜ ClosedBack (movesIn (now (dels .entry))) subject (now (table .entry)) (now (bad .entry)) (now (x .entry)) (now (y .exit)) end
+        (now (out .entry)) (now (out .exit)) r ⌝ }
 {
     let count = dels.len() / MOVE_SIZE;
     let mut at = end;
@@ -561,8 +564,11 @@ pub fn round(
     end: usize,
     down: &mut [u8],
 ) -> Ends
-    requires { ⌜ RoundReady (movesIn (now adds)) (movesIn (now dels)) (now added) (now deleted) (now table) (now bad) (now s) (now u) (now x) (now y) (now d) start (now up) end (now down) ⌝ }
-    ensures { λ r. ⌜ Rounded (movesIn (now (adds .entry))) (movesIn (now (dels .entry))) subject (now (table .entry)) (now (bad .entry)) (now (s .entry)) (now (u .entry)) (now (x .exit)) (now (y .exit)) (now (d .exit)) start (now (up .entry)) (now (up .exit)) (r .ups) end (now (down .entry)) (now (down .exit)) (r .at) ⌝ }
+    requires { ⌜ RoundReady (movesIn (now adds)) (movesIn (now dels)) (now added) (now deleted) (now table) (now bad) (now s) (now u) (now x) (now y)
+        (now d) start (now up) end (now down) ⌝ }
+    ensures { λ r. ⌜ Rounded (movesIn (now (adds .entry))) (movesIn (now (dels .entry))) subject (now (table .entry)) (now (bad .entry))
+        (now (s .entry)) (now (u .entry)) (now (x .exit)) (now (y .exit)) (now (d .exit)) start (now (up .entry)) (now (up .exit)) (r .ups) end
+        (now (down .entry)) (now (down .exit)) (r .at) ⌝ }
 {
     build(table, s, x);
     let n = close(adds, added, subject, table, u, x, start, up);
@@ -599,8 +605,11 @@ pub fn settle(
     end: usize,
     down: &mut [u8],
 ) -> LevelOutcome
-    requires { ⌜ RoundReady (movesIn (now adds)) (movesIn (now dels)) (now added) (now deleted) (now table) (now bad) (now s) (now u) (now x) (now y) (now d) start (now up) end (now down) ⌝ }
-    ensures { λ r. ⌜ Result (movesIn (now (adds .entry))) (movesIn (now (dels .entry))) subject (now (table .entry)) (now (bad .entry)) (now (s .entry)) (now (u .entry)) (now (x .exit)) start (now (up .entry)) (now (up .exit)) end (now (down .entry)) (now (down .exit)) (r .found) (r .ups) (r .at) ⌝ }
+    requires { ⌜ RoundReady (movesIn (now adds)) (movesIn (now dels)) (now added) (now deleted) (now table) (now bad) (now s) (now u) (now x) (now y)
+        (now d) start (now up) end (now down) ⌝ }
+    ensures { λ r. ⌜ Result (movesIn (now (adds .entry))) (movesIn (now (dels .entry))) subject (now (table .entry)) (now (bad .entry))
+        (now (s .entry)) (now (u .entry)) (now (x .exit)) start (now (up .entry)) (now (up .exit)) end (now (down .entry)) (now (down .exit))
+        (r .found) (r .ups) (r .at) ⌝ }
 {
     loop {
         let e = round(

@@ -103,7 +103,8 @@ fn best_plan(b: Book, up: &mut [u8], down: &mut [u8]) -> LevelOutcome
 fn write_plan(up: &[u8], ups: usize, down: &[u8], at: usize, out: &mut [u8]) -> usize
     requires { ⌜ (ups ≤ depotSize) × ((at ≤ depotSize) × (5 * (ups + (depotSize - at)) ≤ length (now out))) ⌝ }
     requires { ⌜ (length (now up) ≡ draftSize) × (length (now down) ≡ draftSize) ⌝ }
-    ensures { λ r. ⌜ (r ≡ ups + (depotSize - at)) × (now (out .exit) ≡ flat (drafted (now (up .entry)) ups (now (down .entry)) at) ++ drop (5 * (ups + (depotSize - at))) (now (out .entry))) ⌝ }
+    ensures { λ r. ⌜ (r ≡ ups + (depotSize - at)) ×
+        (now (out .exit) ≡ flat (drafted (now (up .entry)) ups (now (down .entry)) at) ++ drop (5 * (ups + (depotSize - at))) (now (out .entry))) ⌝ }
 {
     let n = DEPOT_SIZE - at;
     drafts::copy_requests(up, 0, ups, out, 0);

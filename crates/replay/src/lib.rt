@@ -131,7 +131,8 @@ fn step(
     i: usize,
 ) -> bool
     requires { ⌜ (Each Short (now rules) × (length (now juniors) ≡ 32)) × (5 * i + 5 ≤ length (now plan)) ⌝ }
-    ensures { λ r. ⌜ (r ≡ goes (standing z (now (juniors .entry)) (now (rules .entry))) roles (now (ledger .entry)) (fiveAt (now (plan .entry)) i)) × (now (ledger .exit) ≡ cond r (after (now (ledger .entry)) (requestOf (fiveAt (now (plan .entry)) i))) (now (ledger .entry))) ⌝ }
+    ensures { λ r. ⌜ (r ≡ goes (standing z (now (juniors .entry)) (now (rules .entry))) roles (now (ledger .entry)) (fiveAt (now (plan .entry)) i)) ×
+        (now (ledger .exit) ≡ cond r (after (now (ledger .entry)) (requestOf (fiveAt (now (plan .entry)) i))) (now (ledger .entry))) ⌝ }
 {
     let due = is_due(z, roles, plan, i);
     let q = request_at(plan, i);
@@ -150,7 +151,8 @@ fn run_plan(
     plan: &[u8],
 ) -> usize
     requires { ⌜ Each Short (now rules) × (length (now juniors) ≡ 32) ⌝ }
-    ensures { λ r. ⌜ ranTo r (now (ledger .exit)) ≡ run (standing z (now (juniors .entry)) (now (rules .entry))) roles (now (ledger .entry)) 1 (fives (now (plan .entry))) ⌝ }
+    ensures { λ r. ⌜ ranTo r (now (ledger .exit)) ≡ run (standing z (now (juniors .entry)) (now (rules .entry))) roles (now (ledger .entry)) 1
+        (fives (now (plan .entry))) ⌝ }
 {
     let n = count_of(plan);
     let mut i: usize = 0;
@@ -174,7 +176,8 @@ fn run_listed(
     plan: &[u8],
 ) -> usize
     requires { ⌜ ((rs .count ≤ 512) × Each Short (listed rs)) × (length (now juniors) ≡ 32) ⌝ }
-    ensures { λ r. ⌜ ranTo r (now (ledger .exit)) ≡ run (standing z (now (juniors .entry)) (listed rs)) roles (now (ledger .entry)) 1 (fives (now (plan .entry))) ⌝ }
+    ensures { λ r. ⌜ ranTo r (now (ledger .exit)) ≡ run (standing z (now (juniors .entry)) (listed rs)) roles (now (ledger .entry)) 1
+        (fives (now (plan .entry))) ⌝ }
 {
     let list = rs.rules;
     let n = rs.count;
@@ -225,7 +228,8 @@ fn is_wanted(exactly: bool, set: u32, held: u32) -> bool
 // Whether the person holds each named set: exactly, or at least.
 fn has_wanted(b: Book, exactly: bool, ledger: &[u8]) -> bool
     requires { ⌜ Admitted (contentsOf b) ⌝ }
-    ensures { λ r. ⌜ r ≡ all (λ w. cond exactly (eqb (effectiveSet (contentsOf b) (holds (now (ledger .entry))) (w .attr .0)) (w .set)) (subset (w .set) (effectiveSet (contentsOf b) (holds (now (ledger .entry))) (w .attr .0)))) (wants (contentsOf b)) ⌝ }
+    ensures { λ r. ⌜ r ≡ all (λ w. cond exactly (eqb (effectiveSet (contentsOf b) (holds (now (ledger .entry))) (w .attr .0)) (w .set))
+        (subset (w .set) (effectiveSet (contentsOf b) (holds (now (ledger .entry))) (w .attr .0)))) (wants (contentsOf b)) ⌝ }
 {
     let z = b.sizes;
     let juniors = b.juniors;
@@ -246,7 +250,8 @@ fn has_wanted(b: Book, exactly: bool, ledger: &[u8]) -> bool
 // Whether the person is directly in exactly the listed crews, where the query asks it.
 fn is_listed(exactly: bool, query: Query, crews: u8, ledger: &[u8]) -> bool
     requires { ⌜ crews ≤ 32 ⌝ }
-    ensures { λ r. ⌜ r ≡ not exactly || eqb (setBelow (λ c. holds (now (ledger .entry)) (Fact.Member (query .person) (record { 0 = c }))) crews) (query .crews) ⌝ }
+    ensures { λ r. ⌜ r ≡ not exactly || eqb (setBelow (λ c. holds (now (ledger .entry)) (Fact.Member (query .person) (record { 0 = c }))) crews)
+        (query .crews) ⌝ }
 {
     if !exactly {
         return true;

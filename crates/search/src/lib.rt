@@ -54,7 +54,9 @@ fn settle_level(
     down: &mut [u8],
 ) -> LevelOutcome
     requires { ⌜ LevelGiven q (now adds) (now dels) (now added) (now deleted) (now table) (now x) ups (now up) at (now down) ⌝ }
-    ensures { λ r. ⌜ LevelSettled q crews (now (facts .entry)) k below (movesIn (now (adds .entry))) (movesIn (now (dels .entry))) subject (now (table .entry)) (now (x .exit)) ups (now (up .entry)) (now (up .exit)) at (now (down .entry)) (now (down .exit)) (r .found) (r .ups) (r .at) ⌝ }
+    ensures { λ r. ⌜ LevelSettled q crews (now (facts .entry)) k below (movesIn (now (adds .entry))) (movesIn (now (dels .entry))) subject
+        (now (table .entry)) (now (x .exit)) ups (now (up .entry)) (now (up .exit)) at (now (down .entry)) (now (down .exit)) (r .found) (r .ups)
+        (r .at) ⌝ }
 {
     let mut bad = [false; LEVEL_SIZE];
     let mut s = [false; LEVEL_SIZE];
@@ -105,7 +107,8 @@ fn crew_level(
     requires { ⌜ CrewsGiven b (now facts) (now juniors) (now adds) (now dels) (now reach) × (k < b .sizes .crews) ⌝ }
     requires { ⌜ Names (now added) (now deleted) × BlankTable (now table) ⌝ }
     requires { ⌜ Driving (contentsOf b) k (now rows) ups (now up) at (now down) ⌝ }
-    ensures { λ r. ⌜ Scanned (contentsOf b) (k + 1) (now (rows .exit)) (now (up .exit)) (now (down .exit)) (r .found) (ups + r .ups) (r .at) × BlankTable (now (table .exit)) ⌝ }
+    ensures { λ r. ⌜ Scanned (contentsOf b) (k + 1) (now (rows .exit)) (now (up .exit)) (now (down .exit)) (r .found) (ups + r .ups) (r .at) ×
+        BlankTable (now (table .exit)) ⌝ }
 {
     let below = flags::is_below_listed(b, reach, k);
     let q = b.query;
@@ -264,7 +267,8 @@ fn all_levels(
     up: &mut [u8],
     down: &mut [u8],
 ) -> LevelOutcome
-    requires { ⌜ Admitted (contentsOf b) × (SideMoves b 3 3 4 4 (movesIn (now gains)) (movesIn (now losses)) × SideMoves b 1 5 2 6 (movesIn (now adds)) (movesIn (now dels))) ⌝ }
+    requires { ⌜ Admitted (contentsOf b) ×
+        (SideMoves b 3 3 4 4 (movesIn (now gains)) (movesIn (now losses)) × SideMoves b 1 5 2 6 (movesIn (now adds)) (movesIn (now dels))) ⌝ }
     requires { ⌜ (length (now up) ≡ draftSize) × (length (now down) ≡ draftSize) ⌝ }
     ensures { λ r. ⌜ Searched (contentsOf b) (now (up .exit)) (now (down .exit)) (r .found) (r .ups) (r .at) ⌝ }
 {

@@ -22,10 +22,12 @@ use prog.Wp.{Heap, Env, Calls, Loops, WpFn, Tables}
 use ghost.Atoms.{Atoms, sem}
 use contract.Monad.{Fun}
 use contract.Running.{givenOf, tables, tablesOf}
-use types.Kit.{Given, Item, Go, Sq, Post, runs, lands, ‵, raw, _⊛_, ⋆, some, later, pick, _$_, _∵_, !, qed, by, move, group, keep, drop, use0, use1, use2, use3, split}
+use types.Kit.{Given, Item, Go, Sq, Post, runs, lands, ‵, raw, _⊛_, ⋆, some, later, pick, _$_, _∵_, !, qed, by, move, group, keep, drop, use0, use1, use2, use3}
+use types.Kit.{split}
 use types.Kit.{join, rewrite, fsplit, fjoin, feqL, suffices, frame, await, done}
 use types.Part.{whole, sub, look-in, agg}
-use types.Run.{Opds, look, init, forget, stop, hop, fld, from, load, lit, addr, of-opd, and-then, no-more, assigns, land, returns, enter, alloc1, alloc0, params1, pass1}
+use types.Run.{Opds, look, init, forget, stop, hop, fld, from, load, lit, addr, of-opd, and-then, no-more, assigns, land, returns, enter, alloc1, alloc0}
+use types.Run.{params1, pass1}
 use types.Run.{pass0}
 use types.Tokens.{lft-new, lft-end}
 use sound.WpLaws.{FmC, fmOf, WpFn-mono}

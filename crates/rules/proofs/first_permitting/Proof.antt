@@ -31,10 +31,12 @@ use ghost.Atoms.{Atoms, sem}
 use contract.Lifetimes.{Lfts, Shares}
 use contract.Monad.{Fun, factI}
 use contract.Running.{givenOf, tables, tablesOf}
-use types.Kit.{Given, Item, Sq, runs, anyQ, atRet, ‵, raw, _⊛_, ⋆, _$_, _∵_, !, qed, by, move, keep, drop, use0, use1, use2, use3, split, join, rewrite, fsplit, fjoin}
+use types.Kit.{Given, Item, Sq, runs, anyQ, atRet, ‵, raw, _⊛_, ⋆, _$_, _∵_, !, qed, by, move, keep, drop, use0, use1, use2, use3, split, join, rewrite, fsplit}
+use types.Kit.{fjoin}
 use types.Kit.{frame, done}
 use types.Part.{whole, sub, look-in}
-use types.Run.{look, init, store, forget, stop, fld, from, load, lit, of-opd, un, bin, and-then, no-more, assigns, assigns-last, land, first as enters, branches, skips}
+use types.Run.{look, init, store, forget, stop, fld, from, load, lit, of-opd, un, bin, and-then, no-more, assigns, assigns-last, land, first as enters}
+use types.Run.{branches, skips}
 use types.Run.{jumps, stays, leaves-loop, blocks, loops, Below, again, returns, exec, enter, alloc1, alloc0, params1, pass1, pass0}
 use sound.WpLaws.{FmC, fmOf, WpFn-mono}
 use denote.RattleType.{owns}

@@ -35,8 +35,9 @@ is-effectively-in-requires c κs = search needs
 returns-4 : tie.Need-returns-4
 unfolding termHolds
 returns-4 c =
-    let not-1 = ne-eqb _ _ (c .before .before .before .before .if1 .left) in
-    let not-2 = ne-eqb _ _ (c .before .before .before .if2 .left) in
+    let not-two = c .before .before .before in
+    let not-1 = ne-eqb _ _ (not-two .before .if1 .left) in
+    let not-2 = ne-eqb _ _ (not-two .if2 .left) in
     let not-3 = ne-eqb _ _ (c .before .before .if3 .left) in
     rw (not-1, not-2, not-3, eq-eqb _ _ (c .before .if4 .taken)) (c .is-effectively-in .ensures)
 
