@@ -1,4 +1,4 @@
--- Laws of one level within the whole: what leads, what is closed and what bounds at the level does so in the whole.
+-- Laws of one level within the whole: what brings a state to another, what is closed and what bounds at the level does so in the whole.
 use mathlib.Core.Path.{_≡_, sym, ap, subst, fun-ext, _∙_}
 use mathlib.Core.Logic.{_≢_, by-cases}
 use mathlib.Core.Bool.{Bool, true, false}
