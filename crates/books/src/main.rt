@@ -1,6 +1,5 @@
 // Answers each of the books that the arguments name, a line each. One whose name ends in `.book` is planned: the answer's first line, what replay
 // says of the plan, the name. Any other is only judged: the line that answers it, the name.
-ghost use mathlib.Core.Path.{_≡_};
 ghost use Prim.Native.Nat.{_≤_};
 ghost use lib.ListN.{length};
 use libc::STDOUT_FILENO;

@@ -9,12 +9,10 @@ use Rattle.facts.specs.Facts.{fits, setAt, setWidth, memberOf, holds, putFact, 
 use Rattle.lines.specs.Digits.{digit, isDigit, malformed, frameOf, byteAt}
 use Rattle.lines.specs.Lines.{extend, lines}
 use Rattle.gate.specs.Gate.{valuesOf, pairAt, quadAt, misplaced, lengthOf, mislengthed, sizesVerdict, edgeVerdict, ruleGood, foreign, ruleVerdict, factVerdict}
-use Rattle.gate.specs.Gate.{queryGood}
-use Rattle.gate.specs.Gate.{queryVerdict, fieldsVerdict, verdict, lineVerdict}
+use Rattle.gate.specs.Gate.{queryGood, queryVerdict, fieldsVerdict, verdict, lineVerdict}
 use Rattle.quantifiers.specs.Quantifiers.{allBelow, anyBelow, all, any}
 use Rattle.frames.specs.Book.{termAt, termsOf, ruleOf, juniorsAfter, factOf, factsAfter, rulesAfter, wantAt, wantsOf, queryOf, queryAfter, knownAfter, nothing}
-use Rattle.frames.specs.Book.{enter}
-use Rattle.frames.specs.Book.{walk, bookOf}
+use Rattle.frames.specs.Book.{enter, walk, bookOf}
 use Rattle.inherit.specs.Inheritance.{isJunior, downWithin, downward, crewHolds, personIn, personHolds}
 use Rattle.requests.specs.Requests.{aimed, requestOf, fieldsGood, wellFormed}
 use Rattle.rules.specs.Rules.{subjectOf, aOf, vOf, directly, effectively, inDirectly, inEffectively, termHolds, names, permits, permitted}

@@ -24,8 +24,7 @@ use Rattle.planner.specs.Count.{factCount}
 use Rattle.planner.specs.Answer.{said, AnsweredFor}
 use Rattle.cases.specs.Text.{five}
 use Rattle.cases.specs.Refusals.{Trial, on-book, buffer-of, ledger-of, asked, shown-to, list-of, RefusalRow, Refuses, Turned, refusing, PlanRefuses}
-use Rattle.cases.specs.Refusals.{BookRefused}
-use Rattle.cases.specs.Refusals.{LedgerRefused, RequestRefused, ShowRefused}
+use Rattle.cases.specs.Refusals.{BookRefused, LedgerRefused, RequestRefused, ShowRefused}
 use Rattle.cases.proofs.Tests.{opened-facts, facts-suitable}
 
 -- ---------------------------------------------------------------- the test

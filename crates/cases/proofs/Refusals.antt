@@ -7,8 +7,7 @@ use Rattle.sets.specs.Sets.{within, numberAt}
 use Rattle.lines.specs.Digits.{digit, isDigit, malformed, frameOf, byteAt}
 use Rattle.lines.specs.Lines.{extend, lines}
 use Rattle.gate.specs.Gate.{valuesOf, pairAt, misplaced, lengthOf, mislengthed, sizesVerdict, edgeVerdict, ruleGood, foreign, ruleVerdict, queryGood}
-use Rattle.gate.specs.Gate.{queryVerdict}
-use Rattle.gate.specs.Gate.{fieldsVerdict, verdict, lineVerdict}
+use Rattle.gate.specs.Gate.{queryVerdict, fieldsVerdict, verdict, lineVerdict}
 use Rattle.quantifiers.specs.Quantifiers.{allBelow, all, any}
 use Rattle.frames.specs.Book.{ruleOf, rulesAfter, knownAfter, nothing, enter, walk, bookOf}
 use Rattle.requests.specs.Requests.{requestOf, fieldsGood, wellFormed}

@@ -22,9 +22,8 @@ use Rattle.quantifiers.proofs.ListLaws.{any-front}
 use Rattle.replay.proofs.MetLaws.{wants-front}
 use Rattle.reach.specs.Inner.Tracked.{track}
 use Rattle.reach.specs.Inner.Goal.{banned, belowListed, forbids, forbidden, bad}
-use Rattle.flags.specs.Inner.Flags.{FlagsWritten, hasFact, factIn, SmallWants, lacksValue, bannedValue}
-use Rattle.flags.specs.Inner.Flags.{forbidFlag, badFlag, BadFlags, listedReaches, listedReach}
-use Rattle.flags.specs.Inner.Flags.{Reaching, lackingFlag, wantFlag, bannedFlag}
+use Rattle.flags.specs.Inner.Flags.{FlagsWritten, hasFact, factIn, SmallWants, lacksValue, bannedValue, forbidFlag, badFlag, BadFlags, listedReaches}
+use Rattle.flags.specs.Inner.Flags.{listedReach, Reaching, lackingFlag, wantFlag, bannedFlag}
 use Rattle.flags.proofs.FlagLaws.{written-self, written-at, written-same, written-over, written-part, written-join, track-level}
 
 -- ---------------------------------------------------------------- forbidden facts

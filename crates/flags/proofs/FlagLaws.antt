@@ -24,9 +24,8 @@ use Rattle.inherit.specs.Inheritance.{isJunior}
 use Rattle.quantifiers.specs.Quantifiers.{anyBelow}
 use Rattle.quantifiers.proofs.BelowLaws.{any-zero, any-step}
 use Rattle.reach.specs.Inner.Tracked.{personLevel, factAt, isNumber, track}
-use Rattle.flags.specs.Inner.Flags.{FlagsWritten, hasFact, factIn, startFlag, StartFlags, juniorHas}
-use Rattle.flags.specs.Inner.Flags.{addedFlag, CrewTable, PersonTable, rowFlag, FilledRow}
-use Rattle.flags.specs.Inner.Flags.{FirstRows, SmallWants, valueAt}
+use Rattle.flags.specs.Inner.Flags.{FlagsWritten, hasFact, factIn, startFlag, StartFlags, juniorHas, addedFlag, CrewTable, PersonTable, rowFlag}
+use Rattle.flags.specs.Inner.Flags.{FilledRow, FirstRows, SmallWants, valueAt}
 
 -- ---------------------------------------------------------------- flags written one by one
 

@@ -1,5 +1,5 @@
 -- One turn of the walk over a book's lines, over plain values: what is left of the book decides the answer.
-use mathlib.Core.Path.{_≡_, refl, ap, sym, subst, _∙_}
+use mathlib.Core.Path.{_≡_, refl, ap, sym, _∙_}
 use mathlib.Core.Bool.{Bool, true, false, cond}
 use mathlib.Core.List.{List, _∷_}
 use mathlib.Core.Logic.{_⊎_, ⊎-elim, inl, inr, dite}
@@ -30,8 +30,8 @@ use Rattle.gate.proofs.PassedLaws.{sizes-passed, edge-passed, rule-passed}
 use Rattle.frames.specs.declared.Rule.{Rule}
 use Rattle.frames.specs.declared.Query.{Query}
 use Rattle.frames.specs.declared.Refusal.the-variants.{BadLine}
-use Rattle.frames.specs.Book.{Entered, refused, accepted, contents, nothing, walk, enter}
-use Rattle.frames.specs.Book.{knownAfter, juniorsAfter, rulesAfter, factsAfter, queryAfter, ruleOf}
+use Rattle.frames.specs.Book.{Entered, refused, accepted, contents, nothing, walk, enter, knownAfter, juniorsAfter, rulesAfter, factsAfter, queryAfter}
+use Rattle.frames.specs.Book.{ruleOf}
 
 -- The state that the reader's locals stand for.
 unfoldable pub held : Known → Query → List ℕ → List ℕ → List Rule → Entered

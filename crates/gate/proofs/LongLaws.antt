@@ -1,6 +1,6 @@
 -- A frame of over 64 bytes is refused, and its first 64 bytes and its length tell by which number.
-use mathlib.Core.Path.{_≡_, refl, sym, ap, _∙_}
-use mathlib.Core.Bool.{Bool, true, false, not, cond, _&&_, and-false}
+use mathlib.Core.Path.{_≡_, refl}
+use mathlib.Core.Bool.{Bool, true, false, cond, _&&_, and-false}
 use mathlib.Core.List.{List}
 use Prim.Native.Nat.{ℕ, _+_, _*_, _<_}
 use native.Mathlib.Omega.{arith}
@@ -13,8 +13,8 @@ use Rattle.gate.specs.declared.Known.{Known}
 use Rattle.gate.specs.declared.Fault.the-variants.{Misplaced, Mislengthed, Outside}
 use Rattle.gate.specs.declared.Verdict.{Verdict}
 use Rattle.gate.specs.declared.Verdict.the-variants.{Bad}
-use Rattle.gate.specs.Gate.{misplaced, lengthOf, mislengthed, ruleGood, queryGood}
-use Rattle.gate.specs.Gate.{sizesVerdict, edgeVerdict, factVerdict, ruleVerdict, queryVerdict, fieldsVerdict, verdict}
+use Rattle.gate.specs.Gate.{misplaced, lengthOf, mislengthed, ruleGood, queryGood, sizesVerdict, edgeVerdict, factVerdict, ruleVerdict, queryVerdict}
+use Rattle.gate.specs.Gate.{fieldsVerdict, verdict}
 use Rattle.gate.specs.Inner.Long.{dueLength, longFault}
 
 -- A row of tests of which the middle one fails.

@@ -1,15 +1,11 @@
 // The refusals 3-9 of one line's frame, given what the lines above it tell.
 ghost use mathlib.Core.Path.{_≡_};
-ghost use mathlib.Core.Bool.{_||_, _&&_, not};
-ghost use lib.Dec.{ltb, eqb, leb};
-ghost use Prim.Native.Nat.{_+_, _-_, _*_, _<_, _≤_};
+ghost use mathlib.Core.Bool.{_&&_, not};
+ghost use Prim.Native.Nat.{_+_, _-_, _*_, _<_};
 ghost use lib.ListN.{length};
-ghost use Rattle.lines.specs.Digits.{byteAt};
-ghost use Rattle.gate.specs.Gate.{faultNumber, between, valuesOf, isPerson, isCrew, isAttr, isValue, isCrewField, pairAt, quadAt, misplaced, lengthOf};
-ghost use Rattle.gate.specs.Gate.{mislengthed};
-ghost use Rattle.gate.specs.Gate.{sizesGood, sizesVerdict, edgeVerdict, headGood, termGood, termGoodAt, ruleGood, valueTermAt, foreign, ruleVerdict};
-ghost use Rattle.gate.specs.Gate.{factGood};
-ghost use Rattle.gate.specs.Gate.{factVerdict, wantGoodAt, crewsGood, queryGood, risesAt, queryVerdict, fieldsVerdict, verdict};
+ghost use Rattle.gate.specs.Gate.{faultNumber, between, valuesOf, isCrew, isValue, isCrewField, pairAt, quadAt, misplaced, lengthOf};
+ghost use Rattle.gate.specs.Gate.{mislengthed, sizesGood, sizesVerdict, edgeVerdict, headGood, termGood, termGoodAt, ruleGood, valueTermAt, foreign};
+ghost use Rattle.gate.specs.Gate.{ruleVerdict, factGood, factVerdict, wantGoodAt, crewsGood, queryGood, risesAt, queryVerdict, fieldsVerdict, verdict};
 ghost use Rattle.quantifiers.specs.Quantifiers.{allBelow};
 ghost use Rattle.gate.specs.Inner.Long.{dueLength, longFault};
 

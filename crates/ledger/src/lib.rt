@@ -8,7 +8,7 @@ ghost use Rattle.gate.specs.Inner.Ranges.{InRange};
 ghost use Rattle.frames.specs.Book.{contentsOf};
 ghost use Rattle.frames.specs.Inner.Fits.{Admitted};
 ghost use Rattle.ledger.specs.Ledger.{refusalNumber, refusalLine, reply, openIn, openReply, allowed, requestIn, requestReply};
-ghost use Rattle.ledger.specs.Show.{setBelow, valueSet, valueSets, crewSet, hidden, showIn, showView, viewOf};
+ghost use Rattle.ledger.specs.Show.{setBelow, valueSet, valueSets, hidden, showIn, showView, viewOf};
 ghost use Rattle.inherit.specs.Inheritance.{personHolds, personIn};
 use facts::Attr;
 use facts::Crew;

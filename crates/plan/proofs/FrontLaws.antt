@@ -1,11 +1,11 @@
 -- The laws of characters copied to the front of a text.
-use mathlib.Core.Path.{_≡_, refl, ap, sym, subst, _∙_}
-use mathlib.Core.List.{List, [], _∷_, _++_}
-use Prim.Native.Nat.{ℕ, _+_, _≤_, _<_}
+use mathlib.Core.Path.{_≡_, ap, sym, subst, _∙_}
+use mathlib.Core.List.{List, _++_}
+use Prim.Native.Nat.{ℕ, _+_, _<_}
 use native.Mathlib.Numerals.{add-one}
 use native.Mathlib.Omega.{arith}
-use lib.ListN.{length, take, drop, set, getD, length-drop, length-append}
-use lib.Seq.{take-suc, take-all, take-append-seam, length-take-le}
+use lib.ListN.{length, take, set, getD}
+use lib.Seq.{take-suc, take-all, take-append-seam}
 use Rattle.answers.specs.Inner.Written.{Written}
 use Rattle.answers.proofs.WrittenLaws.{written-char, written-as, written-more}
 

@@ -1,7 +1,7 @@
 -- From the buffers of the search to the answer.
 use mathlib.Core.Path.{_≡_, refl, ap, sym, subst, _∙_}
 use mathlib.Core.Bool.{Bool, true, false, true≢false}
-use mathlib.Core.List.{List, [], _∷_, _++_, map, append-assoc}
+use mathlib.Core.List.{List, _++_, map, append-assoc}
 use Prim.Native.Nat.{ℕ, zero, suc, _+_, _-_, _*_, _≤_, _<_}
 use native.Mathlib.Omega.{arith}
 use lib.ListN.{length, take, drop, length-map, length-append, length-drop}
@@ -28,7 +28,7 @@ use Rattle.planner.specs.Count.{factCount}
 use Rattle.planner.specs.Promise.{NoWay, Works}
 use Rattle.planner.specs.declared.Planned.{Planned}
 use Rattle.planner.specs.declared.Planned.the-variants.{Refused}
-use Rattle.planner.specs.declared.Refusal.the-variants.{BadBook, ShortBuffer}
+use Rattle.planner.specs.declared.Refusal.the-variants.{BadBook}
 use Rattle.planner.specs.Answer.{front, Said, said80, said81, said8F, said, PlanGiven, Decided, Answered, PlanPromise}
 use Rattle.planner.specs.Inner.Found.{PlanFound, PlanReply, planReply, given}
 use Rattle.planner.proofs.CountLaws.{plan-few}

@@ -1,7 +1,7 @@
 -- The laws of the depot as a world of the theory: its permission is monotone, and turns on the facts of its own level and those below.
 use mathlib.Core.Path.{_≡_, sym, _∙_}
 use mathlib.Core.Bool.{Bool, true}
-use Prim.Native.Nat.{ℕ, _+_, _*_, _/_, _≤_, _<_}
+use Prim.Native.Nat.{_+_, _*_, _/_, _<_}
 use native.Mathlib.Omega.{arith}
 use Rattle.facts.specs.declared.Person.{Person}
 use Rattle.facts.specs.declared.Fact.{Fact}
@@ -13,7 +13,7 @@ use Rattle.rules.specs.Rules.{subjectOf, termHolds, permitted}
 use Rattle.rules.proofs.RuleLaws.{subject-value, subject-crew, subject-member}
 use Rattle.ledger.proofs.LedgerLaws.{SameOf, permitted-mono, permitted-local, term-of-crew, term-of-person}
 use Rattle.theory.specs.Inner.Facts.{State, _⊆_}
-use Rattle.theory.specs.Inner.Plan.{Ask, Req, req, World, Lawful}
+use Rattle.theory.specs.Inner.Plan.{Ask, Req, req, Lawful}
 use Rattle.theory.specs.Inner.Tiers.{Local, Agree}
 use Rattle.reach.specs.Inner.Tracked.{personLevel, tracked, numberOf, lift, asked, May}
 use Rattle.reach.specs.Inner.Depot.{depot, levelOf}

@@ -36,8 +36,8 @@ use Rattle.replay.proofs.MetLaws.{direct-crews-mono, at-least-local, direct-cre
 use Rattle.theory.specs.Inner.Facts.{Clear}
 use Rattle.reach.specs.Inner.Tracked.{tracked, numberOf, lift, factAt, isNumber, track}
 use Rattle.reach.specs.Inner.Goal.{banned, belowListed, forbids, forbidden, goal, bad}
-use Rattle.reach.proofs.TrackLaws.{tracked-value, tracked-member, number-is, number-fact, fact-tracked}
-use Rattle.reach.proofs.TrackLaws.{track-at, crew-in, value-in, member-in, person-held}
+use Rattle.reach.proofs.TrackLaws.{tracked-value, tracked-member, number-is, number-fact, fact-tracked, track-at, crew-in, value-in, member-in}
+use Rattle.reach.proofs.TrackLaws.{person-held}
 
 -- ---------------------------------------------------------------- tests
 

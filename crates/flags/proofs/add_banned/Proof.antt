@@ -4,8 +4,7 @@ use mathlib.Core.Path.{_≡_, _∙_}
 use Prim.Native.Nat.{_≤_, _-_}
 use native.Mathlib.Omega.{arith}
 use Rattle.frames.specs.Inner.Fits.{wantOf}
-use Rattle.flags.specs.Inner.Flags.{FlagsWritten}
-use Rattle.flags.specs.Inner.Flags.{bannedFlag}
+use Rattle.flags.specs.Inner.Flags.{FlagsWritten, bannedFlag}
 use Rattle.flags.proofs.BadLaws.{banned-none, banned-more}
 use borrow.Author.Needs.{needs}
 use Rattle.flags.proofs.add_banned.Statement.{statement}

@@ -3,10 +3,9 @@
 use mathlib.Core.Path.{refl}
 use Prim.Native.Nat.{_+_, _≤_, _-_}
 use native.Mathlib.Omega.{arith}
-use Rattle.flags.specs.Inner.Flags.{FlagsWritten}
+use Rattle.flags.specs.Inner.Flags.{FlagsWritten, lackingFlag}
 use Rattle.flags.proofs.FlagLaws.{written-none, written-more, written-end}
 use Rattle.sets.specs.Sets.{member, bit}
-use Rattle.flags.specs.Inner.Flags.{lackingFlag}
 use borrow.Author.Needs.{needs}
 use Rattle.flags.proofs.add_lacking.Statement.{statement}
 use Rattle.flags.proofs.add_lacking.Tie as tie

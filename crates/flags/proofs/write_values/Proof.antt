@@ -2,8 +2,7 @@
 -- Assumes nothing.
 use Prim.Native.Nat.{_*_, _≤_, _-_}
 use native.Mathlib.Omega.{arith}
-use Rattle.flags.specs.Inner.Flags.{FlagsWritten}
-use Rattle.flags.specs.Inner.Flags.{valueAt}
+use Rattle.flags.specs.Inner.Flags.{FlagsWritten, valueAt}
 use Rattle.flags.proofs.FlagLaws.{written-none, written-end, values-more}
 use borrow.Author.Needs.{needs}
 use Rattle.flags.proofs.write_values.Statement.{statement}

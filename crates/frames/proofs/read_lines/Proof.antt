@@ -13,8 +13,8 @@ use Rattle.gate.proofs.PassedLaws.{rule-passed}
 use Rattle.facts.specs.Facts.{noFacts}
 use Rattle.frames.specs.declared.Refusal.the-variants.{BadLine}
 use Rattle.frames.specs.Book.{refused, alone, toldBy, contentsOf, listed, nothing}
-use Rattle.frames.proofs.WalkLaws.{held, Held, at-end-good, at-end-bad, unread-bad, long-refused, line-framed, line-less, line-bad}
-use Rattle.frames.proofs.WalkLaws.{edge-good, fact-good, rule-good, other-good, edge-small}
+use Rattle.frames.proofs.WalkLaws.{held, Held, at-end-good, at-end-bad, unread-bad, long-refused, line-framed, line-less, line-bad, edge-good, fact-good}
+use Rattle.frames.proofs.WalkLaws.{rule-good, other-good, edge-small}
 use Rattle.frames.proofs.read_lines.Statement.{statement}
 use Rattle.frames.proofs.read_lines.Tie as tie
 

@@ -1,5 +1,5 @@
 -- What the contracts behind the gate know of a book's sizes. No promise of the paper needs it.
-use Prim.Native.Nat.{ℕ, _≤_}
+use Prim.Native.Nat.{_≤_}
 use Rattle.gate.specs.declared.Sizes.{Sizes}
 
 -- Sizes that passed: `sizesGood` as propositions.

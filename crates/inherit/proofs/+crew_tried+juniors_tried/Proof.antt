@@ -2,7 +2,7 @@
 -- passes downwards, and every crew of the set handed back was tried. The loop's invariant: no junior below `j` passes, and the crews of
 -- `tried` were tried; its measure is what is left. The crew's number falls from crew to junior: 2c + 1 for the crew, 2c for its juniors.
 -- Assumes nothing.
-use Prim.Native.Nat.{_+_, _-_, _*_, _≤_}
+use Prim.Native.Nat.{_+_, _-_, _*_, _≤_, ℕ, _<_}
 use native.Mathlib.Omega.{arith}
 use mathlib.Core.Path.{_≡_, sym, _∙_}
 use mathlib.Core.Bool.{true, false, not}
@@ -12,7 +12,6 @@ use Rattle.inherit.specs.Inheritance.{isJunior, downward}
 use Rattle.inherit.specs.Inner.Search.{sought, juniorPasses, Tried}
 use Rattle.inherit.proofs.InheritanceLaws.{downward-here, by-juniors, tried-more, junior-none, junior-hit, junior-fails, junior-skipped}
 use Rattle.quantifiers.proofs.BoolLaws.{and-both}
-use Prim.Native.Nat.{ℕ, _<_}
 use borrow.Fn.Kinds.{In}
 use borrow.Fn.PlainCycle.{Measures, is, falls, and}
 use Rattle.inherit.proofs.crew_tried.Reads as crew-tried

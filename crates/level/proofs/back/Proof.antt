@@ -1,6 +1,6 @@
 -- The sweep that puts deletions back. Its invariant is `KeptBack`, and `Backing`: the last `quiet` moves before `i` put nothing back. Its turns and its
 -- measure are those of `close`; its notes go downwards from `end`. Assumes nothing.
-use mathlib.Core.Path.{_≡_, sym, _∙_}
+use mathlib.Core.Path.{sym, _∙_}
 use Prim.Native.Nat.{_+_, _-_, _<_}
 use native.Mathlib.Omega.{arith}
 use lib.ListN.{length, length-set}

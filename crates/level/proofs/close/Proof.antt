@@ -1,8 +1,8 @@
 -- The sweep of the additions. Its invariant is `Kept`, and `Adding`: the last `quiet` moves before `i` do not fire. A turn may take it to a move that `added`
 -- names; nothing is claimed of the names but that there are 160. The measure counts the additions that may follow, the names that are left and the
 -- moves that are not quiet. Assumes nothing.
-use mathlib.Core.Path.{_≡_, sym, _∙_}
-use Prim.Native.Nat.{_+_, _-_, _<_}
+use mathlib.Core.Path.{sym, _∙_}
+use Prim.Native.Nat.{_-_, _<_}
 use native.Mathlib.Omega.{arith}
 use lib.ListN.{length, length-set}
 use Rattle.level.specs.Inner.Moves.{movesIn}

@@ -23,12 +23,10 @@ use ghost.Atoms.{Atoms, sem}
 use contract.Monad.{Fun}
 use contract.Running.{givenOf, tables, tablesOf}
 use types.Kit.{Given, Item, Go, Sq, Post, runs, lands, ‵, raw, _⊛_, ⋆, some, later, pick, _$_, _∵_, !, qed, by, move, group, keep, drop, use0, use1, use2, use3}
-use types.Kit.{split}
-use types.Kit.{join, rewrite, fsplit, fjoin, feqL, suffices, frame, await, done}
+use types.Kit.{split, join, rewrite, fsplit, fjoin, feqL, suffices, frame, await, done}
 use types.Part.{whole, sub, look-in, agg}
 use types.Run.{Opds, look, init, forget, stop, hop, fld, from, load, lit, addr, of-opd, and-then, no-more, assigns, land, returns, enter, alloc1, alloc0}
-use types.Run.{params1, pass1}
-use types.Run.{pass0}
+use types.Run.{params1, pass1, pass0}
 use types.Tokens.{lft-new, lft-end}
 use sound.WpLaws.{FmC, fmOf, WpFn-mono}
 use denote.RattleType.{owns}

@@ -29,12 +29,10 @@ use contract.Lifetimes.{Lfts, Shares}
 use contract.Monad.{Fun}
 use contract.Running.{givenOf, tables, tablesOf}
 use types.Kit.{Given, Item, Sq, runs, anyQ, atRet, ‵, raw, _⊛_, ⋆, some, later, pick, _$_, _∵_, !, qed, by, move, keep, drop, use2, use3, split, join, rewrite}
-use types.Kit.{fsplit}
-use types.Kit.{fjoin, feqL, suffices, frame, await, done}
+use types.Kit.{fsplit, fjoin, feqL, suffices, frame, await, done}
 use types.Part.{whole, sub, look-in, agg}
 use types.Run.{look, init, store, forget, stop, hop, fld, from, load, lit, addr, of-opd, bin, and-then, no-more, assigns, assigns-last, land, first, stays}
-use types.Run.{leaves-loop}
-use types.Run.{blocks, loops, Below, again, returns, exec, enter, alloc1, alloc0, params1, pass1, pass0}
+use types.Run.{leaves-loop, blocks, loops, Below, again, returns, exec, enter, alloc1, alloc0, params1, pass1, pass0}
 use types.Tokens.{lft-new, lft-end}
 use sound.WpLaws.{FmC, fmOf, WpFn-mono}
 use denote.RattleType.{owns}

@@ -1,8 +1,7 @@
 -- `plan::answer_in` meets its contract: refusal 10 leaves the text; any other answer keeps the planner's promise, and its characters are
 -- put in the text. Assumes nothing.
-use mathlib.Core.Path.{_≡_, refl, sym, _∙_}
+use mathlib.Core.Path.{sym, _∙_}
 use native.Mathlib.Omega.{arith}
-use lib.ListN.{length}
 use lib.Seq.{length-take-le}
 use Rattle.planner.proofs.RoomLaws.{plan-room}
 use Rattle.plan.proofs.PrintedLaws.{tried-none, tried-put}

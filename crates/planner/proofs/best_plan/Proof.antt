@@ -1,6 +1,5 @@
 -- `planner::best_plan` meets its contract: where the search finds no run there is no way; else the best plan's last ledger decides.
 -- Assumes nothing.
-use mathlib.Core.Path.{_∙_}
 use borrow.Author.Needs.{needs}
 use borrow.Author.Tests.{not-true, not-false}
 use Rattle.frames.specs.Book.{contentsOf}

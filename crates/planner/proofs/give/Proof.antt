@@ -1,5 +1,4 @@
 -- `planner::give` meets its contract: no way and the buffer as it was, or the plan in its front. Assumes nothing.
-use mathlib.Core.Path.{_≡_, refl, ap, sym, _∙_}
 use borrow.Author.Needs.{needs}
 use borrow.Author.Tests.{not-true, not-false}
 use Rattle.search.specs.Inner.Drive.{drafted}

@@ -1,5 +1,5 @@
 -- `planner::plan_in` meets its contract: a short buffer is refused; else what the search found is given. Assumes nothing.
-use mathlib.Core.Path.{_≡_, refl, sym, _∙_}
+use mathlib.Core.Path.{_≡_, refl}
 use Prim.Native.Nat.{ℕ, _*_, _≤_, _<_}
 use Rattle.frames.specs.Book.{contentsOf}
 use Rattle.planner.proofs.AnswerLaws.{facts-few, given-decided, answered-short, answered-long}

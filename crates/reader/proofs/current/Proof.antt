@@ -25,7 +25,6 @@ use types.Kit.{Given, Item, ‵, raw, _⊛_, given, ⋆, _$_, _∵_, !, qed, by,
 use types.Part.{whole, sub, look-in, agg}
 use types.Run.{look, init, forget, stop, hop, fld, from, load, of-opd, addr, and-then, no-more, assigns, land, returns, enter, alloc1, alloc0, params1, pass1}
 use types.Run.{pass0}
-use types.Run.{free1, free0}
 use sound.WpLaws.{FmC, fmOf, WpFn-mono}
 use denote.RattleType.{owns}
 use denote.Laws.{Is, shows}
@@ -44,7 +43,7 @@ use denote.Triple.Entry.{Vals, onEntry}
 use denote.Triple.Spec.{Meets, tripleOf}
 use denote.Triple.Table.{entered, cited}
 use denote.Triple.Walked.{says, needs, Stays, stay-dropped, gave-slice, walkOf, Walks, ends-at, walked, goes-dropped, goes-gave-slice, walk-meets}
-use Rattle.walks.proofs.Walk.{goes, frees-all}
+use Rattle.walks.proofs.Walk.{frees-all}
 use Rattle.walks.proofs.Last.{returned-last}
 use Rattle.lines.specs.Inner.Front.{Tabled}
 use Rattle.reader.specs.Inner.Reading.{LineRead}

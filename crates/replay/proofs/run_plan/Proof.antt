@@ -28,12 +28,10 @@ use contract.Lifetimes.{Lfts, Shares}
 use contract.Monad.{Fun}
 use contract.Running.{givenOf, tables, tablesOf}
 use types.Kit.{Given, Item, Sq, runs, frees, prop, anyQ, atRet, ‵, raw, _⊛_, ⋆, some, later, _$_, _∵_, !, qed, by, move, keep, group, drop, use1, use2, use3}
-use types.Kit.{split, join}
-use types.Kit.{pick, rewrite, fsplit, fjoin, feqL, suffices, frame, await, done}
+use types.Kit.{split, join, pick, rewrite, fsplit, fjoin, feqL, suffices, frame, await, done}
 use types.Part.{whole, sub, look-in, agg}
 use types.Run.{look, init, store, forget, stop, hop, fld, from, load, lit, addr, of-opd, bin, and-then, no-more, assigns, assigns-last, land, first, branches}
-use types.Run.{stays}
-use types.Run.{leaves-loop, blocks, loops, Below, again, returns, returns-within, exec, enter, alloc1, alloc0, params1, pass1, pass0}
+use types.Run.{stays, leaves-loop, blocks, loops, Below, again, returns, returns-within, exec, enter, alloc1, alloc0, params1, pass1, pass0}
 use types.Tokens.{lft-new, lft-end}
 use sound.WpLaws.{FmC, fmOf, WpFn-mono}
 use denote.RattleType.{owns}

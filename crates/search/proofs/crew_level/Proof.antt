@@ -1,6 +1,6 @@
 -- `search::crew_level` meets its contract: the table is the crew's, the level comes to a settled set or is stuck, and the crew's row is filled from
 -- what was settled (`crew-scanned`). Assumes nothing.
-use mathlib.Core.Path.{refl, sym, ap, _∙_}
+use mathlib.Core.Path.{refl, ap, _∙_}
 use Prim.Native.Nat.{_≤_}
 use native.Mathlib.Omega.{arith}
 use lib.ListN.{length}
