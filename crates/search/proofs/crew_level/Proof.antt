@@ -22,14 +22,14 @@ after-is-below-listed c = c .before .before .before
 abbrev after-crew-table : tie.After-settle-level-arg5 → tie.After-crew-table
 after-crew-table c = c .before .before .before .before .before .before .before .before
 
-abbrev after-settle-level : tie.After-fill-row-arg2 → tie.After-settle-level
-after-settle-level c = c .before .before .before .before .before .before .before .before .before .before .before .before
-
 abbrev after-down : tie.After-fill-row-arg2 → tie.After-down
 after-down c = c .before .before .before .before
 
 abbrev after-up : tie.After-fill-row-arg2 → tie.After-up
 after-up c = after-down c .before .before
+
+abbrev after-settle-level : tie.After-fill-row-arg2 → tie.After-settle-level
+after-settle-level c = after-up c .before .before .before .before .before .before
 
 is-below-listed-requires : tie.Need-is-below-listed-requires
 unfolding contentsOf

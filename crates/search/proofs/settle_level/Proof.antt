@@ -6,9 +6,13 @@ use Rattle.search.proofs.StepLaws.{starts-allowed}
 use Rattle.search.proofs.settle_level.Statement.{statement}
 use Rattle.search.proofs.settle_level.Tie as tie
 
--- The places that the answers name, each seen from a later one.
+-- The places that the answers name, each seen from a later one. `flags-lent` and `flags-back` are where the flags `x` come in, and where they are
+-- back from the rounds.
+abbrev flags-lent : tie.After-bad → tie.After-slice-known3
+flags-lent c = c .before .before .before
+
 abbrev entry : tie.After-bad → tie.Start
-entry c = c .before .before .before .before .before .before .before .before .before .before
+entry c = flags-lent c .before .before .before .before .before .before .before
 
 abbrev after-bad-flags : tie.After-allow-all → tie.After-bad-flags
 after-bad-flags c = c .before .before .before .before .before .before
@@ -22,8 +26,11 @@ after-allow-all c = c .before .before .before .before
 abbrev lent-bad : tie.After-settle-arg5 → tie.After-bad3
 lent-bad c = c .before .before .before .before .before .before .before
 
+abbrev flags-back : tie.After-slice-known10 → tie.After-x
+flags-back c = c .before .before .before .before .before .before .before
+
 abbrev after-settle : tie.After-slice-known10 → tie.After-settle
-after-settle c = c .before .before .before .before .before .before .before .before .before .before .before .before .before
+after-settle c = flags-back c .before .before .before .before .before .before
 
 slice-aggregate-bad-flags : tie.Need-slice-aggregate-bad-flags
 slice-aggregate-bad-flags c = refl
