@@ -1,7 +1,10 @@
 // The facts of a ledger: what they are about, where each has its place, how one is looked up and put.
 
 ghost use mathlib.Core.Path.{_≡_};
+ghost use Rattle.quantifiers.specs.Quantifiers.{anyFrom};
+ghost use Prim.Native.Nat.{_*_};
 ghost use Rattle.facts.specs.Facts.{fits, setAt, setWidth, memberOf, holds, putFact};
+ghost use Rattle.facts.specs.Inner.Numbered.{numbered};
 
 // A person, a crew, an attribute and a role, each by its number: the disjoint sets U, UG, UA and AR of GURA_G.
 pub struct Person(pub u8);
@@ -76,6 +79,18 @@ pub fn fact_holds(ledger: &[u8], f: Fact) -> bool
     }
     let place = place_of(f);
     sets::has_at(ledger, place.at, place.w, place.v)
+}
+
+// Whether the fact, or one of the same set with a higher number, is in the ledger: of a value, whether it or a higher one of its attribute is held. The
+// set is looked at once.
+pub fn holds_from(ledger: &[u8], f: Fact) -> bool
+    ensures { λ r. ⌜ r ≡ anyFrom (λ w. holds (now (ledger .entry)) (numbered f w)) (memberOf f) (8 * setWidth f) ⌝ }
+{
+    if !fact_fits(f) {
+        return false;
+    }
+    let place = place_of(f);
+    sets::has_from_at(ledger, place.at, place.w, place.v)
 }
 
 // The fact put into the ledger, or taken out. A fact without a place changes nothing.

@@ -4,6 +4,7 @@ ghost use mathlib.Core.Path.{_≡_};
 ghost use Prim.Native.Nat.{_<_};
 ghost use lib.ListN.{length};
 ghost use Rattle.facts.specs.Facts.{holds};
+ghost use Rattle.quantifiers.specs.Quantifiers.{anyFrom};
 ghost use Rattle.inherit.specs.Inheritance.{downward, crewHolds, someCrew, personIn, personHolds};
 ghost use Rattle.inherit.specs.Inner.Search.{sought, juniorPasses, Tried};
 use facts::Attr;
@@ -11,9 +12,10 @@ use facts::Crew;
 use facts::Fact;
 use facts::Person;
 
-// What is looked for at a crew and below it: a value that it directly holds, or the crew named.
+// What is looked for at a crew and below it: a value that it directly holds, that value or a higher one, or the crew named.
 pub enum Sought {
     Value(Attr, u8),
+    AtLeast(Attr, u8),
     Named(Crew),
 }
 
@@ -29,6 +31,7 @@ fn is_sought(ledger: &[u8], c: u8, w: Sought) -> bool
 {
     match w {
         Sought::Value(a, v) => facts::fact_holds(ledger, Fact::CrewHolds(Crew(c), a, v)),
+        Sought::AtLeast(a, v) => facts::holds_from(ledger, Fact::CrewHolds(Crew(c), a, v)),
         Sought::Named(x) => c == x.0,
     }
 }
@@ -111,6 +114,15 @@ pub fn crew_holds(ledger: &[u8], juniors: &[u32], c: Crew, a: Attr, v: u8) -> bo
     f.holds
 }
 
+// Whether crew c effectively holds value v of attribute a or a higher one: one search for all of them.
+pub fn crew_holds_at_least(ledger: &[u8], juniors: &[u32], c: Crew, a: Attr, v: u8) -> bool
+    requires { ⌜ (c .0 < 32) × (length (now juniors) ≡ 32) ⌝ }
+    ensures { λ r. ⌜ r ≡ anyFrom (λ w. crewHolds (now (juniors .entry)) (holds (now (ledger .entry))) a w (c .0)) v 16 ⌝ }
+{
+    let f = crew_tried(ledger, juniors, c.0, Sought::AtLeast(a, v), 0);
+    f.holds
+}
+
 // Whether person p is effectively in crew c.
 pub fn person_in(ledger: &[u8], juniors: &[u32], p: Person, c: Crew) -> bool
     requires { ⌜ length (now juniors) ≡ 32 ⌝ }
@@ -128,4 +140,15 @@ pub fn person_holds(ledger: &[u8], juniors: &[u32], p: Person, a: Attr, v: u8) -
         return true;
     }
     person_reaches(ledger, juniors, p, Sought::Value(a, v))
+}
+
+// Whether person p effectively holds value v of attribute a or a higher one: one search for all of them.
+pub fn person_holds_at_least(ledger: &[u8], juniors: &[u32], p: Person, a: Attr, v: u8) -> bool
+    requires { ⌜ length (now juniors) ≡ 32 ⌝ }
+    ensures { λ r. ⌜ r ≡ anyFrom (personHolds (now (juniors .entry)) (holds (now (ledger .entry))) p a) v 16 ⌝ }
+{
+    if facts::holds_from(ledger, Fact::Holds(p, a, v)) {
+        return true;
+    }
+    person_reaches(ledger, juniors, p, Sought::AtLeast(a, v))
 }

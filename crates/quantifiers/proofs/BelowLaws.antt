@@ -1,14 +1,16 @@
 -- Tests over the numbers below a bound: some one passes, all pass, how many do.
-use mathlib.Core.Path.{_≡_, refl, sym, _∙_}
+use mathlib.Core.Path.{_≡_, refl, ap, sym, _∙_}
 use mathlib.Core.Logic.{dite, ⊎-elim}
 use mathlib.Core.Bool.{Bool, true, false, _&&_, _||_, or-true, false≢true}
 use Prim.Native.Nat.{ℕ, zero, suc, _+_, _≤_, _<_}
 use native.Mathlib.Decide.{ℕ-discrete, decLt}
 use native.Mathlib.Numerals.{add-one}
 use native.Mathlib.Omega.{arith}
-use Rattle.quantifiers.specs.Quantifiers.{allBelow, anyBelow}
+use lib.Dec.{leb}
+use borrow.Author.Tests.{leb-true, le-leb}
+use Rattle.quantifiers.specs.Quantifiers.{allBelow, anyBelow, anyFrom}
 use Rattle.quantifiers.specs.Inner.Lists.{oneIf, countBelow}
-use Rattle.quantifiers.proofs.BoolLaws.{and-both, and-from, or-cases, not-on}
+use Rattle.quantifiers.proofs.BoolLaws.{and-both, and-from, and-or, or-cases, or-swap, not-on, bool-eq, by-test}
 
 -- ---------------------------------------------------------------- some number below n
 
@@ -68,6 +70,119 @@ pub any-false : (p : ℕ → Bool) (n : ℕ) → ((i : ℕ) → i < n → p i �
 unfolding anyBelow
 any-false p zero h = refl
 any-false p (suc n) h = rw (any-false p n (λ i l. h i (omega arith)), h n (omega arith)) refl
+
+-- Some one passes either of two tests where some one passes the first or some one the second.
+pub any-or : (p q : ℕ → Bool) (n : ℕ) → anyBelow (λ i. p i || q i) n ≡ anyBelow p n || anyBelow q n
+unfolding anyBelow
+any-or p q zero = refl
+any-or p q (suc n) = rw (any-or p q n) (or-swap (anyBelow p n) (anyBelow q n) (p n) (q n))
+
+-- A test that does not look at the number stands before the search.
+pub any-and : (b : Bool) (p : ℕ → Bool) (n : ℕ) → b && anyBelow p n ≡ anyBelow (λ i. b && p i) n
+any-and true p n = refl
+any-and false p n = sym (any-false (λ _. false) n (λ i l. refl))
+
+-- Which of two numbers is looked for first does not matter.
+pub any-swap : (p : ℕ → ℕ → Bool) (n m : ℕ) → anyBelow (λ i. anyBelow (p i) m) n ≡ anyBelow (λ j. anyBelow (λ i. p i j) n) m
+unfolding anyBelow
+any-swap p zero m = sym (any-false (λ _. false) m (λ i l. refl))
+any-swap p (suc n) m = rw (any-swap p n m) (sym (any-or (λ j. anyBelow (λ i. p i j) n) (p n) m))
+
+-- ---------------------------------------------------------------- some number from v on, below n
+
+-- A number from v on that passes is found.
+pub from-found : (p : ℕ → Bool) (v n w : ℕ) → v ≤ w → w < n → p w ≡ true → anyFrom p v n ≡ true
+unfolding anyFrom
+from-found p v n w h l e = any-from (λ w. leb v w && p w) n w (and-from (leb v w) (p w) (le-leb v w h) e) l
+
+-- What is found is a number from v on that passes.
+pub from-cases : (p : ℕ → Bool) (v n : ℕ) → anyFrom p v n ≡ true → (w : ℕ) × ((v ≤ w) × ((w < n) × (p w ≡ true)))
+unfolding anyFrom
+from-cases p v n e =
+    let found = any-cases (λ w. leb v w && p w) n e in
+    let both = and-both (leb v (found .0)) (p (found .0)) (found .1 .1) in
+    (found .0, (leb-true v (found .0) (both .0), (found .1 .0, both .1)))
+
+-- A test that passes more numbers from v on finds more.
+pub from-mono : (p q : ℕ → Bool) (v n : ℕ) → ((w : ℕ) → v ≤ w → w < n → p w ≡ true → q w ≡ true) → anyFrom p v n ≡ true → anyFrom q v n ≡ true
+from-mono p q v n h e =
+    let found = from-cases p v n e in
+    let w = found .0 in
+    from-found q v n w (found .1 .0) (found .1 .1 .0) (h w (found .1 .0) (found .1 .1 .0) (found .1 .1 .1))
+
+-- Tests that agree find alike.
+pub from-same : (p q : ℕ → Bool) (v n : ℕ) → ((w : ℕ) → w < n → p w ≡ q w) → anyFrom p v n ≡ anyFrom q v n
+unfolding anyFrom
+from-same p q v n h = any-same (λ w. leb v w && p w) (λ w. leb v w && q w) n (λ w l. ap (λ (b : Bool). leb v w && b) (h w l))
+
+-- Some one from v on passes either of two tests where some one passes the first or some one the second.
+pub from-or : (p q : ℕ → Bool) (v n : ℕ) → anyFrom (λ w. p w || q w) v n ≡ anyFrom p v n || anyFrom q v n
+unfolding anyFrom
+from-or p q v n =
+    any-same (λ w. leb v w && (p w || q w)) (λ w. (leb v w && p w) || (leb v w && q w)) n (λ w l. and-or (leb v w) (p w) (q w))
+    ∙ any-or (λ w. leb v w && p w) (λ w. leb v w && q w) n
+
+-- From 0 on is all of them.
+pub from-zero : (p : ℕ → Bool) (n : ℕ) → anyFrom p 0 n ≡ anyBelow p n
+unfolding anyFrom
+from-zero p n = any-same (λ w. leb 0 w && p w) p n (λ w l. rw (le-leb 0 w (omega arith)) refl)
+
+-- Where v does not lie below n, none is found.
+pub from-end : (p : ℕ → Bool) (v n : ℕ) → n ≤ v → anyFrom p v n ≡ false
+from-end p v n h = not-on (anyFrom p v n) (λ e. let found = from-cases p v n e in omega (arith, found .1 .0, found .1 .1 .0))
+
+-- From v on: v itself, or from v + 1 on.
+pub from-step : (p : ℕ → Bool) (v n : ℕ) → v < n → anyFrom p v n ≡ p v || anyFrom p (v + 1) n
+from-step p v n h = by-test (p v) here on
+  where
+    here : p v ≡ true → anyFrom p v n ≡ p v || anyFrom p (v + 1) n
+    here e = rw e (from-found p v n v (omega arith) h e)
+
+    on : p v ≡ false → anyFrom p v n ≡ p v || anyFrom p (v + 1) n
+    on e = rw e (bool-eq (anyFrom p v n) (anyFrom p (v + 1) n) over back)
+      where
+        over : anyFrom p v n ≡ true → anyFrom p (v + 1) n ≡ true
+        over t =
+            let found = from-cases p v n t in
+            let w = found .0 in
+            dite (ℕ-discrete w v)
+            (λ (q : w ≡ v). absurd (false≢true (sym e ∙ ap p (sym q) ∙ found .1 .1 .1)))
+            (λ (q : w ≡ v → ⊥). from-found p (v + 1) n w (omega (arith, found .1 .0)) (found .1 .1 .0) (found .1 .1 .1))
+
+        back : anyFrom p (v + 1) n ≡ true → anyFrom p v n ≡ true
+        back t =
+            let found = from-cases p (v + 1) n t in
+            from-found p v n (found .0) (omega (arith, found .1 .0)) (found .1 .1 .0) (found .1 .1 .1)
+
+-- From a lower number on, more is found.
+pub from-lower : (p : ℕ → Bool) (u v n : ℕ) → u ≤ v → anyFrom p v n ≡ true → anyFrom p u n ≡ true
+from-lower p u v n h e =
+    let found = from-cases p v n e in
+    from-found p u n (found .0) (omega (arith, h, found .1 .0)) (found .1 .1 .0) (found .1 .1 .1)
+
+-- A test that each number below n fails finds none.
+pub from-none : (p : ℕ → Bool) (v n : ℕ) → ((w : ℕ) → w < n → p w ≡ false) → anyFrom p v n ≡ false
+from-none p v n h =
+    not-on (anyFrom p v n) (λ t. let found = from-cases p v n t in false≢true (sym (h (found .0) (found .1 .1 .0)) ∙ found .1 .1 .1))
+
+-- A test that does not look at the number stands before the search.
+pub from-and : (b : Bool) (p : ℕ → Bool) (v n : ℕ) → b && anyFrom p v n ≡ anyFrom (λ w. b && p w) v n
+from-and true p v n = refl
+from-and false p v n = sym (from-none (λ _. false) v n (λ w l. refl))
+
+-- Which of two numbers is looked for first does not matter.
+pub from-swap : (p : ℕ → ℕ → Bool) (v n m : ℕ) → anyBelow (λ j. anyFrom (p j) v n) m ≡ anyFrom (λ w. anyBelow (λ j. p j w) m) v n
+unfolding anyFrom
+from-swap p v n m =
+    any-swap (λ j w. leb v w && p j w) m n
+    ∙ any-same (λ w. anyBelow (λ j. leb v w && p j w) m) (λ w. leb v w && anyBelow (λ j. p j w) m) n (λ w l. sym (any-and (leb v w) (λ j. p j w) m))
+
+-- Some member of a family passes one of the tests where for one of them some member passes it.
+pub family-from : (b : ℕ → Bool) (p : ℕ → ℕ → Bool) (v n m : ℕ)
+    → anyBelow (λ j. b j && anyFrom (λ w. p w j) v n) m ≡ anyFrom (λ w. anyBelow (λ j. b j && p w j) m) v n
+family-from b p v n m =
+    any-same (λ j. b j && anyFrom (λ w. p w j) v n) (λ j. anyFrom (λ w. b j && p w j) v n) m (λ j l. from-and (b j) (λ w. p w j) v n)
+    ∙ from-swap (λ j w. b j && p w j) v n m
 
 -- ---------------------------------------------------------------- all numbers below n
 

@@ -1,5 +1,5 @@
 -- Two tests passed, or one of two; three numbers below three bounds.
-use mathlib.Core.Path.{_≡_, refl}
+use mathlib.Core.Path.{_≡_, refl, sym}
 use mathlib.Core.Logic.{_⊎_, inl, inr}
 use mathlib.Core.Bool.{Bool, true, false, _&&_, _||_, or-true, true≢false, false≢true}
 use Prim.Native.Nat.{ℕ, _<_}
@@ -42,6 +42,22 @@ not-on false h = refl
 pub by-test : {A : Type 0} (b : Bool) → (b ≡ true → A) → (b ≡ false → A) → A
 by-test true t f = t refl
 by-test false t f = f refl
+
+-- Two tests, each passed where the other is, agree.
+pub bool-eq : (a b : Bool) → (a ≡ true → b ≡ true) → (b ≡ true → a ≡ true) → a ≡ b
+bool-eq true b f g = sym (f refl)
+bool-eq false true f g = g refl
+bool-eq false false f g = refl
+
+pub or-swap : (a b c d : Bool) → (a || b) || (c || d) ≡ (a || c) || (b || d)
+or-swap true b c d = refl
+or-swap false true true d = refl
+or-swap false true false d = refl
+or-swap false false c d = refl
+
+pub and-or : (a b c : Bool) → a && (b || c) ≡ (a && b) || (a && c)
+and-or true b c = refl
+and-or false b c = refl
 
 -- ---------------------------------------------------------------- several bounds
 

@@ -5,8 +5,8 @@ use mathlib.Core.List.{List, [], _∷_, _++_, map}
 use Prim.Native.Nat.{ℕ, zero, suc, _+_, _≤_, _<_}
 use native.Mathlib.Numerals.{add-one}
 use native.Mathlib.Omega.{arith}
-use lib.ListN.{length, getD, take, drop, drop-of-length-le}
-use lib.Seq.{drop-cons, getD-take, length-take-le, take-suc}
+use lib.ListN.{length, getD, set, take, drop, drop-of-length-le}
+use lib.Seq.{drop-cons, getD-take, length-take-le, take-suc, take-suc-set, take-all}
 use Rattle.quantifiers.specs.Quantifiers.{all, any, anyBelow}
 use Rattle.quantifiers.specs.Inner.Lists.{Each}
 use Rattle.quantifiers.proofs.BoolLaws.{and-both, or-right}
@@ -138,3 +138,15 @@ each-at P (x ∷ xs) (suc n) (suc i) d h f e = each-at P xs n i d (omega arith) 
 pub map-append : {A B : Type 0} (f : A → B) (xs ys : List A) → map f (xs ++ ys) ≡ map f xs ++ map f ys
 map-append f [] ys = refl
 map-append {A} {B} f (x ∷ xs) ys = ap (λ (r : List B). f x ∷ r) (map-append f xs ys)
+
+-- ---------------------------------------------------------------- one list copied to another, from the front
+
+module _ {A : Type 0} where
+  -- One element more is copied; z is what stands behind a list's end.
+  pub copied-more : (z : A) (l m : List A) (i : ℕ) → i < length l → i < length m → take i l ≡ take i m
+      → take (i + 1) (set l i (getD m i z)) ≡ take (i + 1) m
+  copied-more z l m i h k e = rw (add-one, take-suc-set l i (getD m i z) h, take-suc m i z k, e) refl
+
+  -- All are copied.
+  pub copied-all : (l m : List A) (n : ℕ) → length l ≤ n → length m ≤ n → take n l ≡ take n m → l ≡ m
+  copied-all l m n h k e = sym (take-all n l h) ∙ e ∙ take-all n m k

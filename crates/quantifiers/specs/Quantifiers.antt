@@ -2,6 +2,7 @@
 use Prim.Native.Nat.{ℕ, zero, suc}
 use mathlib.Core.Bool.{Bool, true, false, _&&_, _||_}
 use mathlib.Core.List.{List, [], _∷_}
+use lib.Dec.{leb}
 
 -- All of a list pass a test.
 unfoldable pub all : {A : Type 0} → (A → Bool) → List A → Bool
@@ -22,3 +23,7 @@ allBelow p (suc n) = allBelow p n && p n
 unfoldable pub anyBelow : (ℕ → Bool) → ℕ → Bool
 anyBelow p zero = false
 anyBelow p (suc n) = anyBelow p n || p n
+
+-- Some number from v on, below n, passes a test.
+unfoldable pub anyFrom : (ℕ → Bool) → ℕ → ℕ → Bool
+anyFrom p v n = anyBelow (λ w. leb v w && p w) n

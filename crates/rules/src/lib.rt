@@ -7,7 +7,7 @@ ghost use Rattle.frames.specs.Book.{listed, noTerm};
 ghost use Rattle.frames.specs.Inner.Fits.{Short};
 ghost use Rattle.quantifiers.specs.Inner.Lists.{Each};
 ghost use Rattle.rules.specs.Inner.First.{first};
-ghost use Rattle.rules.specs.Rules.{subjectOf, aOf, vOf, directly, effectively, inDirectly, inEffectively, termHolds, names, permits};
+ghost use Rattle.rules.specs.Rules.{subjectOf, aOf, vOf, directly, effectively, inDirectly, inEffectively, atLeast, termHolds, names, permits};
 use facts::Attr;
 use facts::Crew;
 use facts::Fact;
@@ -109,6 +109,28 @@ fn is_effectively_in(ledger: &[u8], juniors: &[u32], s: Subject, c: Crew) -> boo
     }
 }
 
+// Whether a crew effectively holds v or a higher value; a number that is no crew's holds nothing.
+fn group_holds_at_least(ledger: &[u8], juniors: &[u32], c: Crew, a: Attr, v: u8) -> bool
+    requires { ⌜ length (now juniors) ≡ 32 ⌝ }
+    ensures { λ r. ⌜ r ≡ atLeast (now (juniors .entry)) (holds (now (ledger .entry))) (Subject.Group c) a v ⌝ }
+{
+    if 32 <= c.0 {
+        return false;
+    }
+    inherit::crew_holds_at_least(ledger, juniors, c, a, v)
+}
+
+// Kind 05.
+fn holds_at_least(ledger: &[u8], juniors: &[u32], s: Subject, a: Attr, v: u8) -> bool
+    requires { ⌜ length (now juniors) ≡ 32 ⌝ }
+    ensures { λ r. ⌜ r ≡ atLeast (now (juniors .entry)) (holds (now (ledger .entry))) s a v ⌝ }
+{
+    match s {
+        Subject::User(p) => inherit::person_holds_at_least(ledger, juniors, p, a, v),
+        Subject::Group(c) => group_holds_at_least(ledger, juniors, c, a, v),
+    }
+}
+
 // Whether a term holds of a subject: one case a kind.
 pub fn term_holds(ledger: &[u8], juniors: &[u32], s: Subject, t: Term) -> bool
     requires { ⌜ length (now juniors) ≡ 32 ⌝ }
@@ -128,6 +150,9 @@ pub fn term_holds(ledger: &[u8], juniors: &[u32], s: Subject, t: Term) -> bool
     }
     if kind == 4 {
         return is_effectively_in(ledger, juniors, s, Crew(a));
+    }
+    if kind == 5 {
+        return holds_at_least(ledger, juniors, s, Attr(a), v);
     }
     false
 }

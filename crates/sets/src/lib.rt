@@ -2,7 +2,8 @@
 
 ghost use mathlib.Core.Path.{_≡_};
 ghost use Prim.Native.Nat.{_+_, _*_, _≤_, _<_};
-ghost use lib.ListN.{length};
+ghost use lib.ListN.{length, getD};
+ghost use Rattle.quantifiers.specs.Quantifiers.{anyFrom};
 ghost use Rattle.sets.specs.Sets.{member, put, within, subset, byteOf, memberAt, putAt, numberAt};
 
 // Whether v is a member of x.
@@ -94,4 +95,29 @@ pub fn number_at(s: &[u8], at: usize, w: usize) -> u32
         j += 1;
     }
     number
+}
+
+// The byte at a place, 0 past the end of s.
+fn byte_or_zero(s: &[u8], i: usize) -> u8
+    ensures { λ r. ⌜ r ≡ getD (now (s .entry)) i 0 ⌝ }
+{
+    if i >= s.len() {
+        return 0;
+    }
+    s[i]
+}
+
+// Whether the set of w bytes at a place has a member from v on: each byte is looked at once. Past the end of s the set is empty.
+pub fn has_from_at(s: &[u8], at: usize, w: usize, v: u8) -> bool
+    requires { ⌜ (at < 4294967296) × (w ≤ 4) ⌝ }
+    ensures { λ r. ⌜ r ≡ anyFrom (memberAt (now (s .entry)) at w) v (8 * w) ⌝ }
+{
+    let mut number: u32 = 0;
+    let mut j = 0;
+    while j < w {
+        let byte = byte_or_zero(s, at + j) as u32;
+        number = number * 256 + byte;
+        j += 1;
+    }
+    !is_within(number, v)
 }

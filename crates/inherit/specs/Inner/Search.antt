@@ -8,13 +8,15 @@ use Rattle.sets.specs.Sets.{member}
 use Rattle.facts.specs.declared.Fact.{Fact}
 use Rattle.facts.specs.declared.Fact.the-variants.{CrewHolds}
 use Rattle.inherit.specs.declared.Sought.{Sought}
-use Rattle.inherit.specs.declared.Sought.the-variants.{Value, Named}
+use Rattle.inherit.specs.declared.Sought.the-variants.{Value, AtLeast, Named}
 use Rattle.inherit.specs.Inheritance.{isJunior, downward}
-use Rattle.quantifiers.specs.Quantifiers.{anyBelow}
+use Rattle.quantifiers.specs.Quantifiers.{anyBelow, anyFrom}
 
--- What is looked for, as a test of a crew's number: that the crew directly holds the value, or that it is the crew named.
+-- What is looked for, as a test of a crew's number: that the crew directly holds the value, that it directly holds the value or a
+-- higher one (an attribute has at most 16 values), or that it is the crew named.
 unfoldable pub sought : (Fact → Bool) → Sought → ℕ → Bool
 sought S (Value a v) = λ x. S (CrewHolds (record { 0 = x }) a v)
+sought S (AtLeast a v) = λ x. anyFrom (λ w. S (CrewHolds (record { 0 = x }) a w)) v 16
 sought S (Named c) = λ x. eqb x (c .0)
 
 -- Some direct junior of crew c with a number below n passes the test, or a crew below it does.

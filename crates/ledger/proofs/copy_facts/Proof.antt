@@ -2,7 +2,7 @@
 use mathlib.Core.Path.{_≡_, refl, sym, _∙_}
 use Prim.Native.Nat.{_≤_, _-_}
 use lib.ListN.{length, take, length-set}
-use Rattle.ledger.proofs.OperationLaws.{copied-more, copied-all}
+use Rattle.quantifiers.proofs.ListLaws.{copied-more, copied-all}
 use borrow.Author.Needs.{needs}
 use native.Mathlib.Omega.{arith}
 use Rattle.ledger.proofs.copy_facts.Statement.{statement}
@@ -34,7 +34,7 @@ loop-again c =
     let start = c .before .before in
     let turn = c .before .loop in
     let long = turn .inv .1 .0 in
-    let eq = copied-more (turn .ledger) (start .args .t1) (turn .i) (omega (arith, long)) (omega (arith, start .good .0 .1 .0 .1))
+    let eq = copied-more 0 (turn .ledger) (start .args .t1) (turn .i) (omega (arith, long)) (omega (arith, start .good .0 .1 .0 .1))
     (turn .inv .1 .1) in
     (omega arith, (simp length-set long, eq))
 

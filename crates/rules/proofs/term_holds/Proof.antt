@@ -41,12 +41,27 @@ returns-4 c =
     let not-3 = ne-eqb _ _ (c .before .before .if3 .left) in
     rw (not-1, not-2, not-3, eq-eqb _ _ (c .before .if4 .taken)) (c .is-effectively-in .ensures)
 
+holds-at-least-requires : tie.Need-holds-at-least-requires
+holds-at-least-requires c κs = search needs
+
 returns-5 : tie.Need-returns-5
 unfolding termHolds
 returns-5 c =
-    let not-1 = ne-eqb _ _ (c .before .before .before .if1 .left) in
-    let not-2 = ne-eqb _ _ (c .before .before .if2 .left) in
-    rw (not-1, not-2, ne-eqb _ _ (c .before .if3 .left), ne-eqb _ _ (c .if4 .left))
+    let not-three = c .before .before .before in
+    let not-1 = ne-eqb _ _ (not-three .before .before .if1 .left) in
+    let not-2 = ne-eqb _ _ (not-three .before .if2 .left) in
+    let not-3 = ne-eqb _ _ (not-three .if3 .left) in
+    let not-4 = ne-eqb _ _ (c .before .before .if4 .left) in
+    rw (not-1, not-2, not-3, not-4, eq-eqb _ _ (c .before .if5 .taken)) (c .holds-at-least .ensures)
+
+returns-6 : tie.Need-returns-6
+unfolding termHolds
+returns-6 c =
+    let not-two = c .before .before .before in
+    let not-1 = ne-eqb _ _ (not-two .before .if1 .left) in
+    let not-2 = ne-eqb _ _ (not-two .if2 .left) in
+    let not-3 = ne-eqb _ _ (c .before .before .if3 .left) in
+    rw (not-1, not-2, not-3, ne-eqb _ _ (c .before .if4 .left), ne-eqb _ _ (c .if5 .left))
 
 pub term-holds-spec : {M : Type 1} → statement M
 term-holds-spec =
@@ -60,4 +75,6 @@ term-holds-spec =
     returns-3
     is-effectively-in-requires
     returns-4
-    returns-5)
+    holds-at-least-requires
+    returns-5
+    returns-6)
