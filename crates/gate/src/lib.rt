@@ -1,10 +1,9 @@
 // The refusals 3-9 of one line's frame, given what the lines above it tell.
 ghost use mathlib.Core.Path.{_≡_};
-ghost use mathlib.Core.Bool.{_&&_, not};
+ghost use mathlib.Core.Bool.{_&&_};
 ghost use Prim.Native.Nat.{_+_, _-_, _*_, _<_};
-ghost use lib.ListN.{length};
 ghost use Rattle.gate.specs.Gate.{faultNumber, between, valuesOf, isCrew, isValue, isCrewField, pairAt, quadAt, misplaced, lengthOf};
-ghost use Rattle.gate.specs.Gate.{mislengthed, sizesGood, sizesVerdict, edgeVerdict, headGood, termGood, termGoodAt, ruleGood, valueTermAt, foreign};
+ghost use Rattle.gate.specs.Gate.{mislengthed, sizesGood, sizesVerdict, edgeVerdict, headGood, asksValue, termGood, termGoodAt, ruleGood, valueTermAt, foreign};
 ghost use Rattle.gate.specs.Gate.{ruleVerdict, factGood, factVerdict, wantGoodAt, crewsGood, queryGood, risesAt, queryVerdict, fieldsVerdict, verdict};
 ghost use Rattle.quantifiers.specs.Quantifiers.{allBelow};
 ghost use Rattle.gate.specs.Inner.Long.{dueLength, longFault};
@@ -211,10 +210,17 @@ fn is_head(z: Sizes, op: u8, role: u8, a: u8, v: u8, n: u8) -> bool
     ((holds & value) | (joins & crew)) & (role <= 15) & (n <= 8)
 }
 
+// Whether a term of that kind asks for a value: 01, 02 and 05 do.
+fn asks_value(kind: u8) -> bool
+    ensures { λ r. ⌜ r ≡ asksValue kind ⌝ }
+{
+    is_between(1, 2, kind) | (kind == 5)
+}
+
 fn is_term(z: Sizes, kind: u8, a: u8, v: u8) -> bool
     ensures { λ r. ⌜ r ≡ termGood z kind a v ⌝ }
 {
-    let holds = is_between(1, 2, kind);
+    let holds = asks_value(kind);
     let joins = is_between(3, 4, kind);
     let value = is_value(z, a, v);
     let crew = is_crew_field(z, a, v);
@@ -266,7 +272,7 @@ fn are_value_terms(x: &[u8], n: u8) -> bool
     let mut j: usize = 0;
     while j < m {
         let kind = lines::byte_at(x, 6 + 3 * j);
-        good = good & (kind <= 2);
+        good = good & asks_value(kind);
         j += 1;
     }
     good

@@ -10,7 +10,7 @@ use Rattle.facts.specs.Facts.{holds, ledgerSize}
 use Rattle.facts.specs.declared.Fact.{Fact}
 use Rattle.facts.specs.declared.Fact.the-variants.{Holds, CrewHolds, Member}
 use Rattle.gate.specs.declared.Sizes.{Sizes}
-use Rattle.gate.specs.Gate.{between, isAttr, valuesOf, isPerson, isCrew, isValue, headGood, termGood}
+use Rattle.gate.specs.Gate.{between, isAttr, valuesOf, isPerson, isCrew, isValue, headGood, asksValue, termGood}
 use Rattle.gate.specs.Inner.Ranges.{InRange}
 use Rattle.quantifiers.specs.Quantifiers.{allBelow}
 use Rattle.frames.specs.declared.Term.{Term}
@@ -36,7 +36,7 @@ termFits z r j = termGood z (termOf r j .kind) (termOf r j .a) (termOf r j .v)
 unfoldable pub ruleFits : Sizes → Rule → Bool
 ruleFits z r =
     headGood z (r .op) (r .role .0) (r .a) (r .v) (r .n) && allBelow (termFits z r) (r .n)
-    && (leb 5 (r .op) || allBelow (λ j. leb (termOf r j .kind) 2) (r .n))
+    && (leb 5 (r .op) || allBelow (λ j. asksValue (termOf r j .kind)) (r .n))
 
 -- A rule by value has room for eight terms, and at most eight.
 pub record Short (r : Rule) : Type 0 where

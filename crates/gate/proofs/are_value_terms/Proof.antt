@@ -1,9 +1,8 @@
 -- `gate::are_value_terms` meets its contract: the invariant says that `good` is the test of the terms below j; the measure is what is left of n.
 -- Assumes nothing.
 use mathlib.Core.Path.{_≡_, ap, _∙_}
-use Prim.Native.Nat.{ℕ, _≤_, _-_}
-use lib.Dec.{leb}
-use Rattle.gate.specs.Gate.{valueTermAt}
+use Prim.Native.Nat.{_≤_, _-_}
+use Rattle.gate.specs.Gate.{asksValue, valueTermAt}
 use Rattle.quantifiers.specs.Quantifiers.{allBelow}
 use Rattle.quantifiers.proofs.BelowLaws.{all-more, all-none}
 use borrow.Author.Needs.{needs}
@@ -33,6 +32,9 @@ add-byte-at c = search needs
 byte-at-requires : tie.Need-byte-at-requires Inv-loop μ-loop
 byte-at-requires c κs = search needs
 
+asks-value-requires : tie.Need-asks-value-requires Inv-loop μ-loop
+asks-value-requires c κs = search needs
+
 add-j : tie.Need-add-j Inv-loop μ-loop
 add-j c = search needs
 
@@ -40,11 +42,12 @@ loop-less : tie.Need-loop-less Inv-loop μ-loop
 loop-less c = search needs
 
 loop-again : tie.Need-loop-again Inv-loop μ-loop
-loop-again c = (
-  omega arith,
-  all-more (valueTermAt (start c .args .x .now)) (c .before .before .loop .j) _ _
-      (c .before .before .loop .inv .1) (ap (λ (b : ℕ). leb b 2) (c .byte-at .ensures)),
-)
+loop-again c =
+    let at-loop = c .before .before .before in (
+      omega arith,
+      all-more (valueTermAt (start (c .before) .args .x .now)) (at-loop .loop .j) _ _
+          (at-loop .loop .inv .1) (c .asks-value .ensures ∙ ap asksValue (c .before .byte-at .ensures)),
+    )
 
 returns : tie.Need-returns Inv-loop μ-loop
 returns c = c .before .loop .inv .1 ∙ ap (allBelow _) (omega arith)
@@ -59,6 +62,7 @@ are-value-terms-spec =
     mul-byte-at
     add-byte-at
     byte-at-requires
+    asks-value-requires
     add-j
     loop-less
     loop-again

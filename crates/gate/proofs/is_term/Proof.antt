@@ -3,11 +3,11 @@ use borrow.Author.Needs.{needs}
 use Rattle.gate.proofs.is_term.Statement.{statement}
 use Rattle.gate.proofs.is_term.Tie as tie
 
+asks-value-requires : tie.Need-asks-value-requires
+asks-value-requires c κs = search needs
+
 is-between-requires : tie.Need-is-between-requires
 is-between-requires c κs = search needs
-
-is-between-requires-2 : tie.Need-is-between-requires-2
-is-between-requires-2 c κs = search needs
 
 is-value-requires : tie.Need-is-value-requires
 is-value-requires c κs = search needs
@@ -18,8 +18,8 @@ is-crew-field-requires c κs = search needs
 returns : tie.Need-returns
 returns c =
     rw (
-      c .before .before .before .is-between .ensures,
-      c .before .before .is-between2 .ensures,
+      c .before .before .before .asks-value .ensures,
+      c .before .before .is-between .ensures,
       c .before .is-value .ensures,
       c .is-crew-field .ensures,
     )
@@ -28,8 +28,8 @@ pub is-term-spec : {M : Type 1} → statement M
 is-term-spec =
     tie.close
     (tie.spec
+    asks-value-requires
     is-between-requires
-    is-between-requires-2
     is-value-requires
     is-crew-field-requires
     returns)
