@@ -11,8 +11,8 @@ use Rattle.theory.specs.Inner.Plan.{Ask}
 use Rattle.theory.proofs.PlanLaws.{deletions-count}
 use Rattle.theory.specs.Inner.Sweep.{PutBack}
 use Rattle.theory.proofs.SweepLaws.{back-none, back-more, back-room}
-use Rattle.level.specs.Inner.Shown.{direct, Whole, Put, touches}
-use Rattle.level.proofs.ShownLaws.{visible-put, direct-low, put-direct, put-whole}
+use Rattle.shown.specs.Inner.Shown.{direct, Whole, Put, touches}
+use Rattle.shown.proofs.ShownLaws.{visible-put, direct-low, put-direct, put-whole}
 use Rattle.level.specs.Inner.Moves.{Moves, placesOf, moveShown, flagsWith, Fine, Sound, moveFrom, moveAt, askOf}
 use Rattle.quantifiers.specs.Quantifiers.{all}
 use Rattle.level.specs.Inner.World.{world}

@@ -1,4 +1,3 @@
-pub mod ShownLaws
 pub mod MoveLaws
 pub mod WorldLaws
 pub mod TermLaws
@@ -8,7 +7,6 @@ pub mod NoteLaws
 pub mod TurnLaws
 pub mod SweepLaws
 pub mod BackSweepLaws
-pub mod BuildLaws
 pub mod SettleLaws
 pub mod Levels
 pub mod LevelLaws

@@ -12,7 +12,7 @@ use lib.ListN.{length, getD, drop, set, length-set, drop-of-length-le}
 use lib.Seq.{drop-cons, getD-take, length-take-le, getD-set-same, getD-set-other}
 use Rattle.quantifiers.proofs.ListLaws.{all-same-at}
 use Rattle.theory.specs.Inner.Facts.{State}
-use Rattle.level.specs.Inner.Shown.{visible}
+use Rattle.shown.specs.Inner.Shown.{visible}
 use Rattle.level.specs.declared.Move.{Move}
 use Rattle.level.specs.Inner.Moves.{Fine, Sound, moveShown, placesOf, movesIn, moveFrom, moveAt}
 use Rattle.quantifiers.specs.Quantifiers.{all}
@@ -32,7 +32,7 @@ module _ {m : Move} (fine : Fine m) where
   place-drop j h = drop-cons (placesOf m) j 0 (omega (arith, places-length)) ∙ rw (place-at j h, add-one)
 
 -- A test of flags is one of the direct facts.
-pub move-shown-flags : (T : List Bool) (S : State) {m : Move} (p : ℕ → Bool) → Fine m → ((k : ℕ) → k < 320 → p k ≡ visible T S k)
+pub move-shown-flags : (T : List Bool) (S : State) {m : Move} (p : ℕ → Bool) → Fine m → ((k : ℕ) → k < 448 → p k ≡ visible T S k)
     → all p (placesOf m) ≡ moveShown T S m
 unfolding moveShown
 move-shown-flags T S {m} p fine h = all-same-at p (visible T S) 0 (placesOf m)
@@ -110,7 +110,7 @@ module _ {xs : List ℕ} {at n : ℕ} (r : Reading xs at n) where
   pub few-terms : n ≤ 8
   few-terms = omega (arith, r .count, count-stands xs at, r .fine .few)
 
-  pub term-fits : (j : ℕ) {k : ℕ} → j < n → k ≡ getD xs (at + 6 + j) 0 → k < 320
+  pub term-fits : (j : ℕ) {k : ℕ} → j < n → k ≡ getD xs (at + 6 + j) 0 → k < 448
   term-fits j h s = omega (arith, s, term-stands xs at j (omega (arith, few-terms)), r .fine .places j)
 
   place-read : (j : ℕ) {k : ℕ} → j < n → k ≡ getD xs (at + 6 + j) 0 → drop j (placesOf (moveFrom xs at)) ≡ k ∷ drop (j + 1) (placesOf (moveFrom xs at))

@@ -1,14 +1,13 @@
 -- The rules of an accepted book are good: what they aim at, and what their terms ask, has a place among a level's facts.
-use mathlib.Core.Path.{_≡_}
-use mathlib.Core.Logic.{dite}
-use mathlib.Core.Bool.{true, _&&_, _||_}
+use mathlib.Core.Path.{_≡_, sym, _∙_}
+use mathlib.Core.Bool.{true, true≢false, _&&_, _||_}
 use Prim.Native.Nat.{ℕ, _≤_, _<_}
-use native.Mathlib.Decide.{decLt}
 use native.Mathlib.Omega.{arith}
 use lib.Dec.{eqb, ltb, leb}
 use lib.ListN.{length, getD}
 use borrow.Author.Tests.{ltb-true, lt-ltb, le-ltb}
-use Rattle.gate.specs.Gate.{between, valuesOf, isCrew, isAttr, isValue, isCrewField, headGood, termGood}
+use Rattle.gate.specs.Gate.{between, valuesOf, isCrew, isAttr, isValue, isCrewField, headGood, asksValue, asksCrew, termGood}
+use Rattle.gate.proofs.TermKindLaws.{crew-not-value}
 use Rattle.gate.specs.Inner.Ranges.{InRange}
 use Rattle.quantifiers.specs.Quantifiers.{allBelow}
 use Rattle.gate.specs.declared.Sizes.{Sizes}
@@ -58,20 +57,15 @@ module _ (z : Sizes) (sized : InRange z) where
   term-in : (t : Term) → termGood z (t .kind) (t .a) (t .v) ≡ true → TermInRange t
   term-in t e =
       let kind = t .kind in
-      let value = between 1 2 kind && isValue z (t .a) (t .v) in
-      let crew = between 3 4 kind && isCrewField z (t .a) (t .v) in
+      let value = asksValue kind && isValue z (t .a) (t .v) in
+      let crew = asksCrew kind && isCrewField z (t .a) (t .v) in
       or-either value crew e
       (λ x.
-      let both = and-both (between 1 2 kind) (isValue z (t .a) (t .v)) x in
-      let here = value-in (t .a) (t .v) (both .1) in
-      record { value = λ _. here; value-2 = λ _. here; crew = λ n₁ n₂. absurd (apart kind (between-true 1 2 kind (both .0)) n₁ n₂) })
+      let both = and-both (asksValue kind) (isValue z (t .a) (t .v)) x in
+      record { value = λ _. value-in (t .a) (t .v) (both .1); crew = λ no. absurd (true≢false (sym (both .0) ∙ no)) })
       (λ x.
-      let both = and-both (between 3 4 kind) (isCrewField z (t .a) (t .v)) x in
-      let high = between-true 3 4 kind (both .0) in
-      record { value = λ q. absurd (omega (arith, high)); value-2 = λ q. absurd (omega (arith, high)); crew = λ n₁ n₂. crew-in (t .a) (t .v) (both .1) })
-    where
-      apart : (k : ℕ) → (1 ≤ k) × (k ≤ 2) → (k ≡ 1 → ⊥) → (k ≡ 2 → ⊥) → ⊥
-      apart k l n₁ n₂ = dite (decLt k 2) (λ (m : k < 2). n₁ (omega (arith, l))) (λ (m : k < 2 → ⊥). n₂ (omega (arith, l)))
+      let both = and-both (asksCrew kind) (isCrewField z (t .a) (t .v)) x in
+      record { value = λ is. absurd (true≢false (sym is ∙ crew-not-value kind (both .0))); crew = λ _. crew-in (t .a) (t .v) (both .1) })
 
   -- A rule within an accepted book's sizes is good.
   pub rule-good : (r : Rule) → ruleFits z r ≡ true → Short r → GoodRule r
@@ -79,7 +73,7 @@ module _ (z : Sizes) (sized : InRange z) where
   rule-good r fits short =
       let head = headGood z (r .op) (r .role .0) (r .a) (r .v) (r .n) in
       let terms = allBelow (termFits z r) (r .n) in
-      let kinds = leb 5 (r .op) || allBelow (λ j. leb (termOf r j .kind) 2) (r .n) in
+      let kinds = leb 5 (r .op) || allBelow (λ j. asksValue (termOf r j .kind)) (r .n) in
       let both = and-both head terms (and-both (head && terms) kinds fits .0) in
       record {
         few = short .few;

@@ -14,20 +14,22 @@ use Rattle.theory.specs.Inner.Plan.{World, AddClosed, BackClosed}
 use Rattle.theory.specs.Inner.Sweep.{Added}
 use Rattle.theory.proofs.TierLaws.{brings-map}
 use Rattle.level.specs.Inner.Moves.{Moves}
-use Rattle.level.specs.Inner.Shown.{direct, Whole}
-use Rattle.level.proofs.ShownLaws.{direct-in}
+use Rattle.shown.specs.Inner.Shown.{direct, Whole}
+use Rattle.shown.proofs.ShownLaws.{direct-in}
 use Rattle.level.specs.Inner.World.{world}
 use Rattle.level.specs.Inner.Notes.{askAt, asks}
 use Rattle.level.specs.Inner.Sweep.{Ready, Closed}
 use Rattle.level.specs.Inner.BackSweep.{ReadyBack, ClosedBack}
-use Rattle.level.specs.Inner.Build.{Built, Stripped, Copied, Lacks}
-use Rattle.level.proofs.BuildLaws.{not-lacking}
+use Rattle.build.specs.Inner.Build.{Built, Stripped, Copied, Lacks}
+use Rattle.build.proofs.BuildLaws.{not-lacking}
 use Rattle.level.specs.Inner.Settle.{Result, Rounded, Rounds, Settled, Lengths, Stuck, again, none-yet}
 
--- Flags built from the start are ready for the additions.
+-- The starting facts' flags, copied, are ready for the additions.
 pub ready : {T bad s u x₀ x y d : List Bool} {start : ℕ} {up : List ℕ} {end : ℕ} {down : List ℕ} → Lengths T bad s u x₀ y d start up end down
-    → Built T s x → direct s ⊆ direct u → Ready T u x (length up) start
-ready {s = s} {u = u} z b le = record { whole = b .whole; length-allowed = z .size-u; within = rw (b .same) le; room = z .room-up }
+    → Whole T s → x ≡ s → direct s ⊆ direct u → Ready T u x (length up) start
+ready {T} {u = u} {start = start} {up = up} z w e le =
+    subst (λ (x : List Bool). Ready T u x (length up) start) (sym e)
+    record { whole = w; length-allowed = z .size-u; within = le; room = z .room-up }
 
 -- Flags without the forbidden facts are ready for the deletions.
 pub ready-back : {T bad s u x₀ y₀ d₀ x y d : List Bool} {start : ℕ} {up : List ℕ} {end : ℕ} {down : List ℕ}
@@ -36,10 +38,10 @@ ready-back z w st b = record { whole = b .whole; length-x = w .size; starts = b 
 
 -- What the two sweeps leave is a round.
 pub rounded : {adds dels : Moves} {p : ℕ} {T bad s u x₀ y₀ d₀ x₁ x d y : List Bool} {start : ℕ} {up₀ up : List ℕ} {n end : ℕ} {down₀ down : List ℕ} {at : ℕ}
-    → Lengths T bad s u x₀ y₀ d₀ start up₀ end down₀ → Built T s x₁ → Closed adds p T u x₁ x start up₀ up n → Stripped x bad d
+    → Lengths T bad s u x₀ y₀ d₀ start up₀ end down₀ → x₁ ≡ s → Closed adds p T u x₁ x start up₀ up n → Stripped x bad d
     → ClosedBack dels p T bad x y end down₀ down at
     → Rounded adds dels p T bad s u x y d start up₀ up n end down₀ down at
-rounded {adds} {dels} {p} {T} {bad} {s} {u} {x = x} {start = start} {up = up} {n = n} z b c st k = record {
+rounded {adds} {dels} {p} {T} {bad} {s} {u} {x = x} {start = start} {up = up} {n = n} z e c st k = record {
   sizes = record {
     rows = z .rows;
     size-bad = z .size-bad;
@@ -57,7 +59,7 @@ rounded {adds} {dels} {p} {T} {bad} {s} {u} {x = x} {start = start} {up = up} {n
   whole = c .whole;
   few-up = c .few;
   stands-up = c .stands;
-  added = subst (λ (S : State). Added (world T adds adds p) S (direct u) (direct x) (asks up start n)) (b .same) (c .added);
+  added = subst (λ (v : List Bool). Added (world T adds adds p) (direct v) (direct u) (direct x) (asks up start n)) e (c .added);
   add-closed = c .closed;
   down-to = k .down;
   few-down = k .few;

@@ -9,8 +9,8 @@ use Rattle.quantifiers.proofs.BelowLaws.{count-le}
 use Rattle.theory.specs.Inner.Plan.{Ask}
 use Rattle.theory.specs.Inner.Sweep.{Added}
 use Rattle.theory.proofs.SweepLaws.{add-none, add-more, added-room, added-count}
-use Rattle.level.specs.Inner.Shown.{direct, Whole, Put}
-use Rattle.level.proofs.ShownLaws.{direct-low, put-direct, put-whole}
+use Rattle.shown.specs.Inner.Shown.{direct, Whole, Put}
+use Rattle.shown.proofs.ShownLaws.{direct-low, put-direct, put-whole}
 use Rattle.level.specs.Inner.Moves.{Moves, moveShown, flagsMet, Fine, Sound, moveAt, askOf}
 use Rattle.level.specs.Inner.World.{world}
 use Rattle.level.proofs.WorldLaws.{world-lawful}

@@ -11,10 +11,13 @@ use lib.Seq.{getD-set-same, getD-set-other}
 use borrow.Author.Tests.{lt-ltb, le-ltb, eq-eqb, ne-eqb}
 use Rattle.theory.specs.Inner.Facts.{State, _⊆_}
 use Rattle.theory.proofs.FactLaws.{at}
-use Rattle.level.specs.Inner.Shown.{visible}
+use Rattle.gate.proofs.TermKindLaws.{no-value-kind}
+use Rattle.shown.specs.Inner.Shown.{visible, visibleFact}
+use Rattle.shown.proofs.ExtendedLaws.{extended-at, extended-low}
 use Rattle.level.proofs.WorldLaws.{visible-mono}
 use Rattle.level.specs.Inner.Moves.{placesOf, moveShown, placeOf}
-use Rattle.quantifiers.specs.Quantifiers.{all}
+use Rattle.quantifiers.specs.Quantifiers.{all, anyFrom}
+use Rattle.quantifiers.proofs.BelowLaws.{from-same}
 use Rattle.level.specs.declared.Move.{Move}
 use Rattle.frames.specs.declared.Term.{Term}
 use Rattle.frames.specs.declared.Rule.{Rule}
@@ -22,41 +25,73 @@ use Rattle.frames.specs.Book.{noTerm}
 use Rattle.level.specs.Inner.Terms.{GoodRule, MoveOf, TermInRange, codeOf, effective, ruleShown, termShown}
 
 visible-direct : (T : List Bool) (S : State) (k : ℕ) → k < 160 → visible T S k ≡ S k
+unfolding visible visibleFact
+visible-direct T S k h = extended-low (visibleFact T S) k (omega arith) ∙ rw (lt-ltb k 160 h)
+
+effective-fact : (T : List Bool) (S : State) (k : ℕ) → visibleFact T S (160 + k) ≡ effective T S k
+unfolding visibleFact effective
+effective-fact T S k = let e : 160 + k - 160 ≡ k = omega arith in rw (le-ltb (160 + k) 160 (omega arith), e)
+
+-- What is shown behind the direct facts is what is effective.
+pub visible-effective : (T : List Bool) (S : State) (k : ℕ) → k < 160 → visible T S (160 + k) ≡ effective T S k
 unfolding visible
-visible-direct T S k h = rw (lt-ltb k 160 h)
+visible-effective T S k h = extended-low (visibleFact T S) (160 + k) (omega arith) ∙ effective-fact T S k
 
-visible-effective : (T : List Bool) (S : State) (k : ℕ) → visible T S (160 + k) ≡ effective T S k
-unfolding visible effective
-visible-effective T S k = let e : 160 + k - 160 ≡ k = omega arith in rw (le-ltb (160 + k) 160 (omega arith), e)
+visible-higher : (T : List Bool) (S : State) (a v : ℕ) → v < 16 → visible T S (320 + (16 * a + v)) ≡ anyFrom (λ w. effective T S (16 * a + w)) v 16
+unfolding visible
+visible-higher T S a v h =
+    extended-at (visibleFact T S) a v h
+    ∙ from-same (λ w. visibleFact T S (160 + (16 * a + w))) (λ w. effective T S (16 * a + w)) v 16 (λ w l. effective-fact T S (16 * a + w))
 
--- A term in range has a place.
-pub code-lt : (t : Term) → TermInRange t → codeOf (t .kind) (t .a) (t .v) < 320
-unfolding codeOf
-code-lt t r = dite (ℕ-discrete (t .kind) 1) (λ (e : t .kind ≡ 1). rw (eq-eqb (t .kind) 1 e) (omega (arith, r .value e)))
-    (λ (n₁ : t .kind ≡ 1 → ⊥). dite (ℕ-discrete (t .kind) 2)
-    (λ (e : t .kind ≡ 2). rw (ne-eqb (t .kind) 1 n₁, eq-eqb (t .kind) 2 e) (omega (arith, r .value-2 e)))
-    (λ (n₂ : t .kind ≡ 2 → ⊥). dite (ℕ-discrete (t .kind) 3)
-    (λ (e : t .kind ≡ 3). rw (ne-eqb (t .kind) 1 n₁, ne-eqb (t .kind) 2 n₂, eq-eqb (t .kind) 3 e) (omega (arith, r .crew n₁ n₂)))
-    (λ (n₃ : t .kind ≡ 3 → ⊥). rw (ne-eqb (t .kind) 1 n₁, ne-eqb (t .kind) 2 n₂, ne-eqb (t .kind) 3 n₃) (omega (arith, r .crew n₁ n₂)))))
+-- A kind by what it asks for, its fields in range.
+module _ (t : Term) (r : TermInRange t) where
+  value-1 : t .kind ≡ 1 → (t .a < 8) × (t .v < 16)
+  value-1 e = r .value (rw e refl)
 
--- What is shown at a term's place is whether the term holds.
-pub term-place : (T : List Bool) (S : State) (t : Term) → TermInRange t → visible T S (codeOf (t .kind) (t .a) (t .v)) ≡ termShown T S t
-unfolding codeOf termShown
-term-place T S t r =
-    dite (ℕ-discrete (t .kind) 1) (λ (e : t .kind ≡ 1). rw (eq-eqb (t .kind) 1 e) (visible-direct T S (16 * t .a + t .v) (omega (arith, r .value e))))
-    (λ (n₁ : t .kind ≡ 1 → ⊥). dite (ℕ-discrete (t .kind) 2)
-    (λ (e : t .kind ≡ 2). rw (ne-eqb (t .kind) 1 n₁, eq-eqb (t .kind) 2 e) (visible-effective T S (16 * t .a + t .v)))
-    (λ (n₂ : t .kind ≡ 2 → ⊥). dite (ℕ-discrete (t .kind) 3)
-    (λ (e : t .kind ≡ 3). rw (ne-eqb (t .kind) 1 n₁, ne-eqb (t .kind) 2 n₂, eq-eqb (t .kind) 3 e)
-    (visible-direct T S (128 + t .a) (omega (arith, r .crew n₁ n₂))))
-    (λ (n₃ : t .kind ≡ 3 → ⊥). rw (ne-eqb (t .kind) 1 n₁, ne-eqb (t .kind) 2 n₂, ne-eqb (t .kind) 3 n₃) (crew (t .a)))))
-  where
-    crew : (a : ℕ) → visible T S (288 + a) ≡ effective T S (128 + a)
-    crew a = let e : 288 + a ≡ 160 + (128 + a) = omega arith in rw e (visible-effective T S (128 + a))
+  value-2 : t .kind ≡ 2 → (t .a < 8) × (t .v < 16)
+  value-2 e = r .value (rw e refl)
+
+  value-5 : t .kind ≡ 5 → (t .a < 8) × (t .v < 16)
+  value-5 e = r .value (rw e refl)
+
+  crew-in : (t .kind ≡ 1 → ⊥) → (t .kind ≡ 2 → ⊥) → (t .kind ≡ 5 → ⊥) → t .a < 32
+  crew-in n₁ n₂ n₅ = r .crew (no-value-kind (t .kind) n₁ n₂ n₅)
+
+  -- A term in range has a place.
+  pub code-lt : codeOf (t .kind) (t .a) (t .v) < 448
+  unfolding codeOf
+  code-lt = dite (ℕ-discrete (t .kind) 1) (λ (e : t .kind ≡ 1). rw (eq-eqb (t .kind) 1 e) (omega (arith, value-1 e)))
+      (λ (n₁ : t .kind ≡ 1 → ⊥). dite (ℕ-discrete (t .kind) 2)
+      (λ (e : t .kind ≡ 2). rw (ne-eqb (t .kind) 1 n₁, eq-eqb (t .kind) 2 e) (omega (arith, value-2 e)))
+      (λ (n₂ : t .kind ≡ 2 → ⊥). dite (ℕ-discrete (t .kind) 5)
+      (λ (e : t .kind ≡ 5). rw (ne-eqb (t .kind) 1 n₁, ne-eqb (t .kind) 2 n₂, eq-eqb (t .kind) 5 e) (omega (arith, value-5 e)))
+      (λ (n₅ : t .kind ≡ 5 → ⊥). dite (ℕ-discrete (t .kind) 3)
+      (λ (e : t .kind ≡ 3). rw (ne-eqb (t .kind) 1 n₁, ne-eqb (t .kind) 2 n₂, ne-eqb (t .kind) 5 n₅, eq-eqb (t .kind) 3 e)
+      (omega (arith, crew-in n₁ n₂ n₅)))
+      (λ (n₃ : t .kind ≡ 3 → ⊥). rw (ne-eqb (t .kind) 1 n₁, ne-eqb (t .kind) 2 n₂, ne-eqb (t .kind) 5 n₅, ne-eqb (t .kind) 3 n₃)
+      (omega (arith, crew-in n₁ n₂ n₅))))))
+
+  -- What is shown at a term's place is whether the term holds.
+  pub term-place : (T : List Bool) (S : State) → visible T S (codeOf (t .kind) (t .a) (t .v)) ≡ termShown T S t
+  unfolding codeOf termShown
+  term-place T S =
+      dite (ℕ-discrete (t .kind) 1) (λ (e : t .kind ≡ 1). rw (eq-eqb (t .kind) 1 e) (visible-direct T S (16 * t .a + t .v) (omega (arith, value-1 e))))
+      (λ (n₁ : t .kind ≡ 1 → ⊥). dite (ℕ-discrete (t .kind) 2)
+      (λ (e : t .kind ≡ 2). rw (ne-eqb (t .kind) 1 n₁, eq-eqb (t .kind) 2 e) (visible-effective T S (16 * t .a + t .v) (omega (arith, value-2 e))))
+      (λ (n₂ : t .kind ≡ 2 → ⊥). dite (ℕ-discrete (t .kind) 5)
+      (λ (e : t .kind ≡ 5). rw (ne-eqb (t .kind) 1 n₁, ne-eqb (t .kind) 2 n₂, eq-eqb (t .kind) 5 e) (visible-higher T S (t .a) (t .v) (value-5 e .1)))
+      (λ (n₅ : t .kind ≡ 5 → ⊥). dite (ℕ-discrete (t .kind) 3)
+      (λ (e : t .kind ≡ 3). rw (ne-eqb (t .kind) 1 n₁, ne-eqb (t .kind) 2 n₂, ne-eqb (t .kind) 5 n₅, eq-eqb (t .kind) 3 e)
+      (visible-direct T S (128 + t .a) (omega (arith, crew-in n₁ n₂ n₅))))
+      (λ (n₃ : t .kind ≡ 3 → ⊥). rw (ne-eqb (t .kind) 1 n₁, ne-eqb (t .kind) 2 n₂, ne-eqb (t .kind) 5 n₅, ne-eqb (t .kind) 3 n₃)
+      (crew (t .a) (crew-in n₁ n₂ n₅))))))
+    where
+      crew : (a : ℕ) → a < 32 → visible T S (288 + a) ≡ effective T S (128 + a)
+      crew a h = let e : 288 + a ≡ 160 + (128 + a) = omega arith in rw e (visible-effective T S (128 + a) (omega arith))
 
 -- More facts break no term.
 pub term-mono : (T : List Bool) {S Z : State} (t : Term) → TermInRange t → S ⊆ Z → termShown T S t ≡ true → termShown T Z t ≡ true
-term-mono T {S} {Z} t r le h = sym (term-place T Z t r) ∙ visible-mono T le (codeOf (t .kind) (t .a) (t .v)) (term-place T S t r ∙ h)
+term-mono T {S} {Z} t r le h = sym (term-place t r T Z) ∙ visible-mono T le (codeOf (t .kind) (t .a) (t .v)) (term-place t r T S ∙ h)
 
 all-zip : (p : ℕ → Bool) (q : Term → Bool) (n : ℕ) (ks : List ℕ) (ts : List Term) → n ≤ length ks → n ≤ length ts
     → ((j : ℕ) → j < n → p (getD ks j 0) ≡ q (getD ts j noTerm)) → all p (take n ks) ≡ all q (take n ts)
@@ -71,7 +106,7 @@ pub move-met : (T : List Bool) (S : State) {r : Rule} {m : Move} → GoodRule r 
 unfolding moveShown ruleShown placesOf
 move-met T S {r} {m} g k =
     rw (k .n) (all-zip (visible T S) (termShown T S) (r .n) (m .terms) (r .terms) (omega (arith, g .few, k .fine .size)) (omega (arith, g .few, g .size))
-    (λ j l. ap (visible T S) (k .places j l) ∙ term-place T S (getD (r .terms) j noTerm) (g .terms j l)))
+    (λ j l. ap (visible T S) (k .places j l) ∙ term-place (getD (r .terms) j noTerm) (g .terms j l) T S))
 
 -- The places of the first `j` terms are written, and no others.
 pub record PlacesSoFar (r : Rule) (ks : List ℕ) (j : ℕ) : Type 0 where
@@ -106,7 +141,7 @@ module _ {r : Rule} {ks : List ℕ} {j : ℕ} (p : PlacesSoFar r ks j) (g : Good
     places = λ i l. p .done i (omega arith);
   }
     where
-      small : (i : ℕ) → getD ks i 0 < 320
+      small : (i : ℕ) → getD ks i 0 < 448
       small i = dite (decLt i (r .n)) (λ (l : i < r .n). rw (p .done i (omega arith)) (code-lt (getD (r .terms) i noTerm) (g .terms i l)))
           (λ (l : i < r .n → ⊥). rw (p .rest i (omega (arith, p .fits))) (omega arith))
 

@@ -11,7 +11,8 @@ use Rattle.quantifiers.proofs.BelowLaws.{any-below-mono}
 use Rattle.theory.specs.Inner.Facts.{State, _⊆_}
 use Rattle.theory.specs.Inner.Plan.{Ask, Req, req, Lawful}
 use Rattle.level.specs.declared.Move.{Move}
-use Rattle.level.specs.Inner.Shown.{row, inherited, visible}
+use Rattle.shown.specs.Inner.Shown.{row, inherited, visible, visibleFact}
+use Rattle.shown.proofs.ExtendedLaws.{extended-mono}
 use Rattle.level.specs.Inner.Moves.{Moves, moveAt, placesOf, moveShown}
 use Rattle.level.specs.Inner.World.{Some, world}
 
@@ -32,15 +33,19 @@ module _ (T : List Bool) {S Z : State} (le : S ⊆ Z) where
       more c h e = let both = and-both (S (128 + c)) (row T c f) e in and-from (Z (128 + c)) (row T c f) (le (128 + c) (both .0)) (both .1)
 
   -- More facts show no less.
-  pub visible-mono : (k : ℕ) → visible T S k ≡ true → visible T Z k ≡ true
-  unfolding visible
-  visible-mono k = go (ltb k 160)
+  visible-fact-mono : (k : ℕ) → visibleFact T S k ≡ true → visibleFact T Z k ≡ true
+  unfolding visibleFact
+  visible-fact-mono k = go (ltb k 160)
     where
       go : (b : Bool) → cond b (S k) (S (k - 160) || inherited T S (k - 160)) ≡ true → cond b (Z k) (Z (k - 160) || inherited T Z (k - 160)) ≡ true
       go true e = le k e
       go false e = or-either (S (k - 160)) (inherited T S (k - 160)) e
           (λ l. or-left (Z (k - 160)) (inherited T Z (k - 160)) (le (k - 160) l))
           (λ r. or-right (Z (k - 160)) (inherited T Z (k - 160)) (inherited-mono (k - 160) r))
+
+  pub visible-mono : (k : ℕ) → visible T S k ≡ true → visible T Z k ≡ true
+  unfolding visible
+  visible-mono k = extended-mono (visibleFact T S) (visibleFact T Z) visible-fact-mono k
 
   -- More facts meet no fewer moves.
   pub move-shown-mono : (m : Move) → moveShown T S m ≡ true → moveShown T Z m ≡ true

@@ -1,4 +1,3 @@
-pub mod Shown
 pub mod Moves
 pub mod World
 pub mod Terms
@@ -6,6 +5,5 @@ pub mod Chosen
 pub mod Notes
 pub mod Sweep
 pub mod BackSweep
-pub mod Build
 pub mod Settle
 pub mod Upto

@@ -1,22 +1,19 @@
 // One level of the planner: the facts of one crew, or of the query's person, the moves that rules permit on them, and the rounds that settle the level.
 use frames::Rule;
 ghost use mathlib.Core.Path.{_≡_};
-ghost use mathlib.Core.Bool.{true, false, not, _&&_, _||_};
 ghost use Prim.Native.Nat.{_+_, _*_, _≤_, _<_};
-ghost use lib.ListN.{length, getD};
-ghost use Rattle.level.specs.Inner.Shown.{touches, More, rowFlags, Put};
+ghost use lib.ListN.{length};
 ghost use Rattle.level.specs.Inner.Moves.{flagsMet, flagsWith, placeOf, Fine, Sound, askOf, moveFrom, moveAt, movesIn};
 ghost use Rattle.level.specs.Inner.Chosen.{chosenIn, Numbers, MovePut};
 ghost use Rattle.level.specs.Inner.Terms.{codeOf, GoodRule, MoveOf};
 ghost use Rattle.level.specs.Inner.Notes.{Noted};
-ghost use Rattle.level.specs.Inner.Build.{Blank, Built, Stripped, Copied, Lacks};
 ghost use Rattle.level.specs.Inner.Sweep.{firesIn, Next, TurnAt, Ready, Closed};
 ghost use Rattle.level.specs.Inner.BackSweep.{backsIn, ReadyBack, ClosedBack};
 ghost use Rattle.level.specs.Inner.Settle.{RoundReady, Rounded, Result};
 ghost use Rattle.widths.specs.Inner.Widths.{levelSize, flagsSize, tableSize, movesSize, moveSize};
+use widths::HIGHER_AT;
 use widths::LEVEL_SIZE;
 use widths::MOVE_SIZE;
-use widths::ROWS_SIZE;
 
 // A rule as a move: the fact that it adds or deletes, the bytes of its request, and the places of its terms.
 pub struct Move {
@@ -42,6 +39,9 @@ pub fn place(kind: u8, a: u8, v: u8) -> u16
     }
     if kind == 2 {
         return LEVEL_SIZE as u16 + (16 * x + y);
+    }
+    if kind == 5 {
+        return HIGHER_AT as u16 + (16 * x + y);
     }
     if kind == 3 {
         return 128 + x;
@@ -164,7 +164,7 @@ pub fn chosen(r: Rule, one: u8, two: u8, roles: u32) -> bool
     false
 }
 
-// ---------------------------------------------------------------- the flags of a subject
+// ---------------------------------------------------------------- a move tested, and its request
 
 // A term's place, or a move's number, as an index.
 fn wide(x: u16) -> usize
@@ -189,60 +189,6 @@ pub fn meets(ms: &[u16], at: usize, x: &[bool]) -> bool
         j += 1;
     }
     true
-}
-
-// What the fact `f` adds at the place `k`.
-pub fn touch(table: &[bool], f: usize, k: usize) -> bool
-    requires { ⌜ (f < levelSize) × ((k < flagsSize) × (length (now table) ≡ tableSize)) ⌝ }
-    ensures { λ r. ⌜ r ≡ touches (now (table .entry)) f k ⌝ }
-{
-    if k < LEVEL_SIZE {
-        return k == f;
-    }
-    if k - LEVEL_SIZE == f {
-        return true;
-    }
-    if f < 128 {
-        return false;
-    }
-    table[LEVEL_SIZE * (f - 128) + (k - LEVEL_SIZE)]
-}
-
-// Either of two flags.
-fn either(a: bool, b: bool) -> bool
-    ensures { λ r. ⌜ r ≡ a || b ⌝ }
-{
-    if a {
-        return true;
-    }
-    b
-}
-
-// Adds the row of crew `c` to the effective flags.
-pub fn add_row(table: &[bool], c: usize, x: &mut [bool])
-    requires { ⌜ (c < 32) × ((length (now x) ≡ flagsSize) × (length (now table) ≡ tableSize)) ⌝ }
-    ensures { λ _. ⌜ More (now (x .entry)) (rowFlags (now (table .entry)) c) (now (x .exit)) ⌝ }
-{
-    let mut k: usize = 0;
-    while k < LEVEL_SIZE {
-        let old = x[LEVEL_SIZE + k];
-        let new = table[LEVEL_SIZE * c + k];
-        x[LEVEL_SIZE + k] = either(old, new);
-        k += 1;
-    }
-}
-
-// Puts the fact `f` in.
-pub fn put(table: &[bool], f: usize, x: &mut [bool])
-    requires { ⌜ (f < levelSize) × ((length (now x) ≡ flagsSize) × (length (now table) ≡ tableSize)) ⌝ }
-    ensures { λ _. ⌜ Put (now (table .entry)) (now (x .entry)) f (now (x .exit)) ⌝ }
-{
-    x[f] = true;
-    x[LEVEL_SIZE + f] = true;
-    if f < 128 {
-        return;
-    }
-    add_row(table, f - 128, x);
 }
 
 // Writes the request of a move, as request `k`.
@@ -350,7 +296,7 @@ pub fn close(
         quiet = t.quiet;
         if fires(adds, i, allowed, x) {
             let m = move_at(adds, i);
-            put(table, m.fact, x);
+            build::put_whole(table, m.fact, x);
             note(m, subject, start + n, out);
             added[n] = i as u16;
             n += 1;
@@ -364,17 +310,6 @@ pub fn close(
     n
 }
 
-// Whether `x` with the fact `f` put in shows the place `k`.
-pub fn lit(table: &[bool], f: usize, k: usize, x: &[bool]) -> bool
-    requires { ⌜ (f < levelSize) × ((k < flagsSize) × ((length (now x) ≡ flagsSize) × (length (now table) ≡ tableSize))) ⌝ }
-    ensures { λ r. ⌜ r ≡ getD (now (x .entry)) k false || touches (now (table .entry)) f k ⌝ }
-{
-    if x[k] {
-        return true;
-    }
-    touch(table, f, k)
-}
-
 // Whether all terms of the move at the place `at` of the numbers hold of `x` with the move's own fact put in.
 pub fn meets_with(ms: &[u16], at: usize, table: &[bool], x: &[bool]) -> bool
     requires { ⌜ (at + moveSize ≤ length (now ms)) × Fine (moveFrom (now ms) at) ⌝ }
@@ -386,7 +321,7 @@ pub fn meets_with(ms: &[u16], at: usize, table: &[bool], x: &[bool]) -> bool
     let mut j: usize = 0;
     while j < n {
         let k = wide(ms[at + 6 + j]);
-        if !lit(table, f, k, x) {
+        if !shown::lit(table, f, k, x) {
             return false;
         }
         j += 1;
@@ -443,7 +378,7 @@ pub fn back(
         quiet = t.quiet;
         if backs(dels, i, table, x, y) {
             let m = move_at(dels, i);
-            put(table, m.fact, y);
+            build::put_whole(table, m.fact, y);
             deleted[end - at] = i as u16;
             at -= 1;
             note(m, subject, at, out);
@@ -459,93 +394,13 @@ pub fn back(
 
 // ---------------------------------------------------------------- the rounds
 
-// The flags of a subject with no direct facts.
-pub fn blank(table: &[bool], x: &mut [bool])
-    requires { ⌜ (length (now x) ≡ flagsSize) × (length (now table) ≡ tableSize) ⌝ }
-    ensures { λ _. ⌜ Blank (now (table .entry)) (now (x .exit)) ⌝ }
-{
-    let mut k: usize = 0;
-    while k < LEVEL_SIZE {
-        let b = table[ROWS_SIZE + k];
-        x[k] = false;
-        x[LEVEL_SIZE + k] = b;
-        k += 1;
-    }
-}
-
-// The flags of the subject whose direct facts are `d`.
-pub fn build(table: &[bool], d: &[bool], x: &mut [bool])
-    requires { ⌜ (length (now x) ≡ flagsSize) × ((length (now table) ≡ tableSize) × (length (now d) ≡ levelSize)) ⌝ }
-    ensures { λ _. ⌜ Built (now (table .entry)) (now (d .entry)) (now (x .exit)) ⌝ }
-{
-    blank(table, x);
-    let mut f: usize = 0;
-    while f < LEVEL_SIZE {
-        if d[f] {
-            put(table, f, x);
-            f += 1;
-        } else {
-            f += 1;
-        }
-    }
-}
-
-// The first flag without the second.
-fn without(a: bool, b: bool) -> bool
-    ensures { λ r. ⌜ r ≡ a && not b ⌝ }
-{
-    if a {
-        return !b;
-    }
-    false
-}
-
-// Writes to `d` the facts of `x` that are not forbidden.
-pub fn strip(x: &[bool], bad: &[bool], d: &mut [bool])
-    requires { ⌜ (length (now x) ≡ flagsSize) × ((length (now bad) ≡ levelSize) × (length (now d) ≡ levelSize)) ⌝ }
-    ensures { λ _. ⌜ Stripped (now (x .entry)) (now (bad .entry)) (now (d .exit)) ⌝ }
-{
-    let mut k: usize = 0;
-    while k < LEVEL_SIZE {
-        d[k] = without(x[k], bad[k]);
-        k += 1;
-    }
-}
-
-// Writes the facts of `y` to `u`.
-pub fn keep(y: &[bool], u: &mut [bool])
-    requires { ⌜ (length (now y) ≡ flagsSize) × (length (now u) ≡ levelSize) ⌝ }
-    ensures { λ _. ⌜ Copied (now (y .entry)) (now (u .exit)) ⌝ }
-{
-    let mut k: usize = 0;
-    while k < LEVEL_SIZE {
-        u[k] = y[k];
-        k += 1;
-    }
-}
-
-// The first fact of `a` that `b` lacks, or 160.
-pub fn lacks(a: &[bool], b: &[bool]) -> usize
-    requires { ⌜ (levelSize ≤ length (now a)) × (levelSize ≤ length (now b)) ⌝ }
-    ensures { λ r. ⌜ Lacks (now (a .entry)) (now (b .entry)) r ⌝ }
-{
-    let mut k: usize = 0;
-    while k < LEVEL_SIZE {
-        if without(a[k], b[k]) {
-            return k;
-        }
-        k += 1;
-    }
-    k
-}
-
 // How many requests a round added, and where its deletions begin.
 pub struct Ends {
     pub ups: usize,
     pub at: usize,
 }
 
-// One round: what can be added to `s` within `u`, to `x`, and what of that can be put back, to `y`.
+// One round: what can be added within `u` to the flags `s` of the starting facts, to `x`, and what of that can be put back, to `y`.
 pub fn round(
     adds: &[u16],
     dels: &[u16],
@@ -570,10 +425,10 @@ pub fn round(
         (now (s .entry)) (now (u .entry)) (now (x .exit)) (now (y .exit)) (now (d .exit)) start (now (up .entry)) (now (up .exit)) (r .ups) end
         (now (down .entry)) (now (down .exit)) (r .at) ⌝ }
 {
-    build(table, s, x);
+    build::copy_whole(s, x);
     let n = close(adds, added, subject, table, u, x, start, up);
-    strip(x, bad, d);
-    build(table, d, y);
+    build::strip(x, bad, d);
+    build::build_rest(table, x, bad, d, y);
     let at = back(dels, deleted, subject, table, bad, x, y, end, down);
     Ends { ups: n, at }
 }
@@ -585,7 +440,8 @@ pub struct LevelOutcome {
     pub at: usize,
 }
 
-// The level: rounds until what was put in can all be put back, or a starting fact is lost. `u` is what is allowed at first; `y` and `d` are room to work in.
+// The level: rounds until what was put in can all be put back, or a starting fact is lost. `s` has the flags of the starting facts, `u` is what is
+// allowed at first; `y` and `d` are room to work in.
 // `added` and `deleted` name the moves to try first, and in the end those of the last round.
 pub fn settle(
     adds: &[u16],
@@ -630,20 +486,20 @@ pub fn settle(
             end,
             down,
         );
-        if lacks(x, y) == LEVEL_SIZE {
+        if build::lacks(x, y) == LEVEL_SIZE {
             return LevelOutcome {
                 found: true,
                 ups: e.ups,
                 at: e.at,
             };
         }
-        if lacks(s, y) < LEVEL_SIZE {
+        if build::lacks(s, y) < LEVEL_SIZE {
             return LevelOutcome {
                 found: false,
                 ups: 0,
                 at: end,
             };
         }
-        keep(y, u);
+        build::keep(y, u);
     }
 }

@@ -24,14 +24,15 @@ use Rattle.theory.specs.Inner.Facts.{State, _⊆_, Clear}
 use Rattle.theory.specs.Inner.Plan.{Ask, Req, Runs, end, Best}
 use Rattle.theory.proofs.PlanLaws.{bounds-first}
 use Rattle.level.specs.Inner.Moves.{Moves}
-use Rattle.level.specs.Inner.Shown.{row, visible, direct, Whole}
+use Rattle.shown.specs.Inner.Shown.{row, direct, Whole}
 use Rattle.level.specs.Inner.Terms.{effective}
 use Rattle.level.specs.Inner.World.{world}
 use Rattle.level.proofs.Levels.{onLevel, toWhole, Within}
 use Rattle.level.specs.Inner.Notes.{askAt, asks}
 use Rattle.level.specs.Inner.Settle.{Settled, Stuck}
 use Rattle.level.specs.Inner.Upto.{Upto}
-use Rattle.level.proofs.ShownLaws.{direct-low, direct-in}
+use Rattle.shown.proofs.ShownLaws.{direct-low, direct-in}
+use Rattle.level.proofs.TermLaws.{visible-effective}
 use Rattle.level.proofs.NoteLaws.{asks-same}
 use Rattle.level.proofs.LevelLaws.{on-level-in, on-level-out, stuck-none}
 use Rattle.level.proofs.UptoLaws.{upto-first, upto-next, upto-best}
@@ -44,11 +45,6 @@ use Rattle.flags.specs.Inner.Flags as flags
 use Rattle.search.proofs.Tables.{CrewTableRight, PersonTableRight}
 use Rattle.search.specs.Inner.Drive.{starts, Rows, Driving}
 use Rattle.search.proofs.TermBridge.{crew-effective, lower-holds}
-
--- What is shown behind the direct facts is what is effective.
-visible-at : (T : List Bool) (S : State) (f : ℕ) → visible T S (160 + f) ≡ effective T S f
-unfolding visible effective
-visible-at T S f = let e : 160 + f - 160 ≡ f = omega arith in rw (le-ltb (160 + f) 160 (omega arith), e) refl
 
 -- ---------------------------------------------------------------- numbers that are no crew's
 
@@ -169,11 +165,8 @@ module _ (b : Contents) (ok : Admitted b) where
       flag : (f : ℕ) → f < 128 → getD x (160 + f) false ≡ crewHolds (b .juniors) (lift b (onLevel k R (direct x))) (record { 0 = f / 16 }) (f % 16) k
       flag f h =
           let e : 16 * (f / 16) + f % 16 ≡ f = omega arith in
-          whole .shows (160 + f) (omega arith) ∙ visible-effective f ∙ ap (effective table (direct x)) (sym e)
+          whole .shows (160 + f) (omega arith) ∙ visible-effective table (direct x) f (omega arith) ∙ ap (effective table (direct x)) (sym e)
           ∙ crew-effective b R (direct x) k table tab is-crew (record { 0 = f / 16 }) (f % 16) (omega arith) (omega arith)
-        where
-          visible-effective : (f : ℕ) → visible table (direct x) (160 + f) ≡ effective table (direct x) f
-          visible-effective f = visible-at table (direct x) f
 
       values : (c f : ℕ) → c < 32 → (c < b .sizes .crews → c < suc k) → f < 128
           → getD rows′ (160 * c + f) false ≡ crewHolds (b .juniors) (lift b (onLevel k R (direct x))) (record { 0 = f / 16 }) (f % 16) c

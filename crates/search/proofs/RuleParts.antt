@@ -7,7 +7,7 @@ use native.Mathlib.Omega.{arith}
 use lib.Dec.{eqb, leb}
 use borrow.Author.Tests.{leb-true, ltb-true, eqb-true}
 use Rattle.gate.specs.declared.Sizes.{Sizes}
-use Rattle.gate.specs.Gate.{between, isCrew, isValue, isCrewField, headGood}
+use Rattle.gate.specs.Gate.{between, isCrew, isValue, isCrewField, headGood, asksValue, asksCrew}
 use Rattle.gate.specs.Inner.Ranges.{InRange}
 use Rattle.quantifiers.specs.Quantifiers.{allBelow}
 use Rattle.gate.proofs.PassedLaws.{between-true}
@@ -20,8 +20,8 @@ use Rattle.frames.specs.Inner.Fits.{termOf, termFits, ruleFits}
 pub record Parts (z : Sizes) (r : Rule) : Type 0 where
   pub aims : ((between 1 4 (r .op) ≡ true) × (isValue z (r .a) (r .v) ≡ true)) ⊎ ((between 5 6 (r .op) ≡ true) × (isCrewField z (r .a) (r .v) ≡ true))
   pub role : leb (r .role .0) 15 ≡ true
-  pub kinds : (j : ℕ) → j < r .n → (1 ≤ termOf r j .kind) × (termOf r j .kind ≤ 4)
-  pub own : r .op ≤ 4 → (j : ℕ) → j < r .n → termOf r j .kind ≤ 2
+  pub kinds : (j : ℕ) → j < r .n → (asksValue (termOf r j .kind) ≡ true) ⊎ (asksCrew (termOf r j .kind) ≡ true)
+  pub own : r .op ≤ 4 → (j : ℕ) → j < r .n → asksValue (termOf r j .kind) ≡ true
 
 pub rule-parts : (z : Sizes) (r : Rule) → ruleFits z r ≡ true → Parts z r
 unfolding ruleFits
@@ -30,7 +30,7 @@ rule-parts z r e =
     let on-crew = between 5 6 (r .op) && isCrewField z (r .a) (r .v) in
     let head-good = headGood z (r .op) (r .role .0) (r .a) (r .v) (r .n) in
     let terms-fit = allBelow (termFits z r) (r .n) in
-    let terms-own = allBelow (λ j. leb (termOf r j .kind) 2) (r .n) in
+    let terms-own = allBelow (λ j. asksValue (termOf r j .kind)) (r .n) in
     let three = and-both (head-good && terms-fit) (leb 5 (r .op) || terms-own) e in
     let two = and-both head-good terms-fit (three .0) in
     let head = and-both ((on-value || on-crew) && leb (r .role .0) 15) (leb (r .n) 8) (two .0) in
@@ -44,19 +44,19 @@ rule-parts z r e =
       kinds = λ j l. kind-of j (all-at (termFits z r) (r .n) j (two .1) l);
       own = λ few j l. ⊎-elim
           (λ x. absurd (omega (arith, leb-true 5 (r .op) x)))
-          (λ x. leb-true (termOf r j .kind) 2 (all-at (λ j. leb (termOf r j .kind) 2) (r .n) j x l))
+          (λ x. all-at (λ j. asksValue (termOf r j .kind)) (r .n) j x l)
           (or-cases (leb 5 (r .op)) terms-own (three .1));
     }
   where
-    kind-of : (j : ℕ) → termFits z r j ≡ true → (1 ≤ termOf r j .kind) × (termOf r j .kind ≤ 4)
+    kind-of : (j : ℕ) → termFits z r j ≡ true → (asksValue (termOf r j .kind) ≡ true) ⊎ (asksCrew (termOf r j .kind) ≡ true)
     kind-of j x =
         let kind = termOf r j .kind in
         let value = isValue z (termOf r j .a) (termOf r j .v) in
         let crew = isCrewField z (termOf r j .a) (termOf r j .v) in
         ⊎-elim
-        (λ y. let k = between-true 1 2 kind (and-both (between 1 2 kind) value y .0) in (k .0, omega (arith, k .1)))
-        (λ y. let k = between-true 3 4 kind (and-both (between 3 4 kind) crew y .0) in (omega (arith, k .0), k .1))
-        (or-cases (between 1 2 kind && value) (between 3 4 kind && crew) x)
+        (λ y. inl (and-both (asksValue kind) value y .0))
+        (λ y. inr (and-both (asksCrew kind) crew y .0))
+        (or-cases (asksValue kind && value) (asksCrew kind && crew) x)
 
 module _ (z : Sizes) (range : InRange z) where
   -- A crew of the book is below 32.

@@ -14,17 +14,18 @@ use Rattle.inherit.proofs.InheritanceLaws.{downward-step}
 use Rattle.quantifiers.proofs.BelowLaws.{any-same}
 use lib.ListN.{length, getD}
 use Rattle.frames.specs.declared.Book.{Book}
-use Rattle.frames.specs.Book.{contentsOf, listed}
+use Rattle.frames.specs.Book.{Contents, contentsOf, listed}
 use Rattle.frames.specs.Inner.Fits.{Admitted}
-use Rattle.theory.specs.Inner.Facts.{_⊆_}
+use Rattle.theory.specs.Inner.Facts.{State, _⊆_}
 use Rattle.level.specs.Inner.Moves.{Moves, movesIn}
-use Rattle.level.specs.Inner.Shown.{direct}
+use Rattle.shown.specs.Inner.Shown.{direct}
 use Rattle.level.specs.Inner.World.{world}
 use Rattle.level.specs.Inner.Chosen.{GoodRules, MovesOf}
 use Rattle.level.proofs.Levels.{toWhole, Within}
 use Rattle.level.specs.Inner.Notes.{asks}
+use Rattle.build.specs.Inner.Build.{Built}
 use Rattle.level.specs.Inner.Settle.{Result}
-use Rattle.level.proofs.ShownLaws.{direct-low, direct-in}
+use Rattle.shown.proofs.ShownLaws.{direct-low, direct-in}
 use Rattle.level.proofs.ChosenLaws.{moves-sound}
 use Rattle.reach.specs.Inner.Tracked.{personLevel}
 use Rattle.reach.specs.Inner.Depot.{depot}
@@ -56,6 +57,12 @@ room-down a e = omega arith
 -- What a level may start with it may have.
 pub starts-allowed : (s : List Bool) {u : List Bool} → AllAllowed u → direct s ⊆ direct u
 starts-allowed s {u} all f e = let h : f < 160 = direct-in s f e in direct-low u f h ∙ all .at f h
+
+-- The flags built from a level's starting facts have the same direct facts.
+pub starts-built : {b : Contents} {k : ℕ} {T first s : List Bool} → flags.StartFlags b k first → Built T first s → flags.StartFlags b k s
+starts-built {first = first} {s = s} start built = record {
+  at = λ f l. sym (direct-low s f l) ∙ ap (λ (S : State). S f) (built .same) ∙ direct-low first f l ∙ start .at f l;
+}
 
 -- The table and the row of a crew, by juniors that are the book's.
 pub table-same : {js js′ : List ℕ} {k : ℕ} {rows before table : List Bool} → js ≡ js′ → flags.CrewTable js k rows before table

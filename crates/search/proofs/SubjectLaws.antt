@@ -121,7 +121,7 @@ module _ (b : Contents) (ok : Admitted b) (rs : Rules) (same-rules : b .rules �
         → termShown T S (getD (r .terms) j noTerm) ≡ termHolds (b .juniors) (lift b (onLevel k R S)) (Group (record { 0 = k })) (getD (r .terms) j noTerm)
     unfolding termOf
     crew-terms T R table S r p good h j l =
-        crew-term b R S k T table is-crew (getD (r .terms) j noTerm) (good .terms j l) (p .own (crew-op (r .op) h .1) j l) (p .kinds j l .0)
+        crew-term b R S k T table is-crew (getD (r .terms) j noTerm) (good .terms j l) (p .own (crew-op (r .op) h .1) j l)
 
   pub crew-adds : SideIs b ok rs same-rules few room OnCrew 3 3 true
   crew-adds = record {
@@ -225,7 +225,7 @@ module _ (b : Contents) (ok : Admitted b) (rs : Rules) (same-rules : b .rules �
       → termShown T S (getD (r .terms) j noTerm)
       ≡ termHolds (b .juniors) (lift b (onLevel (personLevel b) R S)) (User (b .query .person)) (getD (r .terms) j noTerm)
   unfolding termOf
-  person-terms T R table S r p good h j l = person-term b R S T table (getD (r .terms) j noTerm) (good .terms j l) (p .kinds j l .0) (p .kinds j l .1)
+  person-terms T R table S r p good h j l = person-term b R S T table (getD (r .terms) j noTerm) (good .terms j l) (p .kinds j l)
 
   pub person-adds : SideIs b ok rs same-rules few room OnPerson 1 5 true
   person-adds = record {

@@ -9,7 +9,7 @@ use Rattle.inherit.specs.Inheritance.{isJunior, downward, crewHolds}
 use Rattle.quantifiers.specs.Quantifiers.{anyBelow}
 use Rattle.frames.specs.Book.{Contents}
 use Rattle.theory.specs.Inner.Facts.{State}
-use Rattle.level.specs.Inner.Shown.{row}
+use Rattle.shown.specs.Inner.Shown.{row}
 use Rattle.reach.specs.Inner.Tracked.{lift}
 
 -- The table of crew k, with the facts R settled below it: its own row alone, from its direct juniors.

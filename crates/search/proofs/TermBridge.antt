@@ -1,6 +1,6 @@
 -- A level's terms are the ledger's at that level.
 use mathlib.Core.Path.{_≡_, refl, ap, sym, _∙_}
-use mathlib.Core.Logic.{dite}
+use mathlib.Core.Logic.{_⊎_, inl, inr, ⊎-elim, dite}
 use mathlib.Core.Bool.{Bool, true, false, _&&_, _||_, and-false, or-false}
 use mathlib.Core.List.{List}
 use Prim.Native.Nat.{ℕ, _+_, _*_, _/_, _%_, _≤_, _<_}
@@ -14,14 +14,17 @@ use Rattle.facts.specs.declared.Fact.the-variants.{Holds, CrewHolds, Member}
 use Rattle.inherit.specs.Inheritance.{isJunior, downward, crewHolds, personIn, personHolds}
 use Rattle.quantifiers.specs.Quantifiers.{anyBelow}
 use Rattle.inherit.proofs.InheritanceLaws.{downward-here, crew-holds-step, person-in-step, person-holds-step, crew-holds-local}
-use Rattle.quantifiers.proofs.BelowLaws.{any-same, any-from, any-false}
+use Rattle.quantifiers.proofs.BelowLaws.{any-same, any-from, any-false, from-same}
+use Rattle.gate.specs.Gate.{asksValue, asksCrew}
+use Rattle.gate.proofs.TermKindLaws.{value-kinds, crew-kinds, crew-not-value}
 use Rattle.frames.specs.Book.{Contents}
 use Rattle.frames.specs.declared.Term.{Term}
 use Rattle.rules.specs.declared.Subject.the-variants.{User, Group}
 use Rattle.rules.specs.Rules.{termHolds}
-use Rattle.rules.proofs.RuleLaws.{term-person-direct, term-crew-direct, term-person-effective, term-crew-effective, term-in-direct, term-in-effective}
+use Rattle.rules.proofs.RuleLaws.{term-person-direct, term-crew-direct, term-person-effective, term-crew-effective}
+use Rattle.rules.proofs.RuleLaws.{term-person-at-least, term-crew-at-least, term-in-direct, term-in-effective}
 use Rattle.theory.specs.Inner.Facts.{State}
-use Rattle.level.specs.Inner.Shown.{row, inherited}
+use Rattle.shown.specs.Inner.Shown.{row, inherited}
 use Rattle.level.specs.Inner.Terms.{effective, termShown, TermInRange}
 use Rattle.level.proofs.Levels.{onLevel}
 use Rattle.level.proofs.LevelLaws.{on-level-at, on-level-out}
@@ -91,18 +94,27 @@ module _ (b : Contents) (R S : State) where
         (λ j. isJunior (b .juniors) k j && crewHolds (b .juniors) (lift b R) a v j) k
         (λ j l. ap (λ (x : Bool). isJunior (b .juniors) k j && x) (lower-holds k j a v (λ x h i. omega arith)))))))
 
-    pub crew-term : (t : Term) → TermInRange t → t .kind ≤ 2 → 1 ≤ t .kind
+    -- A term that asks for a value, of a crew.
+    pub crew-term : (t : Term) → TermInRange t → asksValue (t .kind) ≡ true
         → termShown T S t ≡ termHolds (b .juniors) (lift b (onLevel k R S)) (Group (record { 0 = k })) t
     unfolding termShown
-    crew-term t good two one =
-        dite (ℕ-discrete (t .kind) 1)
-        (λ (is : t .kind ≡ 1).
-        rw (term-crew-direct (b .juniors) held-by-crews t (record { 0 = k }) is, is)
-        (sym (crew-value k (record { 0 = t .a }) (t .v) is-crew (good .value is .0) (good .value is .1))))
-        (λ (no : t .kind ≡ 1 → ⊥).
-        let is : t .kind ≡ 2 = omega arith in
-        rw (term-crew-effective (b .juniors) held-by-crews t (record { 0 = k }) is, is)
-        (crew-effective (record { 0 = t .a }) (t .v) (good .value-2 is .0) (good .value-2 is .1)))
+    crew-term t good asks = by-kind (value-kinds (t .kind) asks)
+      where
+        small : (t .a < 8) × (t .v < 16)
+        small = good .value asks
+
+        by-kind : (t .kind ≡ 1) ⊎ ((t .kind ≡ 2) ⊎ (t .kind ≡ 5))
+            → termShown T S t ≡ termHolds (b .juniors) (lift b (onLevel k R S)) (Group (record { 0 = k })) t
+        by-kind (inl is) =
+            rw (term-crew-direct (b .juniors) held-by-crews t (record { 0 = k }) is, is)
+            (sym (crew-value k (record { 0 = t .a }) (t .v) is-crew (small .0) (small .1)))
+        by-kind (inr (inl is)) =
+            rw (term-crew-effective (b .juniors) held-by-crews t (record { 0 = k }) is, is)
+            (crew-effective (record { 0 = t .a }) (t .v) (small .0) (small .1))
+        by-kind (inr (inr is)) =
+            rw (term-crew-at-least (b .juniors) held-by-crews t (record { 0 = k }) is, is)
+            (from-same (λ w. effective T S (16 * t .a + w)) (λ w. crewHolds (b .juniors) held-by-crews (record { 0 = t .a }) w k) (t .v) 16
+            (λ w l. crew-effective (record { 0 = t .a }) w (small .0) l))
 
   -- ---------------------------------------------------------------- the query's person's terms
 
@@ -147,22 +159,32 @@ module _ (b : Contents) (R S : State) where
             sym (any-from (λ d. in-by a d) 32 a
             (rw (person-member a s, e, downward-here (b .juniors) (λ y. eqb y a) a (eq-eqb a a refl)) refl) s)
 
-    pub person-term : (t : Term) → TermInRange t → 1 ≤ t .kind → t .kind ≤ 4
+    -- Any term, of the query's person.
+    pub person-term : (t : Term) → TermInRange t → (asksValue (t .kind) ≡ true) ⊎ (asksCrew (t .kind) ≡ true)
         → termShown T S t ≡ termHolds (b .juniors) (lift b (onLevel (personLevel b) R S)) (User (b .query .person)) t
     unfolding termShown
-    person-term t good one four =
-        dite (ℕ-discrete (t .kind) 1)
-        (λ (is : t .kind ≡ 1).
-        rw (term-person-direct (b .juniors) held t (b .query .person) is, is)
-        (sym (person-value (record { 0 = t .a }) (t .v) (good .value is .0) (good .value is .1))))
-        (λ (no1 : t .kind ≡ 1 → ⊥).
-        dite (ℕ-discrete (t .kind) 2)
-        (λ (is : t .kind ≡ 2).
-        rw (term-person-effective (b .juniors) held t (b .query .person) is, is)
-        (person-effective (record { 0 = t .a }) (t .v) (good .value-2 is .0) (good .value-2 is .1)))
-        (λ (no2 : t .kind ≡ 2 → ⊥).
-        dite (ℕ-discrete (t .kind) 3)
-        (λ (is : t .kind ≡ 3). rw (term-in-direct (b .juniors) held t (b .query .person) is, is) (sym (person-member (t .a) (good .crew no1 no2))))
-        (λ (no3 : t .kind ≡ 3 → ⊥).
-        let is : t .kind ≡ 4 = omega arith in
-        rw (term-in-effective (b .juniors) held t (b .query .person) is, is) (person-reaches (t .a) (good .crew no1 no2)))))
+    person-term t good kinds = ⊎-elim (λ asks. of-value (good .value asks) (value-kinds (t .kind) asks)) of-crew kinds
+      where
+        of-value : (t .a < 8) × (t .v < 16) → (t .kind ≡ 1) ⊎ ((t .kind ≡ 2) ⊎ (t .kind ≡ 5))
+            → termShown T S t ≡ termHolds (b .juniors) (lift b (onLevel (personLevel b) R S)) (User (b .query .person)) t
+        of-value small (inl is) =
+            rw (term-person-direct (b .juniors) held t (b .query .person) is, is)
+            (sym (person-value (record { 0 = t .a }) (t .v) (small .0) (small .1)))
+        of-value small (inr (inl is)) =
+            rw (term-person-effective (b .juniors) held t (b .query .person) is, is)
+            (person-effective (record { 0 = t .a }) (t .v) (small .0) (small .1))
+        of-value small (inr (inr is)) =
+            rw (term-person-at-least (b .juniors) held t (b .query .person) is, is)
+            (from-same (λ w. effective T S (16 * t .a + w)) (personHolds (b .juniors) held (b .query .person) (record { 0 = t .a })) (t .v) 16
+            (λ w l. person-effective (record { 0 = t .a }) w (small .0) l))
+
+        of-crew : asksCrew (t .kind) ≡ true
+            → termShown T S t ≡ termHolds (b .juniors) (lift b (onLevel (personLevel b) R S)) (User (b .query .person)) t
+        of-crew asks =
+            let small = good .crew (crew-not-value (t .kind) asks) in
+            let three-four = crew-kinds (t .kind) asks in
+            dite (ℕ-discrete (t .kind) 3)
+            (λ (is : t .kind ≡ 3). rw (term-in-direct (b .juniors) held t (b .query .person) is, is) (sym (person-member (t .a) small)))
+            (λ (no : t .kind ≡ 3 → ⊥).
+            let is : t .kind ≡ 4 = omega (arith, three-four) in
+            rw (term-in-effective (b .juniors) held t (b .query .person) is, is) (person-reaches (t .a) small))

@@ -34,7 +34,7 @@ fn allow_all(u: &mut [bool])
     }
 }
 
-// What a level comes to, once its table stands: its forbidden and its starting facts, leave to add every fact, and the rounds.
+// What a level comes to, once its table stands: its forbidden and its starting facts, their flags, leave to add every fact, and the rounds.
 fn settle_level(
     q: Query,
     crews: u8,
@@ -59,12 +59,14 @@ fn settle_level(
         (r .at) ⌝ }
 {
     let mut bad = [false; LEVEL_SIZE];
-    let mut s = [false; LEVEL_SIZE];
+    let mut first = [false; LEVEL_SIZE];
+    let mut s = [false; FLAGS_SIZE];
     let mut u = [false; LEVEL_SIZE];
     let mut y = [false; FLAGS_SIZE];
     let mut d = [false; LEVEL_SIZE];
     flags::bad_flags(q, crews, k, below, &mut bad);
-    flags::start_flags(facts, crews, q.person, k, &mut s);
+    flags::start_flags(facts, crews, q.person, k, &mut first);
+    build::build(table, &first, &mut s);
     allow_all(&mut u);
     level::settle(
         adds,

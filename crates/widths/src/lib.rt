@@ -3,8 +3,11 @@
 // The facts of a level, those of one crew or of the query's person: 8 attributes of 16 values, and 32 crews.
 pub const LEVEL_SIZE: usize = 160;
 
-// What a subject shows to a rule's terms: its direct facts, and behind them its effective ones.
-pub const FLAGS_SIZE: usize = 320;
+// Behind a subject's direct facts and its effective ones: where the flags of "v or any higher value" begin.
+pub const HIGHER_AT: usize = 320;
+
+// What a subject shows to a rule's terms: its direct facts, its effective ones, and for each value whether it or a higher one is effective.
+pub const FLAGS_SIZE: usize = 448;
 
 // A row of flags for each of 32 crews.
 pub const ROWS_SIZE: usize = 5120;

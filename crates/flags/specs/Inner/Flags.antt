@@ -48,7 +48,6 @@ startFlag facts crews person k f = hasFact crews k f && holds facts (factIn crew
 
 -- The flags of level k are the tracked starting facts.
 pub record StartFlags (b : Contents) (k : ℕ) (s : List Bool) : Type 0 where
-  pub size : length s ≡ levelSize
   pub at : (f : ℕ) → f < levelSize → getD s f false ≡ track b (holds (b .facts)) (levelSize * k + f)
 
 -- ---------------------------------------------------------------- tables and rows

@@ -65,11 +65,11 @@ move-at-requires c κs =
     let sound = at-start (at-loop turn) .pre .0 in
     (omega (arith, turn .turn-at .ensures .fits, sound .few), listed-room sound (turn .turn-at .ensures .fits))
 
-put-requires : tie.Need-put-requires Inv-loop μ-loop
-put-requires c κs =
+put-whole-requires : tie.Need-put-whole-requires Inv-loop μ-loop
+put-whole-requires c κs =
     let turn = at-turn (c .before .before .before) in
     let whole = at-loop turn .loop .inv .0 .whole in
-    (listed-fine (at-start (at-loop turn) .pre .0) (turn .turn-at .ensures .fits) (c .before .move-at .ensures) .fact, (whole .size, whole .rows))
+    (listed-fine (at-start (at-loop turn) .pre .0) (turn .turn-at .ensures .fits) (c .before .move-at .ensures) .fact, whole)
 
 -- A move fires only where there is room for its request.
 room : (c : tie.Then1 Inv-loop μ-loop) → at-loop (at-turn (c .before)) .loop .n < 160
@@ -121,7 +121,7 @@ loop-again c =
     let turn = at-turn (fired .before) in
     let inv = at-loop turn .loop .inv in (
       kept-add (inv .0) (at-start (at-loop turn) .pre .0) (turn .turn-at .ensures .fits) (fired .before .fires .ensures) (fired .if1 .taken)
-          (at-move put-in .move-at .ensures) (put-in .before .before .put .ensures) (c .before .before .before .note .ensures),
+          (at-move put-in .move-at .ensures) (put-in .before .before .put-whole .ensures) (c .before .before .before .note .ensures),
       sweeping-anew _ (simp length-set (inv .1 .named)) (turn .turn-at .ensures .names) (λ _. c .next .ensures .fits),
     )
 
@@ -166,7 +166,7 @@ close-spec =
     turn-at-requires
     fires-requires
     move-at-requires
-    put-requires
+    put-whole-requires
     add-note
     note-requires
     cast-added

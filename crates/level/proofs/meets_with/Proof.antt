@@ -6,7 +6,7 @@ use Prim.Native.Nat.{_≤_, _-_}
 use borrow.Author.Tests.{not-true, not-false}
 use lib.ListN.{getD, drop}
 use mathlib.Core.Bool.{false, _||_}
-use Rattle.level.specs.Inner.Shown.{touches}
+use Rattle.shown.specs.Inner.Shown.{touches}
 use Rattle.level.specs.Inner.Moves.{placesOf, flagsWith, moveFrom}
 use Rattle.quantifiers.specs.Quantifiers.{all}
 use Rattle.level.proofs.MoveLaws.{fact-fits, Reading, few-terms, term-fits, places-pass, places-fail, places-out}

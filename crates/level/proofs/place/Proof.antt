@@ -31,8 +31,17 @@ returns-2 : tie.Need-returns-2
 unfolding codeOf
 returns-2 c = simp (ne-eqb _ _ (c .before .if1 .left), eq-eqb _ _ (c .if2 .taken))
 
+cast-result-2 : tie.Need-cast-result-2
+cast-result-2 c = search needs
+
+mul-result-3 : tie.Need-mul-result-3
+mul-result-3 c = search needs
+
 add-result-4 : tie.Need-add-result-4
 add-result-4 c = search needs
+
+add-result-5 : tie.Need-add-result-5
+add-result-5 c = search needs
 
 returns-3 : tie.Need-returns-3
 unfolding codeOf
@@ -40,14 +49,23 @@ returns-3 c =
     let not-kind-1 = c .before .before in
     simp (ne-eqb _ _ (not-kind-1 .if1 .left), ne-eqb _ _ (c .before .if2 .left), eq-eqb _ _ (c .if3 .taken))
 
-add-result-5 : tie.Need-add-result-5
-add-result-5 c = search needs
+add-result-6 : tie.Need-add-result-6
+add-result-6 c = search needs
 
 returns-4 : tie.Need-returns-4
 unfolding codeOf
 returns-4 c =
-    let not-kind-1 = c .before .before in
-    simp (ne-eqb _ _ (not-kind-1 .if1 .left), ne-eqb _ _ (c .before .if2 .left), ne-eqb _ _ (c .if3 .left))
+    let not-kind-2 = c .before .before in
+    simp (ne-eqb _ _ (not-kind-2 .before .if1 .left), ne-eqb _ _ (not-kind-2 .if2 .left), ne-eqb _ _ (c .before .if3 .left), eq-eqb _ _ (c .if4 .taken))
+
+add-result-7 : tie.Need-add-result-7
+add-result-7 c = search needs
+
+returns-5 : tie.Need-returns-5
+unfolding codeOf
+returns-5 c =
+    let not-kind-2 = c .before .before in
+    simp (ne-eqb _ _ (not-kind-2 .before .if1 .left), ne-eqb _ _ (not-kind-2 .if2 .left), ne-eqb _ _ (c .before .if3 .left), ne-eqb _ _ (c .if4 .left))
 
 pub place-spec : {M : Type 1} → statement M
 place-spec =
@@ -61,7 +79,12 @@ place-spec =
     add-result-2
     add-result-3
     returns-2
+    cast-result-2
+    mul-result-3
     add-result-4
-    returns-3
     add-result-5
-    returns-4)
+    returns-3
+    add-result-6
+    returns-4
+    add-result-7
+    returns-5)

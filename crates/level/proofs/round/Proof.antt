@@ -5,20 +5,20 @@ use Rattle.level.proofs.round.Statement.{statement}
 use Rattle.level.proofs.round.Tie as tie
 
 -- The places that the answers name, each seen from a later one.
-abbrev start : tie.After-build-arg → tie.Start
+abbrev start : tie.After-copy-whole-arg → tie.Start
 start c = c .before .before .before .before .before .before .before .before .before .before .before .before .before .before
 
-abbrev after-build : tie.After-close-arg3 → tie.After-build
-after-build c = c .before .before .before .before .before
+abbrev after-copy : tie.After-close-arg3 → tie.After-copy-whole
+after-copy c = c .before .before .before .before .before
 
 abbrev after-close : tie.After-strip-arg2 → tie.After-close
 after-close c = c .before .before .before .before .before .before .before .before
 
-abbrev after-strip : tie.After-build-arg3 → tie.After-strip
-after-strip c = c .before .before .before .before
+abbrev after-strip : tie.After-build-rest-arg3 → tie.After-strip
+after-strip c = c .before .before .before .before .before
 
-abbrev after-second-build : tie.After-back-arg4 → tie.After-build2
-after-second-build c = c .before .before .before .before .before .before
+abbrev after-rest : tie.After-back-arg4 → tie.After-build-rest
+after-rest c = c .before .before .before .before .before .before
 
 abbrev after-back : tie.After-slice-known16 → tie.After-back
 after-back c = c .before .before .before .before .before .before
@@ -30,7 +30,7 @@ abbrev after-y : tie.After-down → tie.After-y
 after-y c = c .before .before .before .before .before .before .before .before .before .before .before
 
 abbrev after-d : tie.After-down → tie.After-d
-after-d c = after-y c .before .before .before .before .before
+after-d c = after-y c .before .before .before .before .before .before
 
 abbrev after-up : tie.After-slice-known16 → tie.After-up
 after-up c = after-d (c .before) .before .before .before .before .before
@@ -38,35 +38,36 @@ after-up c = after-d (c .before) .before .before .before .before .before
 abbrev after-deleted : tie.After-down → tie.After-deleted
 after-deleted c = c .before .before .before .before
 
-build-requires : tie.Need-build-requires
-build-requires c κs = (start c .pre .lengths .size-x, (start c .pre .lengths .rows, start c .pre .lengths .size-s))
+copy-whole-requires : tie.Need-copy-whole-requires
+copy-whole-requires c κs = (start c .pre .lengths .size-s, start c .pre .lengths .size-x)
 
 close-requires : tie.Need-close-requires
 close-requires c κs =
-    let at-start = start (after-build c .before) in (
+    let at-start = start (after-copy c .before) in (
       at-start .pre .sound-adds,
-      (ready (at-start .pre .lengths) (after-build c .build .ensures) (at-start .pre .allowed), at-start .pre .names-added),
+      (ready (at-start .pre .lengths) (at-start .pre .whole-s) (after-copy c .copy-whole .ensures) (at-start .pre .allowed), at-start .pre .names-added),
     )
 
 strip-requires : tie.Need-strip-requires
 strip-requires c κs =
-    let at-start = start (after-build (after-close c .before) .before) in
+    let at-start = start (after-copy (after-close c .before) .before) in
     (after-close c .close .ensures .whole .size, (at-start .pre .lengths .size-bad, at-start .pre .lengths .size-d))
 
-build-requires-2 : tie.Need-build-requires-2
-build-requires-2 c κs =
-    let at-start = start (after-build (after-close (after-strip c .before) .before) .before) in
-    (at-start .pre .lengths .size-y, (at-start .pre .lengths .rows, after-strip c .strip .ensures .size))
+build-rest-requires : tie.Need-build-rest-requires
+build-rest-requires c κs =
+    let at-close = after-close (after-strip c .before) in
+    let at-start = start (after-copy (at-close .before) .before) in
+    (at-close .close .ensures .whole, (after-strip c .strip .ensures, at-start .pre .lengths .size-y))
 
 back-requires : tie.Need-back-requires
 back-requires c κs =
-    let at-strip = after-strip (after-second-build c .before) in
+    let at-strip = after-strip (after-rest c .before) in
     let at-close = after-close (at-strip .before) in
-    let at-start = start (after-build (at-close .before) .before) in (
+    let at-start = start (after-copy (at-close .before) .before) in (
       at-start .pre .sound-dels,
       (
         ready-back (at-start .pre .lengths) (at-close .close .ensures .whole) (at-strip .strip .ensures)
-            (after-second-build c .build2 .ensures),
+            (after-rest c .build-rest .ensures),
         at-start .pre .names-deleted,
       ),
     )
@@ -79,8 +80,8 @@ same-length-2 c = after-deleted (c .before) .deleted .given
 
 same-length-3 : tie.Need-same-length-3
 same-length-3 c =
-    let at-close = after-close (after-strip (after-second-build (after-back c .before) .before) .before) in
-    at-close .close .ensures .whole .size ∙ sym (start (after-build (at-close .before) .before) .pre .lengths .size-x)
+    let at-close = after-close (after-strip (after-rest (after-back c .before) .before) .before) in
+    at-close .close .ensures .whole .size ∙ sym (start (after-copy (at-close .before) .before) .pre .lengths .size-x)
 
 same-length-4 : tie.Need-same-length-4
 same-length-4 c = c .before .before .before .y2 .given ∙ after-y (c .before) .y .given
@@ -96,20 +97,20 @@ same-length-7 c = c .before .down .given
 
 returns : tie.Need-returns
 returns c =
-    let at-strip = after-strip (after-second-build (after-back c .before) .before) in
+    let at-strip = after-strip (after-rest (after-back c .before) .before) in
     let at-close = after-close (at-strip .before) in
-    let at-build = after-build (at-close .before) in
-    rounded (start (at-build .before) .pre .lengths) (at-build .build .ensures) (at-close .close .ensures)
+    let at-copy = after-copy (at-close .before) in
+    rounded (start (at-copy .before) .pre .lengths) (at-copy .copy-whole .ensures) (at-close .close .ensures)
     (at-strip .strip .ensures) (after-back c .back .ensures)
 
 pub round-spec : {M : Type 1} → statement M
 round-spec =
     tie.close
     (tie.spec
-    build-requires
+    copy-whole-requires
     close-requires
     strip-requires
-    build-requires-2
+    build-rest-requires
     back-requires
     same-length
     same-length-2

@@ -4,7 +4,7 @@ use native.Mathlib.Omega.{arith}
 use mathlib.Core.Path.{_≡_, sym, _∙_}
 use lib.ListN.{length}
 use Rattle.quantifiers.specs.Inner.Lists.{countBelow}
-use Rattle.level.specs.Inner.Shown.{direct}
+use Rattle.shown.specs.Inner.Shown.{direct}
 use Rattle.level.specs.Inner.Moves.{movesIn}
 use Rattle.level.proofs.SettleLaws.{Going, going-first, settled, stuck, go-on, smaller, result-found, result-none}
 use Rattle.level.proofs.settle.Statement.{statement}
@@ -62,6 +62,7 @@ round-requires c κs =
       sound-adds = start (loop-head c .before) .pre .sound-adds;
       sound-dels = start (loop-head c .before) .pre .sound-dels;
       lengths = loop-head c .loop .inv .0 .sizes;
+      whole-s = start (loop-head c .before) .pre .whole-s;
       allowed = loop-head c .loop .inv .0 .within;
       names-added = loop-head c .loop .inv .1 .0;
       names-deleted = loop-head c .loop .inv .1 .1;

@@ -8,7 +8,7 @@ use Rattle.widths.specs.Inner.Widths.{levelSize, flagsSize}
 use Rattle.theory.specs.Inner.Facts.{minus}
 use Rattle.theory.specs.Inner.Plan.{BackClosed}
 use Rattle.theory.specs.Inner.Sweep.{PutBack}
-use Rattle.level.specs.Inner.Shown.{direct, Whole}
+use Rattle.shown.specs.Inner.Shown.{direct, Whole}
 use Rattle.level.specs.Inner.Moves.{Moves, flagsWith}
 use Rattle.level.specs.Inner.World.{world}
 use Rattle.level.specs.Inner.Notes.{askAt, asks}

@@ -9,7 +9,7 @@ use Rattle.widths.specs.Inner.Widths.{levelSize, flagsSize, moveSize}
 use Rattle.quantifiers.specs.Quantifiers.{all}
 use Rattle.theory.specs.Inner.Facts.{State}
 use Rattle.theory.specs.Inner.Plan.{Ask}
-use Rattle.level.specs.Inner.Shown.{visible, touches}
+use Rattle.shown.specs.Inner.Shown.{visible, touches}
 use Rattle.level.specs.declared.Move.{Move}
 
 -- The fact that a request's op, a and v name.

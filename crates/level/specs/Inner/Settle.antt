@@ -9,7 +9,7 @@ use Rattle.theory.specs.Inner.Facts.{State, _⊆_, minus}
 use Rattle.theory.specs.Inner.Plan.{World, Brings, AddClosed, BackClosed}
 use Rattle.theory.specs.Inner.Sweep.{Added, PutBack}
 use Rattle.level.specs.Inner.Moves.{Moves, Sound}
-use Rattle.level.specs.Inner.Shown.{direct, Whole}
+use Rattle.shown.specs.Inner.Shown.{direct, Whole}
 use Rattle.level.specs.Inner.World.{world}
 use Rattle.level.specs.Inner.Notes.{askAt, asks}
 
@@ -22,7 +22,7 @@ pub data Rounds (W : World) (bad s u₀ : State) : State → Type 0 where
 pub record Lengths (T bad s u x y d : List Bool) (start : ℕ) (up : List ℕ) (end : ℕ) (down : List ℕ) : Type 0 where
   pub rows : length T ≡ tableSize
   pub size-bad : length bad ≡ levelSize
-  pub size-s : length s ≡ levelSize
+  pub size-s : length s ≡ flagsSize
   pub size-u : length u ≡ levelSize
   pub size-x : length x ≡ flagsSize
   pub size-y : length y ≡ flagsSize
@@ -31,13 +31,14 @@ pub record Lengths (T bad s u x y d : List Bool) (start : ℕ) (up : List ℕ) (
   pub below : levelSize ≤ end
   pub room-down : 5 * end ≤ length down
 
--- What a round needs: sound moves, the lengths of what is lent with room in the two buffers, starting facts that are allowed, and room for the
--- names of the moves to try first.
+-- What a round needs: sound moves, the lengths of what is lent with room in the two buffers, whole flags of the starting facts, which are allowed,
+-- and room for the names of the moves to try first.
 pub record RoundReady (adds dels : Moves) (added deleted : List ℕ) (T bad s u x y d : List Bool)
     (start : ℕ) (up : List ℕ) (end : ℕ) (down : List ℕ) : Type 0 where
   pub sound-adds : Sound adds
   pub sound-dels : Sound dels
   pub lengths : Lengths T bad s u x y d start up end down
+  pub whole-s : Whole T s
   pub allowed : direct s ⊆ direct u
   pub names-added : length added ≡ levelSize
   pub names-deleted : length deleted ≡ levelSize

@@ -9,7 +9,7 @@ use Rattle.widths.specs.Inner.Widths.{levelSize}
 use Rattle.theory.specs.Inner.Facts.{_⊆_}
 use Rattle.theory.specs.Inner.Plan.{AddClosed}
 use Rattle.theory.specs.Inner.Sweep.{Added}
-use Rattle.level.specs.Inner.Shown.{direct, Whole}
+use Rattle.shown.specs.Inner.Shown.{direct, Whole}
 use Rattle.level.specs.Inner.Moves.{Moves, flagsMet}
 use Rattle.level.specs.Inner.World.{world}
 use Rattle.level.specs.Inner.Notes.{askAt, asks}

@@ -1,16 +1,17 @@
 -- The terms of rules, by kind, and the places that they become.
 use mathlib.Core.Path.{_≡_}
-use mathlib.Core.Bool.{Bool, cond, _||_}
+use mathlib.Core.Bool.{Bool, true, false, cond, _||_}
 use mathlib.Core.List.{List}
 use Prim.Native.Nat.{ℕ, _+_, _*_, _≤_, _<_}
 use lib.Dec.{eqb}
 use lib.ListN.{length, getD, take}
-use Rattle.widths.specs.Inner.Widths.{levelSize}
+use Rattle.widths.specs.Inner.Widths.{levelSize, higherAt}
 use Rattle.theory.specs.Inner.Facts.{State}
-use Rattle.level.specs.Inner.Shown.{inherited}
+use Rattle.shown.specs.Inner.Shown.{inherited}
 use Rattle.level.specs.Inner.Moves.{Fine, placeOf}
-use Rattle.quantifiers.specs.Quantifiers.{all}
+use Rattle.quantifiers.specs.Quantifiers.{all, anyFrom}
 use Rattle.level.specs.declared.Move.{Move}
+use Rattle.gate.specs.Gate.{asksValue}
 use Rattle.frames.specs.declared.Term.{Term}
 use Rattle.frames.specs.declared.Rule.{Rule}
 use Rattle.frames.specs.Book.{noTerm}
@@ -19,22 +20,27 @@ use Rattle.frames.specs.Book.{noTerm}
 unfoldable pub effective : List Bool → State → ℕ → Bool
 effective T S f = S f || inherited T S f
 
--- Whether a subject shows what a term asks: 01 directly holds, 02 effectively holds, 03 directly in crew a, 04 effectively in crew a.
+-- Whether a subject shows what a term asks: 01 directly holds, 02 effectively holds, 05 effectively holds v or any higher value of a;
+-- 03 directly in crew a, 04 effectively in crew a.
 unfoldable pub termShown : List Bool → State → Term → Bool
 termShown T S t =
     cond (eqb (t .kind) 1) (S (16 * t .a + t .v))
     (cond (eqb (t .kind) 2) (effective T S (16 * t .a + t .v))
-    (cond (eqb (t .kind) 3) (S (128 + t .a)) (effective T S (128 + t .a))))
+    (cond (eqb (t .kind) 5) (anyFrom (λ w. effective T S (16 * t .a + w)) (t .v) 16)
+    (cond (eqb (t .kind) 3) (S (128 + t .a)) (effective T S (128 + t .a)))))
 
 -- The place of what a term asks.
 unfoldable pub codeOf : ℕ → ℕ → ℕ → ℕ
-codeOf kind a v = cond (eqb kind 1) (16 * a + v) (cond (eqb kind 2) (levelSize + (16 * a + v)) (cond (eqb kind 3) (128 + a) (288 + a)))
+codeOf kind a v =
+    cond (eqb kind 1) (16 * a + v)
+    (cond (eqb kind 2) (levelSize + (16 * a + v))
+    (cond (eqb kind 5) (higherAt + (16 * a + v))
+    (cond (eqb kind 3) (128 + a) (288 + a))))
 
--- The fields of a term are in range.
+-- The fields of a term are in range: of one that asks for a value, and of any other, which asks for a crew.
 pub record TermInRange (t : Term) : Type 0 where
-  pub value : (t .kind ≡ 1) → (t .a < 8) × (t .v < 16)
-  pub value-2 : (t .kind ≡ 2) → (t .a < 8) × (t .v < 16)
-  pub crew : (t .kind ≡ 1 → ⊥) → (t .kind ≡ 2 → ⊥) → t .a < 32
+  pub value : asksValue (t .kind) ≡ true → (t .a < 8) × (t .v < 16)
+  pub crew : asksValue (t .kind) ≡ false → t .a < 32
 
 -- A rule's fields are in range: its fact is one of a level, and so is what each of its terms asks.
 pub record GoodRule (r : Rule) : Type 0 where

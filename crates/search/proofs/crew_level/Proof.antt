@@ -8,7 +8,7 @@ use borrow.Author.Needs.{needs}
 use Rattle.frames.specs.Book.{contentsOf}
 use Rattle.flags.proofs.FlagLaws.{small-wants, start-flags, filled-row}
 use Rattle.flags.proofs.BadLaws.{bad-all}
-use Rattle.search.proofs.StepLaws.{room-up, room-below, room-down, table-same, row-same, crew-scanned}
+use Rattle.search.proofs.StepLaws.{room-up, room-below, room-down, table-same, row-same, crew-scanned, starts-built}
 use Rattle.search.proofs.crew_level.Statement.{statement}
 use Rattle.search.proofs.crew_level.Tie as tie
 
@@ -114,7 +114,7 @@ returns c =
     let level = at-settle-level .settle-level .ensures in
     let bads = bad-all (contentsOf (start .args .b)) (small-wants (given .accepted)) (start .args .k) (at-below .is-below-listed .result)
     (omega (arith, pre .0 .1)) (λ h. at-below .is-below-listed .ensures) (level .size) (level .forbidden) in
-    let begun = start-flags (start .args .b) (given .same-facts) (omega (arith, pre .0 .1)) (level .size) (level .started) in (
+    let begun = starts-built (start-flags (start .args .b) (given .same-facts) (omega (arith, pre .0 .1)) (level .started)) (level .built) in (
       crew-scanned (start .args .b) (given .accepted) (start .args .k) (pre .0 .1) (given .moves) drive (pre .1 .0 .1)
           (table-same (given .same-juniors) made) bads begun (level .allowed) (level .result)
           (row-same (given .same-juniors) (filled-row (drive .rows-right .size) made (c .before .before .fill-row .ensures)))

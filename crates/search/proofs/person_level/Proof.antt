@@ -7,7 +7,7 @@ use borrow.Author.Needs.{needs}
 use Rattle.frames.specs.Book.{contentsOf}
 use Rattle.flags.proofs.FlagLaws.{small-wants, start-flags}
 use Rattle.flags.proofs.BadLaws.{bad-all}
-use Rattle.search.proofs.StepLaws.{room-up, room-below, room-down, person-searched}
+use Rattle.search.proofs.StepLaws.{room-up, room-below, room-down, person-searched, starts-built}
 use Rattle.search.proofs.person_level.Statement.{statement}
 use Rattle.search.proofs.person_level.Tie as tie
 
@@ -71,7 +71,7 @@ returns c =
     let level = after-settle-level c .settle-level .ensures in
     let bads = bad-all (contentsOf (start .args .b)) (small-wants (given .accepted)) (start .args .b .sizes .crews) false (omega arith)
     (λ h. absurd (omega arith)) (level .size) (level .forbidden) in
-    let begun = start-flags (start .args .b) (given .same-facts) (omega arith) (level .size) (level .started) in
+    let begun = starts-built (start-flags (start .args .b) (given .same-facts) (omega arith) (level .started)) (level .built) in
     person-searched (start .args .b) (given .accepted) (given .moves) drive (at-person-table .person-table .ensures)
     bads begun (level .allowed) (level .result)
     (c .before .before .before .up .given ∙ drive .size-up) (c .before .down .given ∙ drive .size-down)

@@ -14,11 +14,14 @@ flags-lent c = c .before .before .before
 abbrev entry : tie.After-bad → tie.Start
 entry c = flags-lent c .before .before .before .before .before .before .before
 
-abbrev after-bad-flags : tie.After-allow-all → tie.After-bad-flags
-after-bad-flags c = c .before .before .before .before .before .before
+abbrev after-bad-flags : tie.After-start-flags → tie.After-bad-flags
+after-bad-flags c = c .before .before .before
 
-abbrev after-start-flags : tie.After-allow-all → tie.After-start-flags
-after-start-flags c = c .before .before .before
+abbrev after-start-flags : tie.After-build → tie.After-start-flags
+after-start-flags c = c .before .before .before .before
+
+abbrev after-build : tie.After-allow-all → tie.After-build
+after-build c = c .before .before .before
 
 abbrev after-allow-all : tie.After-bad3 → tie.After-allow-all
 after-allow-all c = c .before .before .before .before
@@ -44,6 +47,18 @@ slice-aggregate-start-flags c = refl
 start-flags-requires : tie.Need-start-flags-requires
 start-flags-requires c κs = refl
 
+slice-aggregate-build : tie.Need-slice-aggregate-build
+slice-aggregate-build c = sym (c .before .before .start-flags .ensures .size)
+
+slice-aggregate-build-2 : tie.Need-slice-aggregate-build-2
+slice-aggregate-build-2 c = refl
+
+build-requires : tie.Need-build-requires
+build-requires c κs =
+    let at-start-flags = c .before .before .before in
+    let pre = entry (after-bad-flags at-start-flags .before) .pre in
+    (refl, (pre .rows, at-start-flags .start-flags .ensures .size))
+
 slice-aggregate-allow-all : tie.Need-slice-aggregate-allow-all
 slice-aggregate-allow-all c = refl
 
@@ -51,10 +66,12 @@ allow-all-requires : tie.Need-allow-all-requires
 allow-all-requires c κs = refl
 
 slice-aggregate-settle : tie.Need-slice-aggregate-settle
-slice-aggregate-settle c = sym (after-bad-flags (after-allow-all c) .bad-flags .ensures .size)
+slice-aggregate-settle c =
+    let at-start-flags = after-start-flags (after-build (after-allow-all c)) in
+    sym (after-bad-flags at-start-flags .bad-flags .ensures .size)
 
 slice-aggregate-settle-2 : tie.Need-slice-aggregate-settle-2
-slice-aggregate-settle-2 c = sym (after-start-flags (after-allow-all (c .before)) .start-flags .ensures .size)
+slice-aggregate-settle-2 c = sym (after-build (after-allow-all (c .before)) .build .ensures .whole .size)
 
 slice-aggregate-settle-3 : tie.Need-slice-aggregate-settle-3
 slice-aggregate-settle-3 c = sym (after-allow-all (c .before .before) .allow-all .ensures .size)
@@ -68,7 +85,8 @@ slice-aggregate-settle-5 c = refl
 settle-requires : tie.Need-settle-requires
 settle-requires c κs =
     let at-allow-all = after-allow-all (lent-bad c) in
-    let at-bad-flags = after-bad-flags at-allow-all in
+    let at-build = after-build at-allow-all in
+    let at-bad-flags = after-bad-flags (after-start-flags at-build) in
     let pre = entry (at-bad-flags .before) .pre in
     record {
       sound-adds = pre .sound-adds;
@@ -76,7 +94,7 @@ settle-requires c κs =
       lengths = record {
         rows = pre .rows;
         size-bad = at-bad-flags .bad-flags .ensures .size;
-        size-s = after-start-flags at-allow-all .start-flags .ensures .size;
+        size-s = at-build .build .ensures .whole .size;
         size-u = at-allow-all .allow-all .ensures .size;
         size-x = pre .size-x;
         size-y = refl;
@@ -85,6 +103,7 @@ settle-requires c κs =
         below = pre .room-below;
         room-down = pre .room-down;
       };
+      whole-s = at-build .build .ensures .whole;
       allowed = starts-allowed _ (at-allow-all .allow-all .ensures);
       names-added = pre .names .room-added;
       names-deleted = pre .names .room-deleted;
@@ -108,14 +127,18 @@ same-length-5 c = search needs
 returns : tie.Need-returns
 returns c =
     let at-allow-all = after-allow-all (lent-bad (after-settle c .before)) in
+    let at-build = after-build at-allow-all in
+    let at-start-flags = after-start-flags at-build in
     record {
       blank = _;
       bads = _;
+      first = _;
       s = _;
       u = _;
       size = refl;
-      forbidden = after-bad-flags at-allow-all .bad-flags .ensures;
-      started = after-start-flags at-allow-all .start-flags .ensures;
+      forbidden = after-bad-flags at-start-flags .bad-flags .ensures;
+      started = at-start-flags .start-flags .ensures;
+      built = at-build .build .ensures;
       allowed = at-allow-all .allow-all .ensures;
       result = after-settle c .settle .ensures;
     }
@@ -128,6 +151,9 @@ settle-level-spec =
     bad-flags-requires
     slice-aggregate-start-flags
     start-flags-requires
+    slice-aggregate-build
+    slice-aggregate-build-2
+    build-requires
     slice-aggregate-allow-all
     allow-all-requires
     slice-aggregate-settle

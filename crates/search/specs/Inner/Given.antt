@@ -10,6 +10,7 @@ use Rattle.frames.specs.declared.Query.{Query}
 use Rattle.frames.specs.Book.{contentsOf}
 use Rattle.frames.specs.Inner.Fits.{Admitted}
 use Rattle.level.specs.Inner.Moves.{Moves, Sound, movesIn}
+use Rattle.build.specs.Inner.Build.{Built}
 use Rattle.level.specs.Inner.Settle.{Result}
 use Rattle.flags.specs.Inner.Flags.{FlagsWritten, Reaching, SmallWants, startFlag, badFlag}
 use Rattle.search.specs.Inner.Scan.{SideMoves, AllAllowed}
@@ -52,10 +53,12 @@ pub record LevelSettled (q : Query) (crews : ℕ) (facts : List ℕ) (k : ℕ) (
     (ups : ℕ) (up₀ up : List ℕ) (at : ℕ) (down₀ down : List ℕ) (found : Bool) (n at′ : ℕ) : Type 0 where
   pub blank : List Bool
   pub bads : List Bool
+  pub first : List Bool
   pub s : List Bool
   pub u : List Bool
   pub size : length blank ≡ levelSize
   pub forbidden : FlagsWritten blank 0 (badFlag q crews k below) levelSize bads
-  pub started : FlagsWritten blank 0 (startFlag facts crews (q .person) k) levelSize s
+  pub started : FlagsWritten blank 0 (startFlag facts crews (q .person) k) levelSize first
+  pub built : Built T first s
   pub allowed : AllAllowed u
   pub result : Result adds dels p T bads s u x ups up₀ up at down₀ down found n at′

@@ -5,9 +5,13 @@ use Prim.Native.Nat.{ℕ}
 abbrev pub levelSize : ℕ
 levelSize = 160
 
--- What a subject shows to a rule's terms: its direct facts, and behind them its effective ones.
+-- Behind a subject's direct facts and its effective ones: where the flags of "v or any higher value" begin. 2 × levelSize.
+abbrev pub higherAt : ℕ
+higherAt = 320
+
+-- What a subject shows to a rule's terms: its direct facts, its effective ones, and for each value whether it or a higher one is effective.
 abbrev pub flagsSize : ℕ
-flagsSize = 320
+flagsSize = 448
 
 -- A row of flags for each of 32 crews: 32 × levelSize.
 abbrev pub rowsSize : ℕ

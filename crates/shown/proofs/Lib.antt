@@ -1,0 +1,3 @@
+pub mod ExtendedLaws
+pub mod ShownLaws
+pub mod HigherLaws
