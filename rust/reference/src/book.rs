@@ -91,6 +91,11 @@ impl Sizes {
         (attr < self.attrs && value < self.values).then_some((Attr(attr), Value(value)))
     }
 
+    /// A value and all higher ones, rising.
+    pub fn and_higher(&self, value: Value) -> impl Iterator<Item = Value> {
+        (value.0..self.values).map(Value)
+    }
+
     /// Every value of an attribute: a set of sixteen bits.
     #[must_use]
     pub fn all_values(&self) -> u16 {
@@ -187,6 +192,9 @@ pub fn op(way: Way, what: What) -> u8 {
 
 /// "A term is **kind a v**, about the person or crew acted on: 01 directly holds, 02 effectively holds; 03 directly in
 /// crew a, 04 effectively in crew a (v is 00; only in ops 05, 06)."
+///
+/// "A new term, kind 05, holds when the subject effectively holds v or any higher value of a. It is legal in all six
+/// ops."
 #[derive(Clone, Copy, Debug, PartialEq, Eq, PartialOrd, Ord, Hash)]
 pub enum Term {
     /// 01
@@ -197,6 +205,8 @@ pub enum Term {
     In(Crew),
     /// 04
     EffectivelyIn(Crew),
+    /// 05, a ladder term
+    Ladder(Attr, Value),
 }
 
 /// "**03 op role a v n, then n terms**: a rule"
@@ -210,6 +220,14 @@ pub struct Rule {
     pub what: What,
     /// "all terms hold of the subject before the request"
     pub terms: Vec<Term>,
+}
+
+impl Rule {
+    /// Whether one of its terms is a ladder term.
+    #[must_use]
+    pub fn has_ladder(&self) -> bool {
+        self.terms.iter().any(|term| matches!(term, Term::Ladder(..)))
+    }
 }
 
 /// What the query asks of crews.
@@ -276,6 +294,36 @@ impl Book {
             below[senior.index()] |= below[junior.index()];
         }
         below
+    }
+
+    /// Whether some rule has a ladder term.
+    #[must_use]
+    pub fn has_ladder(&self) -> bool {
+        self.rules.iter().any(Rule::has_ladder)
+    }
+
+    /// The same book with kind 02 in the place of each ladder term: a higher value fulfils none of them.
+    #[must_use]
+    pub fn ladders_cut(&self) -> Book {
+        self.with_ladders(|attr, value| Some(Term::EffectivelyHolds(attr, value)))
+    }
+
+    /// The same book without its ladder terms: whatever the subject holds, they are fulfilled.
+    #[must_use]
+    pub fn ladders_dropped(&self) -> Book {
+        self.with_ladders(|_, _| None)
+    }
+
+    fn with_ladders(&self, instead: impl Fn(Attr, Value) -> Option<Term>) -> Book {
+        let mut book = self.clone();
+        for rule in &mut book.rules {
+            let terms = rule.terms.iter().filter_map(|&term| match term {
+                Term::Ladder(attr, value) => instead(attr, value),
+                other => Some(other),
+            });
+            rule.terms = terms.collect();
+        }
+        book
     }
 }
 
@@ -471,6 +519,7 @@ fn term(sizes: &Sizes, kind: u8, a: u8, v: u8) -> Option<Term> {
         2 => sizes.pair(a, v).map(|(a, v)| Term::EffectivelyHolds(a, v)),
         3 if v == 0 => sizes.crew(a).map(Term::In),
         4 if v == 0 => sizes.crew(a).map(Term::EffectivelyIn),
+        5 => sizes.pair(a, v).map(|(a, v)| Term::Ladder(a, v)),
         _ => None,
     }
 }
@@ -597,6 +646,80 @@ mod tests {
         assert_eq!(refused("0101010102\n050101000002000000000000\n"), (5, 2));
         // Rules about crews name no crew.
         assert!(read(b"0101000102\n030300000000\n050100000000\n").is_ok());
+    }
+
+    /// A rule's frame as a line: the op, a and v 0, and terms.
+    fn rule_line(op: u8, terms: &[[u8; 3]]) -> String {
+        let fields = [&[3, op, 0, 0, 0, terms.len() as u8], terms.as_flattened()].concat();
+        fields.iter().map(|byte| format!("{byte:02X}")).collect::<String>() + "\n"
+    }
+
+    /// "It is legal in all six ops."
+    #[test]
+    fn ladder_terms() {
+        let lone = |head: &str, op, terms: &[[u8; 3]]| {
+            read(format!("{head}\n{}050100000000\n", rule_line(op, terms)).as_bytes())
+                .map(|book| book.rules[0].terms.clone())
+                .map_err(|refusal| (refusal.number(), refusal.line))
+        };
+        // One crew, attributes 0 and 1, values 0, 1 and 2.
+        let head = "0101010203";
+        for op in 1..=6 {
+            for (a, v) in [(0, 0), (0, 2), (1, 0), (1, 2)] {
+                assert_eq!(lone(head, op, &[[5, a, v]]), Ok(vec![Term::Ladder(Attr(a), Value(v))]), "op {op}");
+            }
+            for (a, v) in [(2, 0), (0, 3), (2, 3), (255, 0), (0, 255)] {
+                assert_eq!(lone(head, op, &[[5, a, v]]), Err((5, 2)), "op {op}, {a} {v}");
+            }
+            for kind in (0..=255).filter(|kind| !(1..=5).contains(kind)) {
+                assert_eq!(lone(head, op, &[[kind, 0, 0]]), Err((5, 2)), "op {op}, kind {kind}");
+            }
+            assert_eq!(lone(head, op, &[[5, 1, 2]; 8]).map(|terms| terms.len()), Ok(8), "op {op}");
+            assert_eq!(lone(head, op, &[[5, 1, 2]; 9]), Err((5, 2)), "op {op}");
+        }
+        // No crew: a rule about crews may have the term too; there is none to assign to or to remove from.
+        for op in 1..=4 {
+            assert_eq!(lone("0101000203", op, &[[5, 1, 2]]), Ok(vec![Term::Ladder(Attr(1), Value(2))]), "op {op}");
+        }
+        for op in 5..=6 {
+            assert_eq!(lone("0101000203", op, &[[5, 1, 2]]), Err((5, 2)), "op {op}");
+        }
+    }
+
+    /// Beside a term about a crew: 7 falls for that one alone, and 5 comes before it.
+    #[test]
+    fn ladder_terms_beside_others() {
+        let (ladder, inside, under) = ([5, 1, 2], [3, 0, 0], [4, 0, 0]);
+        let line = |op, terms: &[[u8; 3]]| format!("0101010203\n{}050100000000\n", rule_line(op, terms));
+        for op in 1..=6 {
+            for crew in [inside, under] {
+                for terms in [[ladder, crew], [crew, ladder]] {
+                    match op {
+                        1..=4 => assert_eq!(refused(&line(op, &terms)), (7, 2), "op {op}"),
+                        _ => assert!(read(line(op, &terms).as_bytes()).is_ok(), "op {op}"),
+                    }
+                }
+                for bad in [[5, 2, 0], [5, 0, 3], [6, 0, 0], [3, 1, 0], [4, 0, 1]] {
+                    assert_eq!(refused(&line(op, &[crew, bad])), (5, 2), "op {op}, {bad:?}");
+                    assert_eq!(refused(&line(op, &[bad, crew])), (5, 2), "op {op}, {bad:?}");
+                    assert_eq!(refused(&line(op, &[ladder, bad])), (5, 2), "op {op}, {bad:?}");
+                }
+            }
+        }
+    }
+
+    #[test]
+    fn ladders_in_a_book() {
+        let text = format!("0101010203\n{}{}050100000000\n", rule_line(5, &[[5, 1, 2], [3, 0, 0]]), rule_line(1, &[]));
+        let book = read(text.as_bytes()).expect("accepted");
+        assert!(book.has_ladder() && book.rules[0].has_ladder() && !book.rules[1].has_ladder());
+        let of = |book: &Book| book.rules[0].terms.clone();
+        let inside = Term::In(Crew(0));
+        assert_eq!(of(&book), [Term::Ladder(Attr(1), Value(2)), inside]);
+        assert_eq!(of(&book.ladders_cut()), [Term::EffectivelyHolds(Attr(1), Value(2)), inside]);
+        assert_eq!(of(&book.ladders_dropped()), [inside]);
+        assert!(!book.ladders_cut().has_ladder() && !book.ladders_dropped().has_ladder());
+        assert!(book.sizes.and_higher(Value(1)).eq([Value(1), Value(2)]));
     }
 
     #[test]

@@ -170,7 +170,8 @@ pub fn tangled_book(rng: &mut Rng, most: (u8, u8, u8)) -> Draft {
         // A deletion seldom goes without a term.
         if frame[1].is_multiple_of(2) && frame[5] == 0 && rng.percent(70) {
             frame[5] = 1;
-            frame.extend([rng.byte(1, 2), rng.byte(0, sizes.attrs - 1), rng.byte(0, sizes.values - 1)]);
+            let kind = rng.pick(&VALUE_KINDS);
+            frame.extend(value_term(rng, kind, &sizes));
         }
         draft.put(rng, frame);
     }
@@ -190,27 +191,28 @@ pub fn tangled_book(rng: &mut Rng, most: (u8, u8, u8)) -> Draft {
     draft
 }
 
-/// A ladder of values of attributes 0 and 1, of a person or of crews: one that must go again lets in one that may stay,
-/// which lets in the next; to delete the first takes the rung above. What is stuck comes to light rung by rung, from the
-/// top down; here and there an odd rule stops that. A value of attribute 2 rests on some rung and is wanted.
-pub fn ladder_book(rng: &mut Rng, crews: u8, rungs: u8) -> Draft {
-    let sizes = Sizes { persons: 1, crews: rng.byte(0, crews), attrs: 3, values: rng.byte(1, rungs) };
+/// A zigzag between the values of attributes 0 and 1, of a person or of crews: one that must go again lets in one that
+/// may stay, which lets in the next; to delete the first takes the one that may stay of the next bend. What is stuck
+/// comes to light bend by bend, from the last to the first; here and there an odd rule stops that. A value of attribute
+/// 2 rests on some bend and is wanted.
+pub fn zigzag_book(rng: &mut Rng, crews: u8, bends: u8) -> Draft {
+    let sizes = Sizes { persons: 1, crews: rng.byte(0, crews), attrs: 3, values: rng.byte(1, bends) };
     let on_crews = sizes.crews > 0 && rng.percent(70);
     let (add, delete) = if on_crews { (3, 4) } else { (1, 2) };
-    let kind = rng.byte(1, 2);
-    let top = sizes.values - 1;
+    let kind = rng.pick(&VALUE_KINDS);
+    let last = sizes.values - 1;
     let mut frames = Vec::new();
-    for n in 0..=top {
+    for n in 0..=last {
         frames.push(if n == 0 { vec![3, add, 0, 0, 0, 0] } else { vec![3, add, 0, 0, n, 1, kind, 1, n - 1] });
         frames.push(vec![3, add, 0, 1, n, 1, kind, 0, n]);
-        if n < top {
+        if n < last {
             frames.push(vec![3, delete, 0, 0, n, 1, kind, 1, n + 1]);
         }
-        if n == top && rng.percent(40) || rng.percent(8) {
+        if n == last && rng.percent(40) || rng.percent(8) {
             frames.push(vec![3, delete, 0, 0, n, 0]);
         }
     }
-    frames.push(vec![3, add, 0, 2, 0, 1, kind, 1, rng.byte(0, top)]);
+    frames.push(vec![3, add, 0, 2, 0, 1, kind, 1, rng.byte(0, last)]);
     let odd = Shape { sizes, edges: 0, rules: 0, terms: 2, facts: 0, roles: 1 };
     for _ in 0..rng.below(4) {
         frames.push(rule(rng, &odd));
@@ -224,9 +226,70 @@ pub fn ladder_book(rng: &mut Rng, crews: u8, rungs: u8) -> Draft {
     }
     frames.insert(0, vec![1, 1, sizes.crews, 3, sizes.values]);
     let mut query = vec![5, 2, 0, 0, 1, 2, 0, 0, 0, 2, 0, rng.byte(0, 1)];
-    query.extend(sizes.crews.checked_sub(1).map_or(0, |last| 1_u32 << last).to_be_bytes());
+    query.extend(sizes.crews.checked_sub(1).map_or(0, |crew| 1_u32 << crew).to_be_bytes());
     frames.push(query);
     Draft { sizes, frames }
+}
+
+/// A depot with grades, the values of attribute 0: few of them can be had, and what else is wanted, assignments and
+/// deletions too, rests on a grade or any higher by ladder terms. In mode 02 the grades have to go again half the time.
+///
+/// `most` bounds crews, attributes from 2 on and values from 2 on.
+pub fn graded_book(rng: &mut Rng, most: (u8, u8, u8)) -> Draft {
+    let sizes =
+        Sizes { persons: 1, crews: rng.byte(0, most.0), attrs: rng.byte(2, most.1), values: rng.byte(2, most.2) };
+    let mut frames = Vec::new();
+    for _ in 0..=rng.below(2) {
+        let grade = rng.byte(0, sizes.values - 1);
+        let add = if sizes.crews > 0 && rng.percent(50) { 3 } else { 1 };
+        if rng.percent(70) {
+            let terms = rng.byte(0, 1);
+            frames.push(graded_rule(rng, &sizes, [add, 0, grade], terms));
+        } else {
+            frames.push(vec![4, add.div_ceil(2), 0, 0, grade]);
+        }
+        let terms = rng.byte(0, 2);
+        frames.push(graded_rule(rng, &sizes, [add + 1, 0, grade], terms));
+    }
+    for attr in 1..sizes.attrs {
+        let op = if sizes.crews > 0 && rng.percent(30) { 3 } else { 1 };
+        frames.push(graded_rule(rng, &sizes, [op, attr, 0], 1));
+    }
+    for crew in 0..sizes.crews {
+        let terms = rng.byte(0, 1);
+        frames.push(graded_rule(rng, &sizes, [5, crew, 0], terms));
+        frames.push(graded_rule(rng, &sizes, [6, crew, 0], 1));
+        if crew > 0 && rng.percent(70) {
+            frames.push(vec![2, crew, rng.byte(0, crew - 1)]);
+        }
+    }
+    let odd = Shape { sizes, edges: 0, rules: 0, terms: 2, facts: 0, roles: 1 };
+    for _ in 0..rng.below(4) {
+        frames.push(rule(rng, &odd));
+    }
+    frames.insert(0, vec![1, 1, sizes.crews, sizes.attrs, sizes.values]);
+    let exact = rng.percent(60);
+    let gone = exact && rng.percent(50);
+    let mut query = vec![5, if exact { 2 } else { 1 }, 0, 0, 1, sizes.attrs - u8::from(!gone)];
+    for attr in u8::from(!gone)..sizes.attrs {
+        query.extend([attr, 0, u8::from(attr > 0)]);
+    }
+    if exact {
+        let crews = if rng.percent(50) { rng.bits() as u32 & sizes.all_crews() } else { 0 };
+        query.extend(crews.to_be_bytes());
+    }
+    frames.push(query);
+    Draft { sizes, frames }
+}
+
+/// A rule of role 0 for op, a and v, with so many ladder terms, about grades most of the time.
+fn graded_rule(rng: &mut Rng, sizes: &Sizes, [op, a, v]: [u8; 3], terms: u8) -> Vec<u8> {
+    let mut frame = vec![3, op, 0, a, v, terms];
+    for _ in 0..terms {
+        let attr = if rng.percent(85) { 0 } else { rng.byte(0, sizes.attrs - 1) };
+        frame.extend([5, attr, rng.byte(0, sizes.values - 1)]);
+    }
+    frame
 }
 
 /// A depot of any size up to the largest.
@@ -285,15 +348,21 @@ fn rule(rng: &mut Rng, shape: &Shape) -> Vec<u8> {
     }
     frame.push(n);
     for _ in 0..n {
-        let kind = rng.byte(1, if op < 5 { 2 } else { 4 });
-        frame.push(kind);
-        if kind < 3 {
-            frame.extend([rng.byte(0, sizes.attrs - 1), rng.byte(0, sizes.values - 1)]);
+        let kind = if op < 5 { rng.pick(&VALUE_KINDS) } else { rng.byte(1, 5) };
+        if VALUE_KINDS.contains(&kind) {
+            frame.extend(value_term(rng, kind, sizes));
         } else {
-            frame.extend([rng.byte(0, sizes.crews - 1), 0]);
+            frame.extend([kind, rng.byte(0, sizes.crews - 1), 0]);
         }
     }
     frame
+}
+
+/// The kinds of terms about values, which every op may have.
+const VALUE_KINDS: [u8; 3] = [1, 2, 5];
+
+fn value_term(rng: &mut Rng, kind: u8, sizes: &Sizes) -> [u8; 3] {
+    [kind, rng.byte(0, sizes.attrs - 1), rng.byte(0, sizes.values - 1)]
 }
 
 fn fact(rng: &mut Rng, sizes: &Sizes) -> Vec<u8> {
@@ -411,7 +480,7 @@ pub fn damaged_book(rng: &mut Rng, number: u8, draft: &Draft) -> Option<(Vec<u8>
         }
         7 => {
             let last = draft.sizes.crews.checked_sub(1)?;
-            let mut frame = vec![3, rng.byte(1, 4), rng.byte(0, 15), 0, 0, 2, 1, 0, 0];
+            let mut frame = vec![3, rng.byte(1, 4), rng.byte(0, 15), 0, 0, 2, rng.pick(&VALUE_KINDS), 0, 0];
             let at = rng.pick(&[6, 9]);
             frame.splice(at..at, [rng.byte(3, 4), rng.byte(0, last), 0]);
             let at = draft.put(rng, frame);
@@ -504,7 +573,7 @@ fn bad_range(rng: &mut Rng, draft: &mut Draft) -> (Vec<u8>, usize) {
         2 => {
             let mut nine = vec![3, 1, 0, 0, 0, 9];
             nine.extend([1, 0, 0].repeat(9));
-            let frames: [&[u8]; 16] = [
+            let frames: [&[u8]; 21] = [
                 &[3, 0, 0, 0, 0, 0],
                 &[3, 7, 0, 0, 0, 0],
                 &[3, 1, 16, 0, 0, 0],
@@ -515,11 +584,16 @@ fn bad_range(rng: &mut Rng, draft: &mut Draft) -> (Vec<u8>, usize) {
                 &[3, 6, 0, g, 0, 0],
                 &[3, 5, 0, 0, 1, 0],
                 &[3, 1, 0, 0, 0, 1, 0, 0, 0],
-                &[3, 1, 0, 0, 0, 1, 5, 0, 0],
+                &[3, 1, 0, 0, 0, 1, 6, 0, 0],
+                &[3, 4, 0, 0, 0, 1, 255, 0, 0],
                 &[3, 1, 0, 0, 0, 1, 1, a, 0],
                 &[3, 1, 0, 0, 0, 1, 2, 0, v],
                 &[3, 1, 0, 0, 0, 1, 3, g, 0],
                 &[3, 1, 0, 0, 0, 1, 4, 0, 1],
+                &[3, 2, 0, 0, 0, 1, 5, a, 0],
+                &[3, 3, 0, 0, 0, 1, 5, 0, v],
+                &[3, 6, 0, 0, 0, 1, 5, 0, v],
+                &[3, 1, 0, 0, 0, 2, 3, 0, 0, 5, a, 0],
                 &nine,
             ];
             let frame = rng.pick(&frames).to_vec();

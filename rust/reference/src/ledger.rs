@@ -186,12 +186,14 @@ impl<'b> Depot<'b> {
     /// Whether a term holds of the subject of a fact.
     #[must_use]
     pub fn term_holds(&self, ledger: &Ledger, fact: Fact, term: Term) -> bool {
+        let sizes = &self.book.sizes;
         let person = match fact {
             Fact::PersonHolds(person, ..) | Fact::PersonIn(person, _) => person,
             Fact::CrewHolds(crew, ..) => {
                 return match term {
                     Term::Holds(a, v) => ledger.has(Fact::CrewHolds(crew, a, v)),
                     Term::EffectivelyHolds(a, v) => self.crew_holds(ledger, crew, a, v),
+                    Term::Ladder(a, v) => sizes.and_higher(v).any(|w| self.crew_holds(ledger, crew, a, w)),
                     Term::In(_) | Term::EffectivelyIn(_) => false,
                 }
             }
@@ -199,6 +201,7 @@ impl<'b> Depot<'b> {
         match term {
             Term::Holds(a, v) => ledger.has(Fact::PersonHolds(person, a, v)),
             Term::EffectivelyHolds(a, v) => self.person_holds(ledger, person, a, v),
+            Term::Ladder(a, v) => sizes.and_higher(v).any(|w| self.person_holds(ledger, person, a, w)),
             Term::In(c) => ledger.has(Fact::PersonIn(person, c)),
             Term::EffectivelyIn(c) => self.person_in(ledger, person) >> c.0 & 1 == 1,
         }
@@ -405,6 +408,111 @@ mod tests {
         assert_eq!(show(text.as_bytes(), &ledger, 0).expect("shown").sets[0], 1);
     }
 
+    /// Two persons, crew 1 the senior of crew 0, attributes 0 and 1, values 0, 1 and 2.
+    const GRADES: &str = "0102020203\n020100\n";
+
+    /// Whether a request is carried out under a book of these rules and starting facts.
+    fn done(rules: &str, facts: &[&str], request_bytes: [u8; 5]) -> bool {
+        let facts: String = facts.iter().map(|fact| format!("04{fact}\n")).collect();
+        let text = format!("{GRADES}{rules}{facts}050100000000\n");
+        let mut ledger = opened(&text);
+        match request(text.as_bytes(), &mut ledger, &request_bytes) {
+            Ok(()) => true,
+            Err(refusal) => {
+                assert_eq!(refusal, Refusal::NotPermitted);
+                assert_eq!(ledger, opened(&text));
+                false
+            }
+        }
+    }
+
+    /// Person 0 in crew 0, and in crew 1.
+    const IN_0: &str = "03000000";
+    const IN_1: &str = "03000100";
+
+    /// "holds when the subject effectively holds v or any higher value of a": v is 1, and of 0 to 2 this leaves out 0.
+    #[test]
+    fn a_ladder_about_a_person() {
+        let of_person_0 = |v: u8| format!("010000{v:02X}");
+        let of_crew_0 = |v: u8| format!("020000{v:02X}");
+        let of_crew_1 = |v: u8| format!("020100{v:02X}");
+        // Ops 01, 02, 05 and 06, each on person 0, and crew 1 for the last two.
+        let requests =
+            [("01", [1, 0, 0, 1, 0]), ("02", [2, 0, 0, 1, 0]), ("05", [5, 0, 0, 1, 0]), ("06", [6, 0, 0, 1, 0])];
+        for (op, asked) in requests {
+            let rule = format!("03{op}00010001050001\n");
+            let done = |facts: &[&str]| done(&rule, facts, asked);
+            assert!(!done(&[]), "op {op}");
+            for (v, met) in [(0, false), (1, true), (2, true)] {
+                assert_eq!(done(&[&of_person_0(v)]), met, "op {op}, value {v} directly");
+                assert_eq!(done(&[&of_crew_0(v), IN_0]), met, "op {op}, value {v} by a crew");
+                assert_eq!(done(&[&of_crew_0(v), IN_1]), met, "op {op}, value {v} by a junior of the crew");
+                assert!(!done(&[&of_crew_1(v), IN_0]), "op {op}, value {v} of a senior of the crew");
+                assert!(!done(&[&of_crew_0(v)]) && !done(&[&of_crew_1(v)]), "op {op}, value {v} of another's crew");
+                assert!(!done(&[&format!("010100{v:02X}")]), "op {op}, value {v} of another person");
+                assert!(!done(&[&format!("010001{v:02X}")]), "op {op}, value {v} of another attribute");
+            }
+            // The higher value may come from elsewhere than the lower ones.
+            assert!(done(&[&of_person_0(0), &of_crew_0(2), IN_1]), "op {op}");
+            assert!(!done(&[&of_person_0(0), &of_crew_0(0), IN_1]), "op {op}");
+        }
+    }
+
+    /// The same of crew 1, ops 03 and 04: persons play no part, whoever is in it.
+    #[test]
+    fn a_ladder_about_a_crew() {
+        for (op, asked) in [("03", [3, 0, 1, 1, 0]), ("04", [4, 0, 1, 1, 0])] {
+            let rule = format!("03{op}00010001050001\n");
+            let done = |facts: &[&str], asked| done(&rule, facts, asked);
+            for (v, met) in [(0, false), (1, true), (2, true)] {
+                assert_eq!(done(&[&format!("020100{v:02X}")], asked), met, "op {op}, value {v} directly");
+                assert_eq!(done(&[&format!("020000{v:02X}")], asked), met, "op {op}, value {v} by its junior");
+                assert!(!done(&[&format!("010000{v:02X}"), IN_1], asked), "op {op}, value {v} of a person in it");
+                let junior = [asked[0], 0, 0, 1, 0];
+                assert!(!done(&[&format!("020100{v:02X}")], junior), "op {op}, value {v} of its senior");
+            }
+        }
+    }
+
+    /// "all terms hold of the subject before the request"
+    #[test]
+    fn a_ladder_is_judged_before_the_request() {
+        // Deleting w needs v or any higher of the same attribute, and w alone is held.
+        for (v, w) in [(0, 0), (0, 1), (0, 2), (1, 0), (1, 1), (1, 2), (2, 0), (2, 1), (2, 2)] {
+            for (op, kind) in [(2, 1), (4, 2)] {
+                let rule = format!("03{op:02X}0000{w:02X}010500{v:02X}\n");
+                let fact = format!("{kind:02X}0000{w:02X}");
+                assert_eq!(done(&rule, &[&fact], [op, 0, 0, 0, w]), w >= v, "op {op}, {v} {w}");
+                assert!(!done(&rule, &[], [op, 0, 0, 0, w]));
+            }
+        }
+        // A removal rests on the value of the crew that is left, and an assignment not on that of the crew joined.
+        for v in 0..3 {
+            let junior = format!("020000{v:02X}");
+            for (crew, inside) in [(0, IN_0), (1, IN_1)] {
+                let rules = format!("0306000{crew}0001050001\n0305000{crew}0001050001\n");
+                assert_eq!(done(&rules, &[&junior, inside], [6, 0, 0, crew, 0]), v >= 1, "crew {crew}, value {v}");
+                assert!(!done(&rules, &[&junior], [5, 0, 0, crew, 0]), "crew {crew}, value {v}");
+            }
+        }
+    }
+
+    /// At the largest sizes: each crew above the one before it, crew 0 holds one value of attribute 7, and person 63 is
+    /// in crew 31.
+    #[test]
+    fn a_ladder_through_all_crews() {
+        let edges: String = (1..32).map(|senior| format!("02{senior:02X}{:02X}\n", senior - 1)).collect();
+        for (v, w) in [(0, 15), (14, 15), (15, 15), (0, 0), (15, 14), (15, 0), (8, 7)] {
+            let rule = format!("0301000000010507{v:02X}\n");
+            let text = format!("0140200810\n{edges}{rule}04020007{w:02X}\n04033F1F00\n050100000000\n");
+            let mut ledger = opened(&text);
+            let refused = Err(Refusal::NotPermitted);
+            assert_eq!(request(text.as_bytes(), &mut ledger, &[1, 0, 62, 0, 0]), refused);
+            let expected = if w >= v { Ok(()) } else { refused };
+            assert_eq!(request(text.as_bytes(), &mut ledger, &[1, 0, 63, 0, 0]), expected, "{v} {w}");
+        }
+    }
+
     #[test]
     fn the_tables_examples() {
         let text = book("030100000000\n");
@@ -468,12 +576,18 @@ mod tests {
                     for c in crews(book.sizes.all_crews()) {
                         let held = holds_by_juniors(&book, &ledger, c, a, v);
                         assert_eq!(depot.crew_holds(&ledger, c, a, v), held);
+                        let rest = |w| holds_by_juniors(&book, &ledger, c, a, Value(w));
+                        let ladder = (v.0..book.sizes.values).any(rest);
+                        assert_eq!(depot.term_holds(&ledger, Fact::CrewHolds(c, a, v), Term::Ladder(a, v)), ladder);
                     }
                     for p in (0..book.sizes.persons).map(Person) {
                         let by_crew = |c| holds_by_juniors(&book, &ledger, c, a, v);
                         let held = ledger.has(Fact::PersonHolds(p, a, v)) || crews(ledger.memberships(p)).any(by_crew);
                         assert_eq!(depot.person_holds(&ledger, p, a, v), held);
-                        assert_eq!(depot.person_set(&ledger, p, a) >> v.0 & 1 == 1, held);
+                        let set = depot.person_set(&ledger, p, a);
+                        assert_eq!(set >> v.0 & 1 == 1, held);
+                        let ladder = depot.term_holds(&ledger, Fact::PersonHolds(p, a, v), Term::Ladder(a, v));
+                        assert_eq!(ladder, set >> v.0 != 0);
                     }
                 }
             }

@@ -1,4 +1,4 @@
-//! Crew books, ledgers and plans, written a second time from the paper and for tests only.
+//! Crew books, ledgers and plans, written a second time from the papers and for tests only.
 //!
 //! * [`book`]: characters become a book, or refusal 1-9 with its line.
 //! * [`ledger`]: open, request and show, with refusals 11-13.
@@ -6,7 +6,7 @@
 //! * [`plan`]: no way or a plan, with refusal 10; by two methods.
 //! * [`gen`]: seeded books, ledgers and requests, good and damaged.
 //!
-//! Sentences in quotation marks are the paper's.
+//! Sentences in quotation marks are the papers': those on ladder terms, kind 05, stand in Wish 1 of the second.
 
 #![forbid(unsafe_code)]
 #![warn(missing_docs)]

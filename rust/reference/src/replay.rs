@@ -106,6 +106,22 @@ mod tests {
         assert_eq!(verdict(d9, &[zero, zero]), Verdict::StopsAt(2));
     }
 
+    /// Grade 1 or any higher lets role 1 assign; crew 0 holds grade 0.
+    #[test]
+    fn a_ladder_in_a_list() {
+        let rules = "030100000200\n030100000000\n030501000001050001\n030600000001050001\n030200000201050002\n";
+        let text = format!("0101010103\n{rules}0402000000\n050100000301000001\n");
+        let (low, high) = ([1, 0, 0, 0, 0], [1, 0, 0, 0, 2]);
+        let (leave, drop) = ([6, 0, 0, 0, 0], [2, 0, 0, 0, 2]);
+        assert_eq!(verdict(&text, &[ASSIGN]), Verdict::StopsAt(1));
+        assert_eq!(verdict(&text, &[low, ASSIGN]), Verdict::StopsAt(2));
+        assert_eq!(verdict(&text, &[high, ASSIGN]), Verdict::Reaches);
+        assert_eq!(verdict(&text, &[high, ASSIGN, drop]), Verdict::Reaches);
+        assert_eq!(verdict(&text, &[high, ASSIGN, drop, drop]), Verdict::StopsAt(4));
+        assert_eq!(verdict(&text, &[high, ASSIGN, drop, leave]), Verdict::StopsAt(4));
+        assert_eq!(verdict(&text, &[high, ASSIGN, leave]), Verdict::EndsShort);
+    }
+
     #[test]
     fn the_tables_example() {
         assert_eq!(replay(D1.as_bytes(), &[0; 7]), Err(Refusal::Length));

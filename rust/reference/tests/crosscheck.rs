@@ -27,12 +27,14 @@ fn small(depots: usize, seed: u64, mut draw: impl FnMut(&mut Rng) -> gen::Draft)
 fn small_depots() {
     let counts = small(40_000, 0x0B1C_0001, gen::small_book);
     assert!(counts.no_way > 10_000 && counts.moved > 5_000 && counts.deleting > 2_000 && counts.detours > 100);
+    assert!(counts.ladders > 20_000 && counts.plans_by_ladder > 50 && counts.no_way_by_ladder > 200);
 }
 
 #[test]
 fn small_depots_with_an_aimed_query() {
     let counts = small(50_000, 0x0B1C_0002, gen::small_aimed_book);
     assert!(counts.no_way > 5_000 && counts.moved > 10_000 && counts.deleting > 5_000 && counts.detours > 200);
+    assert!(counts.ladders > 20_000 && counts.plans_by_ladder > 100 && counts.no_way_by_ladder > 200);
 }
 
 #[test]
@@ -42,11 +44,18 @@ fn small_tangled_depots() {
 }
 
 #[test]
-fn small_ladders() {
-    let counts = small(10_000, 0x0B1C_0007, |rng| gen::ladder_book(rng, 0, 4));
+fn small_zigzags() {
+    let counts = small(10_000, 0x0B1C_0007, |rng| gen::zigzag_book(rng, 0, 4));
     assert!(counts.no_way > 1_000 && counts.detours > 1_500);
-    let counts = small(10_000, 0x0B1C_0008, |rng| gen::ladder_book(rng, 2, 2));
+    let counts = small(10_000, 0x0B1C_0008, |rng| gen::zigzag_book(rng, 2, 2));
     assert!(counts.no_way > 1_000 && counts.detours > 500);
+}
+
+#[test]
+fn small_grades() {
+    let counts = small(30_000, 0x0B1C_000A, |rng| gen::graded_book(rng, (2, 2, 4)));
+    assert!(counts.no_way > 5_000 && counts.deleting > 1_000 && counts.detours > 500);
+    assert!(counts.plans_by_ladder > 1_000 && counts.no_way_by_ladder > 5_000);
 }
 
 /// The greatest set once more, without columns or sleeping rules: every fact is tried by the ledger's own definitions
@@ -172,25 +181,26 @@ fn middle_depots() {
 }
 
 #[test]
-fn tangles_and_ladders() {
+fn tangles_zigzags_and_grades() {
     let mut rng = Rng::new(0x0B1C_0009);
     let mut plans = 0;
-    for round in 0..6_000 {
-        let draft = match round % 3 {
+    for round in 0..8_000 {
+        let draft = match round % 4 {
             0 => gen::tangled_book(&mut rng, (4, 3, 5)),
-            1 => gen::ladder_book(&mut rng, 6, 16),
-            _ => gen::ladder_book(&mut rng, 0, 16),
+            1 => gen::zigzag_book(&mut rng, 6, 16),
+            2 => gen::zigzag_book(&mut rng, 0, 16),
+            _ => gen::graded_book(&mut rng, (6, 8, 16)),
         };
         let text = draft.text();
         let book = book::read(&text).expect("a good book");
         plans += usize::from(same(&book, &text));
     }
     for _ in 0..20 {
-        let text = gen::ladder_book(&mut rng, 32, 16).text();
+        let text = gen::zigzag_book(&mut rng, 32, 16).text();
         let book = book::read(&text).expect("a good book");
         plans += usize::from(same(&book, &text));
     }
-    println!("6020 depots, {plans} plans");
+    println!("8020 depots, {plans} plans");
 }
 
 /// A query that is aimed at a ledger which a walk has reached has a plan, whatever the size.

@@ -19,6 +19,8 @@
 //! Each fact put in keeps its rule and its turn. To take a fact back, all facts are withdrawn whose rule may have looked
 //! at it, and theirs in turn; then the withdrawn ones are tried again. What was not withdrawn rests on earlier turns only.
 
+use std::ops::RangeInclusive;
+
 use crate::book::{Attr, Book, Crew, Fact, Mode, Person, Role, Rule, Term, Value, Way, What, MOST_CREWS};
 use crate::book::{MOST_ATTRS, MOST_RULES, MOST_TERMS, MOST_VALUES};
 use crate::ledger::{crews, numbers, Request};
@@ -253,8 +255,9 @@ impl ForWhom {
 struct Trial {
     role: Role,
     what: What,
-    /// Columns that must be held directly, then columns that must be held effectively.
-    columns: [u8; MOST_TERMS],
+    /// The columns that must be held directly, then those of which one must be held effectively: one column alone, or
+    /// for a ladder term a value's and those of all higher ones.
+    columns: [Columns; MOST_TERMS],
     direct: u8,
     all: u8,
     /// For a value: on whom it is tried. For a crew: who may hold an effective column, the person or, in a removal, the
@@ -265,8 +268,29 @@ struct Trial {
     under: u32,
 }
 
+/// Columns of one attribute, first and last.
+#[derive(Clone, Copy, Default)]
+struct Columns {
+    first: u8,
+    last: u8,
+}
+
+impl Columns {
+    fn one(attr: Attr, value: Value) -> Self {
+        Columns::from_to(attr, value, value)
+    }
+
+    fn from_to(attr: Attr, low: Value, high: Value) -> Self {
+        Columns { first: column(attr, low) as u8, last: column(attr, high) as u8 }
+    }
+
+    fn iter(self) -> RangeInclusive<usize> {
+        self.first.into()..=self.last.into()
+    }
+}
+
 impl Trial {
-    fn new(rule: &Rule, tree: &Tree) -> Self {
+    fn new(rule: &Rule, highest: Value, tree: &Tree) -> Self {
         let mut scope = match rule.what {
             What::OfCrew(..) => CREWS,
             What::OfPerson(..) | What::Membership(_) => PERSON,
@@ -275,8 +299,9 @@ impl Trial {
         let (mut inside, mut under) = (0, 0);
         for &term in &rule.terms {
             match term {
-                Term::Holds(attr, value) => direct.push(column(attr, value)),
-                Term::EffectivelyHolds(attr, value) => effective.push(column(attr, value)),
+                Term::Holds(attr, value) => direct.push(Columns::one(attr, value)),
+                Term::EffectivelyHolds(attr, value) => effective.push(Columns::one(attr, value)),
+                Term::Ladder(attr, value) => effective.push(Columns::from_to(attr, value, highest)),
                 Term::In(crew) => inside |= 1 << crew.0,
                 Term::EffectivelyIn(crew) => under |= 1 << crew.0,
             }
@@ -284,8 +309,9 @@ impl Trial {
         if rule.way == Way::Delete {
             match rule.what {
                 What::OfPerson(attr, value) | What::OfCrew(attr, value) => {
-                    direct.retain(|&other| other != column(attr, value));
-                    effective.retain(|&other| other != column(attr, value));
+                    let own = column(attr, value);
+                    direct.retain(|columns| !columns.iter().contains(&own));
+                    effective.retain(|columns| !columns.iter().contains(&own));
                 }
                 What::Membership(crew) => {
                     scope |= 1 << crew.0;
@@ -294,20 +320,20 @@ impl Trial {
                 }
             }
         }
-        let mut columns = [0; MOST_TERMS];
-        for (to, &column) in columns.iter_mut().zip(direct.iter().chain(&effective)) {
-            *to = column as u8;
+        let mut columns = [Columns::default(); MOST_TERMS];
+        for (to, &from) in columns.iter_mut().zip(direct.iter().chain(&effective)) {
+            *to = from;
         }
         let (direct, all) = (direct.len() as u8, (direct.len() + effective.len()) as u8);
         Trial { role: rule.role, what: rule.what, columns, direct, all, scope, inside, under }
     }
 
     fn direct(&self) -> impl Iterator<Item = usize> + '_ {
-        self.columns[..self.direct.into()].iter().map(|&column| column.into())
+        self.columns[..self.direct.into()].iter().map(|columns| columns.first.into())
     }
 
-    fn effective(&self) -> impl Iterator<Item = usize> + '_ {
-        self.columns[self.direct.into()..self.all.into()].iter().map(|&column| column.into())
+    fn effective(&self) -> impl Iterator<Item = RangeInclusive<usize>> + '_ {
+        self.columns[self.direct.into()..self.all.into()].iter().map(|columns| columns.iter())
     }
 
     /// On whom of a column's set the rule may be used.
@@ -316,8 +342,8 @@ impl Trial {
         for column in self.direct() {
             on &= state.facts.columns[column];
         }
-        for column in self.effective() {
-            on &= state.effective[column];
+        for columns in self.effective() {
+            on &= columns.fold(0, |set, column| set | state.effective[column]);
         }
         on
     }
@@ -327,7 +353,7 @@ impl Trial {
         self.inside & !state.facts.memberships == 0
             && self.under & !state.under == 0
             && self.direct().all(|column| state.facts.columns[column] & PERSON != 0)
-            && self.effective().all(|column| state.effective[column] & self.scope != 0)
+            && self.effective().all(|mut columns| columns.any(|column| state.effective[column] & self.scope != 0))
     }
 }
 
@@ -343,13 +369,14 @@ impl Moves {
             gives: [ForWhom::NONE; COLUMNS],
             lets_in: [Rules::NONE; MOST_CREWS],
         };
+        let highest = Value(book.sizes.values - 1);
         for rule in book.rules.iter().filter(|rule| rule.way == way && book.query.has_role(rule.role)) {
             let n = moves.rules.len();
-            let trial = Trial::new(rule, tree);
+            let trial = Trial::new(rule, highest, tree);
             for column in trial.direct() {
                 moves.direct[column].watch(n, trial.scope);
             }
-            for column in trial.effective() {
+            for column in trial.effective().flatten() {
                 moves.effective[column].watch(n, trial.scope);
             }
             for crew in crews(trial.inside) {

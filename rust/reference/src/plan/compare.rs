@@ -27,6 +27,12 @@ pub struct Counts {
     pub as_short: usize,
     /// The most requests of a shortest plan.
     pub longest: usize,
+    /// Depots with a ladder term.
+    pub ladders: usize,
+    /// A plan, though there is no way with kind 02 in the place of each ladder term.
+    pub plans_by_ladder: usize,
+    /// No way, though there is a plan without the ladder terms.
+    pub no_way_by_ladder: usize,
 }
 
 impl Counts {
@@ -40,10 +46,12 @@ impl Counts {
         let exact = matches!(book.query.mode, Mode::Exactly { .. });
         self.depots += 1;
         self.exact += usize::from(exact);
+        self.ladders += usize::from(book.has_ladder());
         match (shortest, closure::plan(book)) {
             (None, None) => {
                 self.no_way += 1;
                 self.no_way_exact += usize::from(exact);
+                self.no_way_by_ladder += usize::from(closure::plan(&book.ladders_dropped()).is_some());
                 Ok(())
             }
             (Some(shortest), Some(plan)) => {
@@ -59,6 +67,7 @@ impl Counts {
                 self.detours += usize::from(shortest.iter().any(|r| r.way == Way::Add && deleted(r.fact)));
                 self.as_short += usize::from(plan.len() == shortest.len());
                 self.longest = self.longest.max(shortest.len());
+                self.plans_by_ladder += usize::from(closure::plan(&book.ladders_cut()).is_none());
                 Ok(())
             }
             (Some(_), None) => Err("search finds a plan, closure none".to_owned()),

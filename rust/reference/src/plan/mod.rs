@@ -142,6 +142,87 @@ mod tests {
         assert_eq!(counts(&two(d12, in_crew_0)), None, "D12");
     }
 
+    /// A book of one person, two crews with crew 1 the senior, attributes 0 and 1, values 0, 1 and 2.
+    fn graded(frames: &str, query: &str) -> String {
+        format!("0101020203\n020100\n{frames}{query}\n")
+    }
+
+    /// Grades are the values of attribute 0. Value 0 of attribute 1 is wanted, which needs grade 1 or any higher.
+    #[test]
+    fn ladders_that_add() {
+        let wanted = "050100FFFF01010001";
+        let lane = "030100010001050001\n";
+        let count = |frames: &str| counts(&graded(&format!("{lane}{frames}"), wanted));
+        assert_eq!(count(""), None, "no grade");
+        assert_eq!(count("0401000000\n"), None, "a lower grade");
+        assert_eq!(count("0401000001\n"), Some((1, 1)), "that grade");
+        assert_eq!(count("0401000002\n"), Some((1, 1)), "a higher grade");
+        assert_eq!(count("0402000002\n0403000000\n"), Some((1, 1)), "by a crew");
+        assert_eq!(count("0402000002\n0403000100\n"), Some((1, 1)), "by a junior of the crew");
+        assert_eq!(count("0402010002\n0403000000\n"), None, "by a senior of the crew");
+        assert_eq!(count("030100000200\n"), Some((2, 2)), "the highest grade added first");
+        assert_eq!(count("030100000000\n"), None, "the lowest alone can be added");
+        assert_eq!(count("0402000002\n030500010000\n"), Some((2, 2)), "assigned first");
+        assert_eq!(count("030300000200\n030500010000\n").map(|(shortest, _)| shortest), Some(3), "a crew's first");
+        // Joining crew 1 needs the grade that its junior holds.
+        assert_eq!(count("0402000002\n030500010001050001\n"), None, "assigned by what the crew would bring");
+        // A crew's own ladder: crew 1 may be given grade 1 through the grade 2 of its junior, and so the person.
+        let text = graded("030300000101050002\n0402000002\n0403000100\n", "050100FFFF01000002");
+        assert_eq!(counts(&text).map(|(shortest, _)| shortest), Some(1), "by a junior's grade");
+        assert_eq!(counts(&text.replace("0402000002", "0402000000")), None, "by a lower one");
+        // 02 in its place asks for that grade alone.
+        let lane = lane.replace("050001", "020001");
+        assert_eq!(counts(&graded(&format!("{lane}0401000002\n"), wanted)), None, "kind 02");
+        assert_eq!(counts(&graded(&format!("{lane}0401000001\n"), wanted)), Some((1, 1)), "kind 02");
+    }
+
+    /// "exactly": no grade and no crew is left.
+    #[test]
+    fn ladders_that_delete() {
+        let none = "050200FFFF0100000000000000";
+        let count = |frames: &str| counts(&graded(frames, none));
+        // To delete grade w needs grade v or any higher, and w alone is held: its own fact serves from v on.
+        for v in 0..3 {
+            for w in 0..3 {
+                let frames = format!("04010000{w:02X}\n03020000{w:02X}010500{v:02X}\n");
+                assert_eq!(count(&frames), (w >= v).then_some((1, 1)), "{v} {w}");
+                let frames = format!("0403000000\n04020000{w:02X}\n030600000001 0500{v:02X}\n").replace(' ', "");
+                assert_eq!(count(&frames), (w >= v).then_some((1, 1)), "removed, {v} {w}");
+            }
+        }
+        // As D5: 0 goes while 2 is there.
+        let both = "0401000000\n0401000002\n";
+        assert_eq!(count(&format!("{both}030200000001050001\n030200000200\n")), Some((2, 2)));
+        // As D3: 2 goes while 0 is there, and 0 while 1 or higher is. With 0 or higher, 0 goes by itself.
+        assert_eq!(count(&format!("{both}030200000001050001\n030200000201020000\n")), None);
+        assert_eq!(count(&format!("{both}030200000001050000\n030200000201020000\n")), Some((2, 2)));
+        // In both crews, one of which holds grade 2: whichever is left last is left by its own grade.
+        let frames = "0402000002\n0403000000\n0403000100\n030600000001050001\n030600010001050002\n";
+        assert_eq!(count(frames), Some((2, 2)), "crew 0 holds it, and crew 1 by its junior");
+        assert_eq!(count(&frames.replace("0402000002", "0402010002")), Some((2, 2)), "crew 1 alone holds it");
+        assert_eq!(count(&frames.replace("0402000002", "0402010001")), None, "leaving crew 1 needs grade 2");
+    }
+
+    /// A grade is had for a while: it gives a value that stays, and goes by its own fact.
+    #[test]
+    fn a_ladder_on_a_detour() {
+        let rules = "030100000200\n030100010001050001\n";
+        let exact = "050200FFFF0200000001000100000000";
+        assert_eq!(counts(&graded(rules, exact)), None);
+        assert_eq!(counts(&graded(&format!("{rules}030200000201050001\n"), exact)), Some((3, 3)));
+        assert_eq!(counts(&graded(&format!("{rules}030200000201050100\n"), exact)), Some((3, 3)));
+        assert_eq!(counts(&graded(&format!("{rules}030200000201050101\n"), exact)), None);
+    }
+
+    /// Without crews the term is legal as well, in rules about crews too.
+    #[test]
+    fn a_ladder_without_crews() {
+        let rules = "030100000001050001\n030300000001050001\n030400000001050001\n";
+        let text = format!("0101000103\n{rules}0401000002\n050100FFFF01000001\n");
+        assert_eq!(counts(&text), Some((1, 1)));
+        assert_eq!(counts(&text.replace("0401000002\n", "")), None);
+    }
+
     #[test]
     fn the_printed_output() {
         assert_eq!(printed(D1.as_bytes()), "810002\n0100000001\n0501000000\n");
