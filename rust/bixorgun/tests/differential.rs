@@ -3,6 +3,8 @@
 //! Each case is drawn from its own seed; a case that fails prints the seed and the book. Each run counts what it saw and
 //! wants every refusal of every operation, and every answer, at least once. The plan alone is left open: of it the runs
 //! want that both say no way or both plan, and that both accept both plans.
+//!
+//! Ladder terms are drawn in every op. Each run of drawn books counts what rests on one, and wants all or some of it.
 
 use std::env;
 use std::fs;
@@ -13,7 +15,7 @@ use bixorgun::bytes::{self, Planned, Shown};
 use bixorgun::{Attr, Book, Judgement, Ledger, Person, Refusal, Request, LEDGER_SIZE, PLAN_MAX, VIEW_SIZE};
 use reference::book::Sizes;
 use reference::gen::{self, Draft, Rng};
-use reference::plan::demand;
+use reference::plan::{closure, demand};
 use reference::replay::Verdict;
 use reference::{book, ledger, plan, replay};
 
@@ -46,6 +48,132 @@ struct Counts {
     bits: usize,
     requests: usize,
     longest: usize,
+    ladders: Ladders,
+}
+
+/// What rests on ladder terms, in accepted books that have one. By one: with kind 02 in its place, which a higher value
+/// does not fulfil, the answer is another. Against one: without it the answer is another.
+#[derive(Default)]
+struct Ladders {
+    /// By op, 01 to 06: books with a ladder term in such a rule, and requests done by one and refused against one.
+    books: [usize; 6],
+    requests_by: [usize; 6],
+    requests_against: [usize; 6],
+    plans_by: usize,
+    no_ways_against: usize,
+    lists_by: usize,
+    lists_against: usize,
+    /// Books refused by 5, for a ladder term whose a or v is out of range.
+    refused_by_5: usize,
+    /// Books refused by 7, for another term beside a ladder term.
+    refused_by_7: usize,
+}
+
+impl Ladders {
+    fn by_ops(&self) -> [(&'static str, [usize; 6]); 3] {
+        [
+            ("books", self.books),
+            ("requests done by one", self.requests_by),
+            ("requests refused against one", self.requests_against),
+        ]
+    }
+
+    fn others(&self) -> [(&'static str, usize); 6] {
+        [
+            ("plans by one", self.plans_by),
+            ("no ways against one", self.no_ways_against),
+            ("lists by one", self.lists_by),
+            ("lists against one", self.lists_against),
+            ("refused by 5", self.refused_by_5),
+            ("refused by 7", self.refused_by_7),
+        ]
+    }
+
+    fn print(&self) {
+        let by_ops = self.by_ops().map(|(name, times)| format!("{name}: {times:?}"));
+        let others = self.others().map(|(name, times)| format!("{name}: {times}"));
+        println!("  ladder terms by ops, {}", by_ops.join(", "));
+        println!("  ladder terms, {}", others.join(", "));
+    }
+
+    fn all_seen(&self) {
+        for (name, times) in self.by_ops() {
+            assert!(times.iter().all(|&times| times > 0), "ladder terms by ops, {name}: {times:?}");
+        }
+        for (name, times) in self.others() {
+            assert!(times > 0, "ladder terms, {name}: never seen");
+        }
+    }
+
+    /// A refused book, by the line that is refused.
+    fn refused(&mut self, text: &[u8], refusal: book::Refusal, sizes: Sizes) {
+        let terms = ladder_terms(text, refusal.line);
+        match refusal.number() {
+            5 => self.refused_by_5 += usize::from(terms.iter().any(|&[a, v]| sizes.pair(a, v).is_none())),
+            7 => self.refused_by_7 += usize::from(!terms.is_empty()),
+            _ => {}
+        }
+    }
+}
+
+/// The fields a and v of the ladder terms of a line; none where it is no rule.
+fn ladder_terms(text: &[u8], line: usize) -> Vec<[u8; 2]> {
+    let digits = text.split(|&character| character == b'\n').nth(line.saturating_sub(1)).unwrap_or(&[]);
+    let byte = |two: &[u8]| u8::from_str_radix(&String::from_utf8_lossy(two), 16).ok();
+    let frame: Option<Vec<u8>> = digits.chunks(2).map(byte).collect();
+    match frame.as_deref() {
+        Some(&[3, _, _, _, _, _, ref terms @ ..]) => {
+            terms.chunks_exact(3).filter(|term| term[0] == 5).map(|term| [term[1], term[2]]).collect()
+        }
+        _ => Vec::new(),
+    }
+}
+
+/// An accepted book with ladder terms, and the two that tell what rests on them. The answers here are the reference's;
+/// the library's have been seen to be the same.
+struct Twins<'b> {
+    book: &'b book::Book,
+    cut: book::Book,
+    dropped: book::Book,
+}
+
+impl<'b> Twins<'b> {
+    fn of(book: &'b book::Book, ladders: &mut Ladders) -> Option<Self> {
+        for (op, books) in (1..).zip(&mut ladders.books) {
+            let is_op = |rule: &&book::Rule| book::op(rule.way, rule.what) == op;
+            *books += usize::from(book.rules.iter().filter(is_op).any(book::Rule::has_ladder));
+        }
+        book.has_ladder().then(|| Twins { book, cut: book.ladders_cut(), dropped: book.ladders_dropped() })
+    }
+
+    fn request(&self, ledger: &[u8], request: &[u8], ladders: &mut Ladders) {
+        let sizes = &self.book.sizes;
+        let ledger = ledger::Ledger::from_bytes(sizes, ledger);
+        let Some((ledger, request)) = ledger.zip(ledger::Request::from_bytes(sizes, request)) else { return };
+        let permits = |book| ledger::Depot::new(book).permits(&ledger, &request);
+        let op = usize::from(book::op(request.way, request.fact.what())) - 1;
+        if permits(self.book) {
+            ladders.requests_by[op] += usize::from(!permits(&self.cut));
+        } else {
+            ladders.requests_against[op] += usize::from(permits(&self.dropped));
+        }
+    }
+
+    fn plan(&self, ladders: &mut Ladders) {
+        if closure::plan(self.book).is_some() {
+            ladders.plans_by += usize::from(closure::plan(&self.cut).is_none());
+        } else {
+            ladders.no_ways_against += usize::from(closure::plan(&self.dropped).is_some());
+        }
+    }
+
+    /// Any list of whole requests.
+    fn replay(&self, list: &[u8], ladders: &mut Ladders) {
+        let verdict = |book| replay::judge(book, list, |_, _| ());
+        let own = verdict(self.book);
+        ladders.lists_by += usize::from(verdict(&self.cut) != own);
+        ladders.lists_against += usize::from(verdict(&self.dropped) != own);
+    }
 }
 
 impl Counts {
@@ -291,8 +419,9 @@ impl Case {
 /// All five operations on one book: what is lent is now good and now bad.
 fn operate(case: &Case, sizes: Sizes, rng: &mut Rng, counts: &mut Counts) {
     counts.books += 1;
-    let book = book::read(&case.text).ok();
+    let book = book::read(&case.text).map_err(|refusal| counts.ladders.refused(&case.text, refusal, sizes)).ok();
     let sizes = book.as_ref().map_or(sizes, |book| book.sizes);
+    let twins = book.as_ref().and_then(|book| Twins::of(book, &mut counts.ladders));
 
     let length = if rng.percent(90) { LEDGER_SIZE } else { rng.pick(&[0, 1, LEDGER_SIZE - 1, LEDGER_SIZE + 1]) };
     let before = filled(rng, length);
@@ -311,7 +440,11 @@ fn operate(case: &Case, sizes: Sizes, rng: &mut Rng, counts: &mut Counts) {
             Some(book) if rng.percent(85) => gen::apt_request(rng, book).to_vec(),
             _ => gen::request(rng, &sizes).to_vec(),
         };
-        bytes = case.request(&bytes, &request, counts);
+        let before = bytes;
+        bytes = case.request(&before, &request, counts);
+        if let Some(twins) = &twins {
+            twins.request(&before, &request, &mut counts.ladders);
+        }
     }
     let person = if rng.percent(85) { rng.byte(0, sizes.persons - 1) } else { rng.pick(&[sizes.persons, 64, 255]) };
     let room = if rng.percent(80) { VIEW_SIZE + rng.below(4) } else { rng.below(VIEW_SIZE) };
@@ -340,12 +473,18 @@ fn operate(case: &Case, sizes: Sizes, rng: &mut Rng, counts: &mut Counts) {
         _ => need,
     };
     case.plan(length, rng, counts);
+    if let Some(twins) = twins.as_ref().filter(|_| length >= need) {
+        twins.plan(&mut counts.ladders);
+    }
 
     let list = match &book {
         Some(book) => gen::list(rng, book),
         None => filled(rng, 7),
     };
     case.replay(&list, counts);
+    if let Some(twins) = twins.filter(|_| list.len().is_multiple_of(5)) {
+        twins.replay(&list, &mut counts.ladders);
+    }
 }
 
 /// What `BIXORGUN_SHIFT` adds to every seed, to draw other books.
@@ -357,7 +496,7 @@ fn shift() -> u64 {
 }
 
 /// So many cases: most are good books, some are damaged by each of 1 to 9, some by noise.
-fn run(name: &'static str, first: u64, cases: u64, draw: impl Fn(&mut Rng) -> Draft) {
+fn run(name: &'static str, first: u64, cases: u64, draw: impl Fn(&mut Rng) -> Draft) -> Ladders {
     let mut counts = Counts::default();
     let first = first + shift();
     for seed in first..first + cases {
@@ -377,37 +516,46 @@ fn run(name: &'static str, first: u64, cases: u64, draw: impl Fn(&mut Rng) -> Dr
         operate(&case, draft.sizes, &mut rng, &mut counts);
     }
     counts.print(name);
+    counts.ladders.print();
     counts.all_seen();
+    counts.ladders
 }
 
 #[test]
 fn small() {
-    run("small", 0x0B1C_0000_0000, 60_000, gen::small_book);
+    run("small", 0x0B1C_0000_0000, 60_000, gen::small_book).all_seen();
 }
 
 #[test]
 fn small_aimed() {
-    run("small and aimed", 0x0B1C_1000_0000, 40_000, gen::small_aimed_book);
+    run("small and aimed", 0x0B1C_1000_0000, 40_000, gen::small_aimed_book).all_seen();
 }
 
 #[test]
 fn middle() {
-    run("middle", 0x0B1C_2000_0000, 15_000, gen::middle_book);
+    run("middle", 0x0B1C_2000_0000, 15_000, gen::middle_book).all_seen();
 }
 
 #[test]
 fn tangled() {
-    run("tangled", 0x0B1C_3000_0000, 5_000, |rng| gen::tangled_book(rng, (4, 3, 4)));
+    let ladders = run("tangled", 0x0B1C_3000_0000, 5_000, |rng| gen::tangled_book(rng, (4, 3, 4)));
+    assert!(ladders.plans_by > 0 && ladders.no_ways_against > 0);
 }
 
 #[test]
-fn ladders() {
-    run("ladders", 0x0B1C_4000_0000, 5_000, |rng| gen::ladder_book(rng, 6, 16));
+fn zigzags() {
+    let ladders = run("zigzags", 0x0B1C_4000_0000, 5_000, |rng| gen::zigzag_book(rng, 6, 16));
+    assert!(ladders.no_ways_against > 0);
+}
+
+#[test]
+fn graded() {
+    run("graded", 0x0B1C_8000_0000, 10_000, |rng| gen::graded_book(rng, (6, 4, 16))).all_seen();
 }
 
 #[test]
 fn large() {
-    run("large", 0x0B1C_5000_0000, 600, |rng| {
+    let ladders = run("large", 0x0B1C_5000_0000, 600, |rng| {
         let mut draft = gen::large_book(rng);
         if rng.percent(50) {
             let book = book::read(&draft.text()).expect("a good book");
@@ -416,6 +564,7 @@ fn large() {
         }
         draft
     });
+    assert!(ladders.plans_by > 0);
 }
 
 /// A line of about 64 bytes or more, of any kind, by the length that its n or q gives or by another; some have a digit too
@@ -474,6 +623,7 @@ fn stored() {
         (0..5).for_each(|_| operate(&case, sizes, &mut rng, &mut counts));
     }
     counts.print("stored");
+    counts.ladders.print();
     counts.all_seen();
     assert!(counts.books > 1_000);
 }

@@ -42,7 +42,7 @@ fn good_line(line: &str) -> Vec<u8> {
     format!("0101010102\n{line}\n").into_bytes()
 }
 
-/// The table's examples of 1 to 9, each with its line.
+/// The table's examples of 1 to 9, each with its line, and what ladder terms, kind 05, may have wrong.
 fn bad_books() -> Vec<(Vec<u8>, Refusal)> {
     let mut rules = b"0101010102\n".to_vec();
     rules.extend(b"030100000000\n".repeat(513));
@@ -60,8 +60,14 @@ fn bad_books() -> Vec<(Vec<u8>, Refusal)> {
         (b"0101010102\n".to_vec(), Refusal::BadFrame { line: 2 }),
         (good_line("0200"), Refusal::BadLength { line: 2 }),
         (b"0100010102\n".to_vec(), Refusal::BadField { line: 1 }),
+        // A ladder term without such an attribute, without such a value, and before 7; the kind behind it.
+        (good_line("030100000001050100"), Refusal::BadField { line: 2 }),
+        (good_line("030300000001050002"), Refusal::BadField { line: 2 }),
+        (good_line("030100000002030000050002"), Refusal::BadField { line: 2 }),
+        (good_line("030500000001060000"), Refusal::BadField { line: 2 }),
         (good_line("020000"), Refusal::BadEdge { line: 2 }),
         (good_line("030100000001030000"), Refusal::BadTerm { line: 2 }),
+        (good_line("030400000002050001040000"), Refusal::BadTerm { line: 2 }),
         (rules, Refusal::TooManyRules { line: 514 }),
         (good_line("050100FFFF02000001000001"), Refusal::NotRising { line: 2 }),
     ]
@@ -93,6 +99,28 @@ fn one_to_nine() {
     }
     numbers.dedup();
     assert_eq!(numbers, [1, 2, 3, 4, 5, 6, 7, 8, 9]);
+}
+
+/// A rule of every op with one term of every kind, about value 1 of attribute 0: 01, 02 and 05 are good in every op. So
+/// are 03 and 04, about crew 0, in ops 05 and 06, and get 7 in the others. Without crews the ops 01 to 04 are left, and
+/// 03 and 04 name no crew.
+#[test]
+fn kinds_of_terms() {
+    for crews in 0..=1 {
+        for op in 1..=6 {
+            for kind in 0..=255 {
+                let v = u8::from(!matches!(kind, 3 | 4));
+                let rule = format!("03{op:02X}00000001{kind:02X}00{v:02X}");
+                let text = format!("0101{crews:02X}0102\n{rule}\n050100FFFF00\n");
+                let expected = match (crews, op, kind) {
+                    (_, 1..=4, 1 | 2 | 5) | (1, 5..=6, 1..=5) => Ok(()),
+                    (1, 1..=4, 3 | 4) => Err(Refusal::BadTerm { line: 2 }),
+                    _ => Err(Refusal::BadField { line: 2 }),
+                };
+                assert_eq!(Book::new(text.as_bytes()).open().map(|_| ()), expected, "op {op}, kind {kind}");
+            }
+        }
+    }
 }
 
 #[test]

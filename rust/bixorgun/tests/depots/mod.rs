@@ -9,6 +9,9 @@ const MOST_FACTS: usize = 12;
 
 const MOST_RULES: usize = 12;
 
+/// The kind of a ladder term: the subject effectively holds v or any higher value of a.
+pub const LADDER: u8 = 5;
+
 /// The first line's numbers.
 #[derive(Clone, Copy)]
 pub struct Sizes {
@@ -123,6 +126,12 @@ impl Depot {
         self.draft.frames.iter().filter(|frame| frame[0] == 3).map(Vec::as_slice)
     }
 
+    /// Whether a rule of this op has a ladder term.
+    pub fn has_ladder(&self, op: u8) -> bool {
+        let is_ladder = |term: &[u8]| term[0] == LADDER;
+        self.rules().any(|rule| rule[1] == op && rule[6..].chunks_exact(3).any(is_ladder))
+    }
+
     /// How many subjects an op may be about.
     pub fn subjects(&self, op: u8) -> u8 {
         if matches!(op, 3 | 4) {
@@ -220,13 +229,13 @@ fn draw_length(seed: &mut Seed) -> u8 {
     [0, 0, 0, 1, 1, 1, 2, 3][usize::from(seed.below(8))]
 }
 
-/// A term on values, or, where a rule joins persons and crews, on crews half of the time.
+/// A term on values, every second a ladder term, or, where a rule joins persons and crews, on crews half of the time.
 fn draw_term(seed: &mut Seed, sizes: Sizes, joins: bool) -> [u8; 3] {
-    let kind = 1 + seed.below(2);
     let on_crew = seed.below(2) == 1;
     if joins && on_crew {
-        return [kind + 2, seed.below(sizes.crews), 0];
+        return [3 + seed.below(2), seed.below(sizes.crews), 0];
     }
+    let kind = [1, 2, LADDER, LADDER][usize::from(seed.below(4))];
     [kind, seed.below(sizes.attrs), seed.below(sizes.values)]
 }
 

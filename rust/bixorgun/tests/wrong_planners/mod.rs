@@ -12,7 +12,7 @@ use crate::Planner;
 use model::{Fault, Model, Move};
 
 /// The wrong planners by their faults.
-pub const WRONG: [(&str, Planner); 16] = [
+pub const WRONG: [(&str, Planner); 23] = [
     ("no way to every book", |depot, out| answer(depot, out, None)),
     ("the empty plan to every book", |depot, out| answer(depot, out, Some(Vec::new()))),
     ("rules of roles outside the query used", |depot, out| small(depot, out, Fault::RolesIgnored)),
@@ -22,6 +22,15 @@ pub const WRONG: [(&str, Planner); 16] = [
     ("juniors inherit from seniors", |depot, out| small(depot, out, Fault::JuniorsInherit)),
     ("crews inherit nothing", |depot, out| small(depot, out, Fault::CrewsInheritNothing)),
     ("mode 02 taken for mode 01", |depot, out| small(depot, out, Fault::ModeTwoAsOne)),
+    ("a ladder term taken for kind 02", |depot, out| small(depot, out, Fault::LadderAsKindTwo)),
+    ("a ladder term looks downward", |depot, out| small(depot, out, Fault::LadderDownward)),
+    ("a ladder term leaves out its own value", |depot, out| small(depot, out, Fault::LadderWithoutLowest)),
+    ("a ladder term leaves out the highest value", |depot, out| small(depot, out, Fault::LadderWithoutHighest)),
+    ("a ladder term's higher values held directly alone", |depot, out| small(depot, out, Fault::HigherValuesDirect)),
+    ("a deletion's ladder terms tested after the fact is gone", |depot, out| {
+        small(depot, out, Fault::OwnRungForgotten)
+    }),
+    ("a ladder term not tested", |depot, out| small(depot, out, Fault::LadderNotTested)),
     ("the last request left out", leave_out_last),
     ("a request doubled", double_first),
     ("a fact added, deleted and added again", add_again),

@@ -3,7 +3,9 @@
 //! A ledger is a number, a state: fact i of the depot has the weight 2^i. Of the persons' facts it looks at those
 //! of the query's person alone.
 
-use crate::depots::{is_adding, Depot, Fact};
+use std::ops::Range;
+
+use crate::depots::{is_adding, Depot, Fact, LADDER};
 
 /// What a planner takes otherwise than the specification has it.
 #[derive(Clone, Copy, PartialEq, Eq)]
@@ -19,6 +21,20 @@ pub enum Fault {
     JuniorsInherit,
     /// Mode 02 asks for at least the named values, as mode 01 does, and for no crews.
     ModeTwoAsOne,
+    /// A ladder term asks for v alone, as kind 02 does.
+    LadderAsKindTwo,
+    /// A ladder term asks for v or any lower value.
+    LadderDownward,
+    /// A ladder term asks for a value above v.
+    LadderWithoutLowest,
+    /// A ladder term asks for v or a higher value below the highest.
+    LadderWithoutHighest,
+    /// A ladder term takes the values above v only where they are held directly.
+    HigherValuesDirect,
+    /// A deletion's ladder terms are tested after the fact is gone.
+    OwnRungForgotten,
+    /// A ladder term is taken to hold.
+    LadderNotTested,
 }
 
 /// A condition on a state: one of some facts is there, or both sides of one of some pairs of such sets are.
@@ -65,11 +81,25 @@ impl Condition {
     fn of(any: u16) -> Self {
         Condition { any, pairs: Vec::new() }
     }
+
+    /// One of two conditions.
+    fn or(mut self, other: Condition) -> Self {
+        self.any |= other.any;
+        self.pairs.extend(other.pairs);
+        self
+    }
+
+    /// The condition as if a fact were not there.
+    fn without(self, fact: u16) -> Self {
+        let pairs = self.pairs.into_iter().map(|(one, other)| (one & !fact, other & !fact)).collect();
+        Condition { any: self.any & !fact, pairs }
+    }
 }
 
 /// What terms and queries are made of: each fact's weight, and from which crews a crew has what.
 struct Weights<'d> {
     depot: &'d Depot,
+    fault: Fault,
     /// The crews whose direct values each crew effectively holds.
     sources: Vec<Vec<u8>>,
     /// The crews in which one is effectively in each crew.
@@ -87,7 +117,7 @@ impl<'d> Weights<'d> {
             Fault::JuniorsInherit => above.clone(),
             _ => below,
         };
-        Weights { depot, sources, entries: above }
+        Weights { depot, fault, sources, entries: above }
     }
 
     fn fact(&self, fact: Fact) -> u16 {
@@ -120,16 +150,56 @@ impl<'d> Weights<'d> {
         self.entries[usize::from(crew)].iter().map(|&entry| self.member(person, entry)).sum()
     }
 
+    /// The subject of an op directly holds a value.
+    fn holds(&self, op: u8, subject: u8, a: u8, v: u8) -> Condition {
+        Condition::of(match op {
+            3 | 4 => self.crew_own(subject, a, v),
+            _ => self.own(subject, a, v),
+        })
+    }
+
+    /// The subject of an op effectively holds a value.
+    fn effectively_holds(&self, op: u8, subject: u8, a: u8, v: u8) -> Condition {
+        match op {
+            3 | 4 => Condition::of(self.crew_holds(subject, a, v)),
+            _ => self.person_holds(subject, a, v),
+        }
+    }
+
+    /// The values of which a ladder term asks for one: v and all higher ones.
+    fn rungs(&self, v: u8) -> Range<u8> {
+        let values = self.depot.sizes.values;
+        match self.fault {
+            Fault::LadderAsKindTwo => v..v + 1,
+            Fault::LadderDownward => 0..v + 1,
+            Fault::LadderWithoutLowest => v + 1..values,
+            Fault::LadderWithoutHighest => v..(values - 1).max(v + 1),
+            _ => v..values,
+        }
+    }
+
+    /// The subject of an op effectively holds v or any higher value.
+    fn climbs(&self, op: u8, subject: u8, a: u8, v: u8) -> Condition {
+        let rung = |w| match self.fault {
+            Fault::HigherValuesDirect if w > v => self.holds(op, subject, a, w),
+            _ => self.effectively_holds(op, subject, a, w),
+        };
+        self.rungs(v).map(rung).fold(Condition::of(0), Condition::or)
+    }
+
     /// A term of a rule, about the subject of a request.
-    fn term(&self, op: u8, subject: u8, term: &[u8]) -> Condition {
-        let &[kind, a, v] = term else { panic!("a term") };
-        match (kind, op) {
-            (1, 3 | 4) => Condition::of(self.crew_own(subject, a, v)),
-            (1, _) => Condition::of(self.own(subject, a, v)),
-            (2, 3 | 4) => Condition::of(self.crew_holds(subject, a, v)),
-            (2, _) => self.person_holds(subject, a, v),
-            (3, _) => Condition::of(self.member(subject, a)),
-            _ => Condition::of(self.person_in(subject, a)),
+    fn term(&self, request: &[u8; 5], term: &[u8]) -> Condition {
+        let (&[op, _, subject, ..], &[kind, a, v]) = (request, term) else { panic!("a term") };
+        match kind {
+            1 => self.holds(op, subject, a, v),
+            2 => self.effectively_holds(op, subject, a, v),
+            3 => Condition::of(self.member(subject, a)),
+            4 => Condition::of(self.person_in(subject, a)),
+            LADDER if self.fault == Fault::OwnRungForgotten && !is_adding(op) => {
+                self.climbs(op, subject, a, v).without(self.fact(Fact::of(request)))
+            }
+            LADDER => self.climbs(op, subject, a, v),
+            _ => panic!("a term's kind"),
         }
     }
 }
@@ -256,11 +326,13 @@ fn moves_of(weights: &Weights<'_>, fault: Fault) -> Vec<Move> {
         if !depot.draft.asks(role) && fault != Fault::RolesIgnored {
             continue;
         }
+        let is_tested = |term: &&[u8]| term[0] != LADDER || fault != Fault::LadderNotTested;
         for subject in 0..depot.subjects(op) {
             let request = [op, role, subject, a, v];
             let fact = Fact::of(&request);
             if fact.kind == 2 || subject == person {
-                let terms = terms.chunks_exact(3).map(|term| weights.term(op, subject, term)).collect();
+                let terms = terms.chunks_exact(3).filter(is_tested);
+                let terms = terms.map(|term| weights.term(&request, term)).collect();
                 moves.push(Move { request, adds: is_adding(op), fact: weights.fact(fact), terms });
             }
         }
