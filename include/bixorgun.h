@@ -26,9 +26,9 @@ extern "C" {
 
 /* The minor rises with every later change of a format or of this interface. */
 #define BIXORGUN_VERSION_MAJOR 0
-#define BIXORGUN_VERSION_MINOR 1
+#define BIXORGUN_VERSION_MINOR 2
 #define BIXORGUN_VERSION_PATCH 0
-#define BIXORGUN_VERSION "0.1.0"
+#define BIXORGUN_VERSION "0.2.0"
 
 /* ---------------------------------------------------------------- sizes, in bytes */
 
@@ -85,7 +85,7 @@ static inline uint64_t bixorgun_value(uint64_t answer)
 #define BIXORGUN_BAD_LENGTH 4        /* not the length that the kind gives */
 #define BIXORGUN_BAD_FIELD 5         /* a field outside its range */
 #define BIXORGUN_BAD_EDGE 6          /* the junior is not the smaller number */
-#define BIXORGUN_BAD_TERM 7          /* term 03 or 04 in ops 01-04 */
+#define BIXORGUN_BAD_TERM 7          /* term 03 or 04 in ops 01-04 (01, 02 and 05 are legal in every op) */
 #define BIXORGUN_TOO_MANY_RULES 8    /* the 513th rule */
 #define BIXORGUN_NOT_RISING 9        /* the query's attributes */
 #define BIXORGUN_SHORT_PLAN_BUFFER 10 /* plan: under 10 x F bytes */

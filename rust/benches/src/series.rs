@@ -1,8 +1,8 @@
 //! Growing books, each made from its numbers alone.
 //!
-//! The rungs of a ladder are values 0, 1, 2 and so on, counted through the attributes. Each rung has four rules: add to a
-//! person, add to a crew, delete from a person, delete from a crew; each asks for the one or two rungs below. The query
-//! wants exactly the last rung, so the plan puts every rung in and takes all but the last out again, the highest first.
+//! The steps of a climb are values 0, 1, 2 and so on, counted through the attributes. Each step has four rules: add to a
+//! person, add to a crew, delete from a person, delete from a crew; each asks for the one or two steps below. The query
+//! wants exactly the last step, so the plan puts every step in and takes all but the last out again, the highest first.
 
 use std::fmt::Write as _;
 
@@ -35,34 +35,34 @@ impl Edges {
     }
 }
 
-/// A ladder's numbers.
+/// A climb's numbers.
 #[derive(Clone, Copy, Debug)]
-pub struct Ladder {
+pub struct Climb {
     pub persons: u8,
     pub crews: u8,
     pub attrs: u8,
     pub values: u8,
     pub edges: Edges,
-    /// Whether the rules stand in the book from the last rung down, each after those that need it.
+    /// Whether the rules stand in the book from the last step down, each after those that need it.
     pub falling: bool,
-    /// Whether the rules ask for the rungs below.
+    /// Whether the rules ask for the steps below.
     pub terms: bool,
 }
 
-impl Ladder {
-    fn rungs(&self) -> u8 {
+impl Climb {
+    fn steps(&self) -> u8 {
         self.attrs * self.values
     }
 
-    /// A rung as attribute and value.
-    fn rung(&self, k: u8) -> (u8, u8) {
+    /// A step as attribute and value.
+    fn step(&self, k: u8) -> (u8, u8) {
         (k / self.values, k % self.values)
     }
 
-    /// The terms of the rules of a rung.
+    /// The terms of the rules of a step.
     fn terms(&self, k: u8) -> String {
         let below = (1..=2_u8.min(k)).map(|down| {
-            let (a, v) = self.rung(k - down);
+            let (a, v) = self.step(k - down);
             format!("{:02X}{a:02X}{v:02X}", if down == 1 && k.is_multiple_of(2) { 1 } else { 2 })
         });
         let terms: Vec<String> = below.take(if self.terms { 2 } else { 0 }).collect();
@@ -73,7 +73,7 @@ impl Ladder {
     pub fn text(&self) -> Vec<u8> {
         let mut text = format!("01{:02X}{:02X}{:02X}{:02X}\n", self.persons, self.crews, self.attrs, self.values);
         text += &edges(self.edges);
-        let mut rules: Vec<String> = (0..self.rungs()).flat_map(|k| self.rules(k)).collect();
+        let mut rules: Vec<String> = (0..self.steps()).flat_map(|k| self.rules(k)).collect();
         if self.falling {
             rules.reverse();
         }
@@ -87,12 +87,12 @@ impl Ladder {
     }
 
     fn rules(&self, k: u8) -> [String; 4] {
-        let (a, v) = self.rung(k);
+        let (a, v) = self.step(k);
         let terms = self.terms(k);
         [1, 3, 2, 4].map(|op| format!("03{op:02X}00{a:02X}{v:02X}{terms}\n"))
     }
 
-    /// Exactly the last rung, in exactly the crews of a set.
+    /// Exactly the last step, in exactly the crews of a set.
     fn query(&self, crews: u32) -> String {
         let mut query = format!("050200FFFF{:02X}", self.attrs);
         for attr in 0..self.attrs {
@@ -103,14 +103,14 @@ impl Ladder {
         query + &format!("{crews:08X}\n")
     }
 
-    /// So many requests on person 0: up the ladder and down again, over and over.
+    /// So many requests on person 0: all steps up and down again, over and over.
     pub fn climbs(&self, requests: usize) -> Vec<u8> {
         let step = |op: u8, k: u8| {
-            let (a, v) = self.rung(k);
+            let (a, v) = self.step(k);
             [op, 0, 0, a, v]
         };
-        let up = (0..self.rungs()).map(|k| step(1, k));
-        let down = (0..self.rungs() - 1).rev().map(|k| step(2, k));
+        let up = (0..self.steps()).map(|k| step(1, k));
+        let down = (0..self.steps() - 1).rev().map(|k| step(2, k));
         let once: Vec<[u8; 5]> = up.chain(down).collect();
         once.into_iter().cycle().take(requests).flatten().collect()
     }
@@ -174,35 +174,35 @@ pub struct Series {
     pub points: Vec<(usize, Job)>,
 }
 
-const MIDDLE: Ladder =
-    Ladder { persons: 64, crews: 12, attrs: 4, values: 8, edges: Edges::Chain(11), falling: false, terms: true };
+const MIDDLE: Climb =
+    Climb { persons: 64, crews: 12, attrs: 4, values: 8, edges: Edges::Chain(11), falling: false, terms: true };
 
-fn job(ladder: Ladder) -> Job {
-    Job::new(ladder.text()).expect("a ladder is accepted")
+fn job(climb: Climb) -> Job {
+    Job::new(climb.text()).expect("a climb is accepted")
 }
 
-/// A ladder of so many rules, a power of two from 32 to 512.
+/// A climb of so many rules, a power of two from 32 to 512.
 fn with_rules(rules: usize, falling: bool) -> Job {
     let (attrs, values) = if rules < 64 { (1, (rules / 4) as u8) } else { ((rules / 64) as u8, 16) };
-    job(Ladder { attrs, values, falling, ..MIDDLE })
+    job(Climb { attrs, values, falling, ..MIDDLE })
 }
 
-/// A ladder without terms, of so many values, a power of two to 128, and 32 crews.
+/// A climb without terms, of so many values, a power of two to 128, and 32 crews.
 fn with_values(values: usize) -> Job {
     let (attrs, values) = if values < 16 { (1, values as u8) } else { ((values / 16) as u8, 16) };
-    job(Ladder { persons: 1, crews: 32, attrs, values, edges: Edges::Chain(31), terms: false, ..MIDDLE })
+    job(Climb { persons: 1, crews: 32, attrs, values, edges: Edges::Chain(31), terms: false, ..MIDDLE })
 }
 
 fn with_edges(edges: Edges) -> Job {
-    job(Ladder { crews: 32, attrs: 2, edges, ..MIDDLE })
+    job(Climb { crews: 32, attrs: 2, edges, ..MIDDLE })
 }
 
 fn with_crews(crews: u8) -> Job {
-    job(Ladder { crews, edges: Edges::Chain(crews - 1), ..MIDDLE })
+    job(Climb { crews, edges: Edges::Chain(crews - 1), ..MIDDLE })
 }
 
 fn with_climbs(requests: usize) -> Job {
-    Job::with_list(MIDDLE.text(), MIDDLE.climbs(requests)).expect("a ladder is accepted")
+    Job::with_list(MIDDLE.text(), MIDDLE.climbs(requests)).expect("a climb is accepted")
 }
 
 fn with_rounds(count: u8) -> Job {
