@@ -1,7 +1,7 @@
 -- The flags from place 320 on, whether a value or a higher one is effective: what one more fact does to them, and the loops that write them.
 use mathlib.Core.Path.{_≡_, refl, sym, ap, subst, fun-ext, _∙_}
 use mathlib.Core.Logic.{dite}
-use mathlib.Core.Bool.{Bool, true, false, _&&_, _||_}
+use mathlib.Core.Bool.{Bool, true, false, _&&_, _||_, and-false, or-false, or-true}
 use mathlib.Core.List.{List}
 use Prim.Native.Nat.{ℕ, _+_, _-_, _*_, _/_, _%_, _≤_, _<_}
 use native.Mathlib.Decide.{ℕ-discrete, decLt}
@@ -72,11 +72,7 @@ value-effective : (T : List Bool) (f j : ℕ) → f < 128 → touchesFact T f (1
 unfolding touchesFact
 value-effective T f j h =
     let e : 160 + j - 160 ≡ j = omega arith in
-    rw (le-ltb (160 + j) 160 (omega arith), lt-ltb f 128 h, e) (or-no (eqb j f))
-  where
-    or-no : (b : Bool) → b || false ≡ b
-    or-no true = refl
-    or-no false = refl
+    rw (le-ltb (160 + j) 160 (omega arith), lt-ltb f 128 h, e) (or-false (eqb j f))
 
 -- A value adds, from place 320 on, the flags of itself and of the lower values of its attribute.
 pub touch-not-higher : (T : List Bool) (f k : ℕ) → f < 128 → notHigher f k ≡ touches T f (320 + k)
@@ -195,14 +191,6 @@ pub record RaisedFrom (f : ℕ) (x z : List Bool) (k : ℕ) : Type 0 where
   pub below : (j : ℕ) → j < 320 → getD z j false ≡ getD x j false
   pub above : (j : ℕ) → j < 128 → getD z (320 + j) false ≡ getD x (320 + j) false || (leb k j && leb j f)
 
-or-no : (b : Bool) → b ≡ b || false
-or-no true = refl
-or-no false = refl
-
-or-true : (b : Bool) → b || true ≡ true
-or-true true = refl
-or-true false = refl
-
 -- What lies below the attribute of f is no value of it; from its first value on it is, up to f.
 low-out : (f j : ℕ) → j < 16 * (f / 16) → notHigher f j ≡ false
 unfolding notHigher
@@ -211,12 +199,8 @@ low-out f j m = rw (ne-eqb (j / 16) (f / 16) (omega arith)) refl
 from-first : (f j : ℕ) → 16 * (f / 16) ≤ j → leb j f ≡ notHigher f j
 unfolding notHigher
 from-first f j m = dite (decLt f j)
-    (λ (l : f < j). rw (lt-leb j f l) (off (eqb (j / 16) (f / 16))))
+    (λ (l : f < j). rw (lt-leb j f l) (sym (and-false (eqb (j / 16) (f / 16)))))
     (λ (l : f < j → ⊥). rw (le-leb j f (omega arith), eq-eqb (j / 16) (f / 16) (omega arith)) refl)
-  where
-    off : (b : Bool) → false ≡ b && false
-    off true = refl
-    off false = refl
 
 -- Before the first.
 pub raised-none : (f : ℕ) (x : List Bool) → RaisedFrom f x x (f + 1)
@@ -225,17 +209,13 @@ raised-none f x = record {
   first = omega arith;
   fits = omega arith;
   below = λ j l. refl;
-  above = λ j l. or-no (getD x (320 + j) false) ∙ ap (λ (b : Bool). getD x (320 + j) false || b) (sym (out j));
+  above = λ j l. sym (or-false (getD x (320 + j) false)) ∙ ap (λ (b : Bool). getD x (320 + j) false || b) (sym (out j));
 }
   where
     out : (j : ℕ) → leb (f + 1) j && leb j f ≡ false
     out j = dite (decLt j (f + 1))
         (λ (l : j < f + 1). rw (lt-leb (f + 1) j l) refl)
-        (λ (l : j < f + 1 → ⊥). rw (lt-leb j f (omega arith)) (off (leb (f + 1) j)))
-      where
-        off : (b : Bool) → b && false ≡ false
-        off true = refl
-        off false = refl
+        (λ (l : j < f + 1 → ⊥). rw (lt-leb j f (omega arith)) (and-false (leb (f + 1) j)))
 
 module _ {f : ℕ} {x z : List Bool} (k : ℕ) (h : 16 * (f / 16) ≤ k) (r : RaisedFrom f x z (k + 1)) (small : f < 128) where
   set-lower : length x ≡ 448 → RaisedFrom f x (set z (320 + k) true) k
@@ -260,14 +240,11 @@ module _ {f : ℕ} {x z : List Bool} (k : ℕ) (h : 16 * (f / 16) ≤ k) (r : Ra
   stop-lower falls e = record { size = r .size; below = r .below; above = λ j l. r .above j l ∙ same j l }
     where
       stood : getD x (320 + k) false ≡ true
-      stood = or-first (getD x (320 + k) false) (sym (r .above k (omega (arith, r .fits)) ∙ ap (λ (b : Bool). getD x (320 + k) false || b) off) ∙ e)
+      stood =
+          sym (r .above k (omega (arith, r .fits)) ∙ ap (λ (b : Bool). getD x (320 + k) false || b) off ∙ or-false (getD x (320 + k) false)) ∙ e
         where
           off : leb (k + 1) k && leb k f ≡ false
           off = rw (lt-leb (k + 1) k (omega arith)) refl
-
-          or-first : (b : Bool) → b || false ≡ true → b ≡ true
-          or-first true e = refl
-          or-first false e = e
 
       same : (j : ℕ) → j < 128 → getD x (320 + j) false || (leb (k + 1) j && leb j f) ≡ getD x (320 + j) false || notHigher f j
       same j l = dite (decLt j (k + 1))

@@ -1,7 +1,7 @@
 -- Laws of what a subject shows: what one more fact adds, and the loops that write it.
 use mathlib.Core.Path.{_≡_, refl, sym, ap, fun-ext, _∙_}
 use mathlib.Core.Logic.{_≢_, by-cases, dite}
-use mathlib.Core.Bool.{Bool, true, false, not, cond, _&&_, _||_}
+use mathlib.Core.Bool.{Bool, true, false, not, cond, _&&_, _||_, or-assoc, or-false, or-true}
 use mathlib.Core.List.{List}
 use Prim.Native.Nat.{ℕ, zero, suc, _+_, _-_, _*_, _≤_, _<_}
 use native.Mathlib.Decide.{ℕ-discrete, decLt}
@@ -32,22 +32,10 @@ pub direct-in : (x : List Bool) (f : ℕ) → direct x f ≡ true → f < 160
 unfolding direct
 direct-in x f e = ltb-true f 160 (and-both (ltb f 160) (getD x f false) e .0)
 
-or-assoc-in : (a b c : Bool) → (a || b) || c ≡ a || (b || c)
-or-assoc-in true b c = refl
-or-assoc-in false b c = refl
-
 put-or : (S : State) (f g : ℕ) → update S f true g ≡ S g || eqb g f
 put-or S f g =
     at (λ g. update S f true g ≡ S g || eqb g f) f g (update-same S f true ∙ sym (rw (eq-eqb f f refl) (or-true (S f))))
     (λ n. update-other S f true n ∙ sym (rw (ne-eqb g f n) (or-false (S g))))
-  where
-    or-true : (b : Bool) → b || true ≡ true
-    or-true true = refl
-    or-true false = refl
-
-    or-false : (b : Bool) → b || false ≡ b
-    or-false true = refl
-    or-false false = refl
 
 -- Putting a membership in adds that crew's row.
 any-put : (S : State) (f : ℕ) (r : ℕ → Bool) (n : ℕ)
@@ -102,16 +90,8 @@ visible-fact-put T S f k h = go (ltb k 160)
 
     mix : (s e a p q : Bool) → (s || e) || (a || (p || q)) ≡ (s || (a || p)) || (e || q)
     mix true e a p q = refl
-    mix false e true p q = or-t e
-      where
-        or-t : (e : Bool) → e || true ≡ true
-        or-t true = refl
-        or-t false = refl
-    mix false true false p q = sym (or-true2 p)
-      where
-        or-true2 : (p : Bool) → p || true ≡ true
-        or-true2 true = refl
-        or-true2 false = refl
+    mix false e true p q = or-true e
+    mix false true false p q = sym (or-true p)
     mix false false false p q = refl
 
     go : (b : Bool)
@@ -219,8 +199,7 @@ pub record RowSoFar (T : List Bool) (c : ℕ) (x z : List Bool) (i : ℕ) : Type
   pub rest : (k : ℕ) → 160 + i ≤ k → getD z k false ≡ getD x k false
 
 or-no : (b : Bool) → b ≡ b || false
-or-no true = refl
-or-no false = refl
+or-no b = sym (or-false b)
 
 -- Before the first flag of a row.
 pub row-none : (T : List Bool) (c : ℕ) (x : List Bool) → RowSoFar T c x x 0
@@ -316,6 +295,6 @@ pub put-crew : (T x : List Bool) (f : ℕ) {z : List Bool} → 128 ≤ f → f <
 put-crew T x f {z} h h′ s m = record {
   size = m .size ∙ rw (length-set, length-set) refl;
   flags = λ k l. m .flags k l ∙ ap (λ b. b || rowFlags T (f - 128) k) (set-two x f k h′ s)
-      ∙ or-assoc-in (getD x k false) (eqb k f || eqb k (160 + f)) (rowFlags T (f - 128) k) ∙ ap (λ b. getD x k false || b) (touch-three T f k h h′ l);
+      ∙ or-assoc (getD x k false) (eqb k f || eqb k (160 + f)) (rowFlags T (f - 128) k) ∙ ap (λ b. getD x k false || b) (touch-three T f k h h′ l);
   rest = λ k l. m .rest k l ∙ set-none x f k h′ l s;
 }
