@@ -1,3 +1,4 @@
 pub mod BoolLaws
 pub mod ListLaws
 pub mod BelowLaws
+pub mod FirstLaws

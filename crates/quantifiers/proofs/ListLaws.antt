@@ -125,6 +125,12 @@ module _ {A : Type 0} (p : A → Bool) (xs : List A) (n : ℕ) (fits : n ≤ len
   unfolding all
   all-fail i d h e = rw (front-drop xs n fits i d h, e)
 
+-- Within the list it does not matter what stands for a place past its end.
+pub within-any : {A : Type 0} (xs : List A) (i : ℕ) (d e : A) → i < length xs → getD xs i d ≡ getD xs i e
+within-any [] i d e h = absurd (omega arith)
+within-any (x ∷ xs) zero d e h = refl
+within-any (x ∷ xs) (suc i) d e h = within-any xs i d e (omega arith)
+
 -- What each of the first n has, the one at i has.
 pub each-at : {A : Type 0} (P : A → Type 0) (xs : List A) (n i : ℕ) (d : A) → i < n → n ≤ length xs → Each P (take n xs) → P (getD xs i d)
 unfolding Each

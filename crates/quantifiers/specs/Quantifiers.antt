@@ -1,6 +1,6 @@
--- All or some one: of a list, and of the numbers below a bound.
+-- All or some one, of a list and of the numbers below a bound; the first of a list.
 use Prim.Native.Nat.{ℕ, zero, suc}
-use mathlib.Core.Bool.{Bool, true, false, _&&_, _||_}
+use mathlib.Core.Bool.{Bool, true, false, cond, _&&_, _||_}
 use mathlib.Core.List.{List, [], _∷_}
 use lib.Dec.{leb}
 
@@ -13,6 +13,11 @@ all p (x ∷ xs) = p x && all p xs
 unfoldable pub any : {A : Type 0} → (A → Bool) → List A → Bool
 any p [] = false
 any p (x ∷ xs) = p x || any p xs
+
+-- The place, from 0, of the first of a list that passes a test; the list's length where none does.
+unfoldable pub first : {A : Type 0} → (A → Bool) → List A → ℕ
+first p [] = 0
+first p (x ∷ xs) = cond (p x) 0 (suc (first p xs))
 
 -- All numbers below n pass a test.
 unfoldable pub allBelow : (ℕ → Bool) → ℕ → Bool

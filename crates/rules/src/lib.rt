@@ -5,8 +5,8 @@ ghost use lib.ListN.{length, getD};
 ghost use Rattle.facts.specs.Facts.{holds};
 ghost use Rattle.frames.specs.Book.{listed, noTerm};
 ghost use Rattle.frames.specs.Inner.Fits.{Short};
+ghost use Rattle.quantifiers.specs.Quantifiers.{first};
 ghost use Rattle.quantifiers.specs.Inner.Lists.{Each};
-ghost use Rattle.rules.specs.Inner.First.{first};
 ghost use Rattle.rules.specs.Rules.{subjectOf, aOf, vOf, directly, effectively, inDirectly, inEffectively, atLeast, termHolds, names, permits};
 use facts::Attr;
 use facts::Crew;
@@ -158,7 +158,7 @@ pub fn term_holds(ledger: &[u8], juniors: &[u32], s: Subject, t: Term) -> bool
 }
 
 // Whether a rule has the request's op, role, a and v.
-fn is_named(r: Rule, q: Request) -> bool
+pub fn is_named(r: Rule, q: Request) -> bool
     ensures { λ x. ⌜ x ≡ names q r ⌝ }
 {
     let f = q.fact;
@@ -168,14 +168,14 @@ fn is_named(r: Rule, q: Request) -> bool
 }
 
 // How many terms a rule has.
-fn term_count(r: Rule) -> usize
+pub fn term_count(r: Rule) -> usize
     ensures { λ m. ⌜ m ≡ r .n ⌝ }
 {
     r.n as usize
 }
 
 // Whether term j of a rule holds of whom the request is about.
-fn meets_term(r: Rule, j: usize, ledger: &[u8], juniors: &[u32], q: Request) -> bool
+pub fn meets_term(r: Rule, j: usize, ledger: &[u8], juniors: &[u32], q: Request) -> bool
     requires { ⌜ (j < 8) × (length (now juniors) ≡ 32) ⌝ }
     ensures { λ x. ⌜ x ≡ termHolds (now (juniors .entry)) (holds (now (ledger .entry))) (subjectOf (q .fact)) (getD (r .terms) j noTerm) ⌝ }
 {

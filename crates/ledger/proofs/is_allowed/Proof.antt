@@ -3,7 +3,7 @@ use mathlib.Core.Path.{sym, ap, _∙_}
 use lib.Dec.{ltb}
 use Rattle.facts.specs.Facts.{holds}
 use Rattle.rules.specs.Rules.{permits, permitted}
-use Rattle.rules.proofs.FirstLaws.{any-first}
+use Rattle.quantifiers.proofs.FirstLaws.{any-first}
 use Rattle.frames.specs.Book.{contentsOf, listed}
 use Rattle.ledger.specs.Ledger.{allowed}
 use borrow.Author.Needs.{needs}

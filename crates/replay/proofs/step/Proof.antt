@@ -55,7 +55,7 @@ use Rattle.gate.proofs.Sizes.Laws as Z′
 use Rattle.frames.specs.declared.Rule.{Rule}
 use Rattle.frames.specs.Inner.Fits.{Short}
 use Rattle.quantifiers.specs.Inner.Lists.{Each}
-use Rattle.rules.specs.Inner.First.{first}
+use Rattle.quantifiers.specs.Quantifiers.{first}
 use Rattle.frames.proofs.Rule as R
 use Rattle.requests.specs.declared.Request.{Request}
 use Rattle.requests.specs.Requests.{requestOf}

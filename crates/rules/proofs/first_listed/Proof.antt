@@ -53,7 +53,7 @@ use Rattle.frames.specs.declared.Rules.{Rules}
 use Rattle.frames.specs.Book.{listed}
 use Rattle.frames.specs.Inner.Fits.{Short}
 use Rattle.quantifiers.specs.Inner.Lists.{Each}
-use Rattle.rules.specs.Inner.First.{first}
+use Rattle.quantifiers.specs.Quantifiers.{first}
 use Rattle.frames.proofs.Rule as T
 use Rattle.frames.proofs.Rule.Laws as T′
 use Rattle.frames.proofs.Rules as L

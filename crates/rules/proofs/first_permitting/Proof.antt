@@ -61,14 +61,15 @@ use Rattle.frames.specs.declared.Rule.{Rule}
 use Rattle.frames.specs.Book.{noTerm, noRule}
 use Rattle.frames.specs.Inner.Fits.{Short}
 use Rattle.quantifiers.specs.Inner.Lists.{Each}
-use Rattle.rules.specs.Inner.First.{first}
+use Rattle.quantifiers.specs.Quantifiers.{first}
 use Rattle.frames.proofs.Rule as T
 use Rattle.frames.proofs.Rule.Laws as T′
 use Rattle.requests.specs.declared.Request.{Request}
 use Rattle.requests.proofs.Request as Q
 use Rattle.requests.proofs.Request.Laws as Q′
 use Rattle.rules.specs.Rules.{names, permits}
-use Rattle.rules.proofs.TrialLaws.{at-place, holdsOf, Left, left-all, left-next, Open, open-all, open-out, open-unnamed, open-unmet, open-met}
+use Rattle.quantifiers.proofs.FirstLaws.{none-yet, none-left}
+use Rattle.rules.proofs.TrialLaws.{at-place, holdsOf, Left, left-all, left-next, Open, open-unnamed, open-unmet, open-met}
 use Rattle.rule_list.proofs.rule_at as rule-at
 use Rattle.rule_list.proofs.rule_at.Symbol as rule-at-def
 use Rattle.rule_list.proofs.rule_at.Symbol.{name as #rule_list·rule-at}
@@ -528,11 +529,11 @@ module _ {M : Type 1} (𝓤 : URA M) (H : Heap 𝓤) (A : Atoms 𝓤) (W : Given
         (init ! 11 refl (tt, tt)) $
         rewrite ! 11 (λ (z : Bool). ‵ (fat fullShare tyBool l₁₂ 0 (vbool z))) e refl $ leaves-loop ! (load ! (from ! (stop !)) (look ! 11 refl)) $
         exec ! C Λ En mir.t-5 (atRet En Post) $ forget ! 11 refl $
-        ends (i .0) n (g₀ .0) (open-out js S q (now s₀) (i .0) (ltb-false (i .0) n e) (i .1))
+        ends (i .0) n (g₀ .0) (none-left (permits js S q) (now s₀) (i .0) (i .1) (ltb-false (i .0) n e))
 
     -- the outer loop, and the body from its first statement
     tries : Sq W (Idle 0 n) (runs C Λ En mir.t-4 (atRet En Post))
-    tries = enters ! $ blocks ! $ loops ! 𝓣 Nearer Nearer-wf At (λ i. turn i (ltb (i .0) n) refl) (0, open-all js S q (now s₀))
+    tries = enters ! $ blocks ! $ loops ! 𝓣 Nearer Nearer-wf At (λ i. turn i (ltb (i .0) n) refl) (0, none-yet (permits js S q) (now s₀))
 
     body : Sq W At-first (runs C Λ En mir.t-1 (atRet En Post))
     body =
