@@ -11,9 +11,9 @@ use Rattle.ledger.specs.declared.Refusal.{Refusal}
 use Rattle.ledger.specs.declared.Outcome.{Outcome}
 use Rattle.ledger.specs.declared.Outcome.the-variants.{Done, Refused}
 use Rattle.ledger.specs.declared.Shown.{Shown}
-use Rattle.ledger.specs.Ledger.{refusal, said, refusalNumber, refusalLine}
+use Rattle.ledger.specs.Ledger.{refusal, atTerm, told, said, refusalNumber}
 use Rattle.ledger.specs.Show.{View, shown, viewOf}
-use Rattle.bixorgun.specs.Codes.{code, two, putTwo, twos, viewBytes, coded, viewCoded}
+use Rattle.bixorgun.specs.Codes.{code, toldValue, saidCode, two, putTwo, twos, viewBytes, coded, viewCoded}
 
 -- ---------------------------------------------------------------- one number read back
 
@@ -29,6 +29,14 @@ module _ (result number value : ℕ) (r : result < 256) (n : number < 256) (v : 
   pub value-back : code result number value / 65536 ≡ value
   unfolding code
   value-back = omega arith
+
+-- Of the value beside 15 the rule and the term are read back: a told term is below 256 (`unmet-within` of denials).
+module _ (rule term : ℕ) (t : term < 256) where
+  pub rule-back : toldValue (atTerm rule term) / 256 ≡ rule
+  rule-back = omega arith
+
+  pub term-back : toldValue (atTerm rule term) % 256 ≡ term
+  term-back = omega arith
 
 -- ---------------------------------------------------------------- sets written one behind the other
 
@@ -103,7 +111,7 @@ module _ {sets before : List ℕ} {i : ℕ} {view : List ℕ} (eight : length se
 -- ---------------------------------------------------------------- what show answers
 
 module _ (s : Shown) (v : View) (e : viewOf s ≡ v) where
-  pub view-hidden : (r : Refusal) → s .outcome ≡ Refused r → v .answer ≡ refusal (refusalNumber r) (refusalLine r)
+  pub view-hidden : (r : Refusal) → s .outcome ≡ Refused r → v .answer ≡ refusal (refusalNumber r) (told r)
   unfolding viewOf
   view-hidden r o = ap (λ (x : View). x .answer) (sym e) ∙ ap said o
 
@@ -112,7 +120,7 @@ module _ (s : Shown) (v : View) (e : viewOf s ≡ v) where
   view-shown o = sym e ∙ ap (λ (w : Outcome). record { answer = said w; sets = s .sets; crews = s .crews }) o
 
 module _ (v : View) (before : List ℕ) (n : ℕ) where
-  pub hidden-coded : (r : Refusal) → v .answer ≡ refusal (refusalNumber r) (refusalLine r) → n ≡ code 1 (refusalNumber r) (refusalLine r)
+  pub hidden-coded : (r : Refusal) → v .answer ≡ refusal (refusalNumber r) (told r) → n ≡ saidCode (refusal (refusalNumber r) (told r))
       → coded n before ≡ viewCoded v before
   hidden-coded r e is = rw (e, is) refl
 

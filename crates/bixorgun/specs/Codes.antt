@@ -5,7 +5,7 @@ use mathlib.Core.List.{List, [], _∷_, _++_}
 use Prim.Native.Nat.{ℕ, _+_, _*_, _/_, _%_}
 use lib.Dec.{leb}
 use lib.ListN.{length, drop, set}
-use Rattle.ledger.specs.Ledger.{Reply, Said, done as doneSaid, refusal}
+use Rattle.ledger.specs.Ledger.{Reply, Told, noPlace, onLine, atTerm, Said, done as doneSaid, refusal}
 use Rattle.ledger.specs.Show.{View}
 use Rattle.replay.specs.declared.Judgement.{Judgement}
 use Rattle.replay.specs.declared.Judgement.the-variants.{Reaches, Stops, EndsShort}
@@ -40,16 +40,22 @@ endsShort = 6
 abbrev pub noRoom : ℕ
 noRoom = 7
 
--- An answer: the result in the lowest byte, a refusal's number in the next, and above them a refusal's line, a plan's count or the
--- request at which replay stops, each below 2^48.
+-- An answer: the result in the lowest byte, a refusal's number in the next, and above them a refusal's line, or its rule and term, a
+-- plan's count or the request at which replay stops, each below 2^48.
 unfoldable pub code : ℕ → ℕ → ℕ → ℕ
 code result number value = result + 256 * number + 65536 * (value % 281474976710656)
 
 -- ---------------------------------------------------------------- the operations' answers
 
+-- What a refusal tells, as one number: its line, or 256 × rule + term.
+abbrev pub toldValue : Told → ℕ
+toldValue noPlace = 0
+toldValue (onLine n) = n
+toldValue (atTerm rule term) = 256 * rule + term
+
 abbrev pub saidCode : Said → ℕ
 saidCode doneSaid = code done 0 0
-saidCode (refusal number line) = code refused number line
+saidCode (refusal number t) = code refused number (toldValue t)
 
 abbrev pub judgementCode : Judgement → ℕ
 judgementCode Reaches = code reaches 0 0
@@ -101,7 +107,7 @@ viewBytes sets crews = twos sets ++ four crews
 
 -- show: the view fills the buffer's front; a buffer under 20 bytes, and one lent on a refusal, keeps its bytes.
 abbrev pub viewCodedFor : Said → List ℕ → ℕ → List ℕ → Coded
-viewCodedFor (refusal number line) sets crews before = coded (code refused number line) before
+viewCodedFor (refusal number t) sets crews before = coded (code refused number (toldValue t)) before
 viewCodedFor doneSaid sets crews before =
     cond (leb 20 (length before)) (coded (code done 0 0) (viewBytes sets crews ++ drop 20 before)) (coded (code noRoom 0 0) before)
 

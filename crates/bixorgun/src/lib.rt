@@ -3,14 +3,15 @@ ghost use mathlib.Core.Path.{_≡_};
 ghost use mathlib.Core.List.{_++_};
 ghost use Prim.Native.Nat.{_+_, _≤_};
 ghost use lib.ListN.{length, drop};
-ghost use Rattle.ledger.specs.Ledger.{said, openReply, requestReply};
+ghost use Rattle.ledger.specs.Ledger.{refusalNumber, denialTold, told, refusal, said, openReply, requestReply};
 ghost use Rattle.ledger.specs.Show.{showView};
 ghost use Rattle.replay.specs.Replay.{said as replaySaid, replayed};
 ghost use Rattle.planner.specs.Answer.{said as planSaid};
-ghost use Rattle.bixorgun.specs.Codes.{code, saidCode, judgementCode, replayCode, planCode, coded, replyCoded, putTwo, viewBytes, viewCoded, PlanCoded};
+ghost use Rattle.bixorgun.specs.Codes.{code, toldValue, saidCode, judgementCode, replayCode, planCode, coded, replyCoded, putTwo, viewBytes, viewCoded, PlanCoded};
+use denials::Denial;
 use facts::Person;
 
-// A result, a refusal's number and a line or count as one number.
+// A result, a refusal's number and what is told beside it as one number.
 fn code_of(result: u8, number: u8, value: usize) -> u64
     ensures { λ r. ⌜ r ≡ code result number value ⌝ }
 {
@@ -18,16 +19,40 @@ fn code_of(result: u8, number: u8, value: usize) -> u64
     (result as u64) + 256 * (number as u64) + 65536 * v
 }
 
+// The value beside 13 and 15.
+fn denial_value(d: Denial) -> usize
+    ensures { λ n. ⌜ n ≡ toldValue (denialTold d) ⌝ }
+{
+    match d {
+        Denial::NoRule => 0,
+        Denial::Unmet(rule, term) => 256 * (rule as usize) + (term as usize),
+    }
+}
+
+// The value beside a refusal's number.
+fn told_value(r: ledger::Refusal) -> usize
+    ensures { λ n. ⌜ n ≡ toldValue (told r) ⌝ }
+{
+    match r {
+        ledger::Refusal::BadBook(b) => frames::refusal_line(b),
+        ledger::Refusal::BadLedger => 0,
+        ledger::Refusal::BadRequest => 0,
+        ledger::Refusal::NotPermitted(d) => denial_value(d),
+    }
+}
+
+fn refusal_code(r: ledger::Refusal) -> u64
+    ensures { λ n. ⌜ n ≡ saidCode (refusal (refusalNumber r) (told r)) ⌝ }
+{
+    code_of(1, ledger::refusal_number(r), told_value(r))
+}
+
 fn outcome_code(o: ledger::Outcome) -> u64
     ensures { λ r. ⌜ r ≡ saidCode (said o) ⌝ }
 {
     match o {
         ledger::Outcome::Done => code_of(0, 0, 0),
-        ledger::Outcome::Refused(r) => code_of(
-            1,
-            ledger::refusal_number(r),
-            ledger::refusal_line(r),
-        ),
+        ledger::Outcome::Refused(r) => refusal_code(r),
     }
 }
 
@@ -115,7 +140,7 @@ pub extern "C" fn bixorgun_show(book: &[u8], state: &[u8], person: u8, view: &mu
     let s = ledger::show(book, state, Person(person));
     let outcome = s.outcome;
     if let ledger::Outcome::Refused(r) = outcome {
-        return code_of(1, ledger::refusal_number(r), ledger::refusal_line(r));
+        return refusal_code(r);
     }
     if view.len() < 20 {
         return code_of(7, 0, 0);

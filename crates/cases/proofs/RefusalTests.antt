@@ -1,5 +1,5 @@
 -- The test of a row of the table of refusals, which the prover computes, and the law that a row that passes is as it claims. Of the
--- product the test computes the reading of the book, the numbers of refusals 1-9, and what makes 10 to 14 fall. Assumes nothing.
+-- product the test computes the reading of the book, the numbers of refusals 1-9, and what makes 10 to 15 fall. Assumes nothing.
 use mathlib.Core.Path.{_≡_, refl, sym, subst, subst₂, _∙_}
 use mathlib.Core.Bool.{Bool, true, false, not, cond, _&&_, true≢false}
 use mathlib.Core.List.{List}
@@ -8,7 +8,7 @@ use native.Mathlib.Omega.{arith}
 use lib.Dec.{eqb, ltb}
 use lib.ListN.{length}
 use borrow.Author.Tests.{eqb-true, eqb-false, ltb-true, ne-eqb, not-true}
-use Rattle.facts.specs.Facts.{ledgerSize}
+use Rattle.facts.specs.Facts.{ledgerSize, holds}
 use Rattle.quantifiers.proofs.BoolLaws.{and-both}
 use Rattle.gate.specs.Gate.{isPerson}
 use Rattle.frames.specs.declared.Refusal.{Refusal}
@@ -16,22 +16,42 @@ use Rattle.frames.specs.Book.{Contents, Answer, refused, accepted, bookOf, refu
 use Rattle.requests.specs.Requests.{requestOf, wellFormed}
 use Rattle.requests.specs.Suitable.{suitable}
 use Rattle.requests.proofs.RequestLaws.{suitable-length}
-use Rattle.ledger.specs.Ledger.{allowed, openIn, openReply, requestIn, requestReply}
+use Rattle.denials.specs.declared.Denial.{Denial}
+use Rattle.denials.specs.declared.Denial.the-variants.{NoRule, Unmet}
+use Rattle.denials.specs.Denials.{whyNot}
+use Rattle.ledger.specs.Ledger.{noPlace, atTerm, allowed, openIn, openReply, requestIn, requestReply}
 use Rattle.ledger.specs.Show.{showIn, showView}
 use Rattle.replay.specs.Replay as replay
 use Rattle.replay.specs.Replay.{replayIn, replayed}
 use Rattle.planner.specs.Count.{factCount}
 use Rattle.planner.specs.Answer.{said, AnsweredFor}
 use Rattle.cases.specs.Text.{five}
-use Rattle.cases.specs.Refusals.{Trial, on-book, buffer-of, ledger-of, asked, shown-to, list-of, RefusalRow, Refuses, Turned, refusing, PlanRefuses}
+use Rattle.cases.specs.Refusals.{Trial, on-book, buffer-of, ledger-of, asked, asked-for, shown-to, list-of, RefusalRow, Refuses, Turned, refusing, PlanRefuses}
 use Rattle.cases.specs.Refusals.{BookRefused, LedgerRefused, RequestRefused, ShowRefused}
 use Rattle.cases.proofs.Tests.{opened-facts, facts-suitable}
 
 -- ---------------------------------------------------------------- the test
 
+-- Why a request is not permitted in the starting facts.
+unfoldable pub why : Contents → List ℕ → Denial
+why b q = whyNot (b .juniors) (b .rules) (holds (b .facts)) (requestOf q)
+
+-- No rule has its op, role, a and v; or this rule is the first that has them, with this first unmet term.
+abbrev isNone : Denial → Bool
+isNone NoRule = true
+isNone (Unmet rule term) = false
+
+abbrev isAt : Denial → ℕ → ℕ → Bool
+isAt NoRule rule term = false
+isAt (Unmet i j) rule term = eqb i rule && eqb j term
+
 -- Refusal 12, else 13, of a request in the starting facts.
 unfoldable pub fallsOn : Contents → List ℕ → ℕ → Bool
-fallsOn b q n = cond (wellFormed (b .sizes) q) (not (allowed b (b .facts) (requestOf q)) && eqb n 13) (eqb n 12)
+fallsOn b q n = cond (wellFormed (b .sizes) q) (not (allowed b (b .facts) (requestOf q)) && (isNone (why b q) && eqb n 13)) (eqb n 12)
+
+-- 15, with this rule and this term.
+unfoldable pub fallsAt : Contents → List ℕ → ℕ → ℕ → ℕ → Bool
+fallsAt b q rule term n = wellFormed (b .sizes) q && (not (allowed b (b .facts) (requestOf q)) && (isAt (why b q) rule term && eqb n 15))
 
 -- Refusal n falls on the trial under an accepted book.
 unfoldable pub falls : Contents → ℕ → Trial → Bool
@@ -39,6 +59,7 @@ falls b n on-book = false
 falls b n (buffer-of size) = ltb size (10 * factCount (b .sizes)) && eqb n 10
 falls b n (ledger-of size) = not (eqb size ledgerSize) && eqb n 11
 falls b n (asked q) = fallsOn b (five q) n
+falls b n (asked-for q rule term) = fallsAt b (five q) rule term n
 falls b n (shown-to p) = not (isPerson (b .sizes) p) && eqb n 12
 falls b n (list-of size) = not (eqb (size % 5) 0) && eqb n 14
 
@@ -47,6 +68,7 @@ isTurned (refused r) n k on-book = eqb (refusalNumber r) n && eqb (refusalLine r
 isTurned (refused r) n k (buffer-of size) = false
 isTurned (refused r) n k (ledger-of size) = false
 isTurned (refused r) n k (asked q) = false
+isTurned (refused r) n k (asked-for q rule term) = false
 isTurned (refused r) n k (shown-to p) = false
 isTurned (refused r) n k (list-of size) = false
 isTurned (accepted b) n k t = falls b n t && eqb k 0
@@ -55,6 +77,14 @@ unfoldable pub turned : RefusalRow → Bool
 turned r = isTurned (bookOf (r .book)) (r .number) (r .line) (r .trial)
 
 -- ---------------------------------------------------------------- what it tells
+
+none-is : (d : Denial) → isNone d ≡ true → d ≡ NoRule
+none-is NoRule e = refl
+none-is (Unmet rule term) e = absurd (true≢false (sym e))
+
+at-is : (d : Denial) (rule term : ℕ) → isAt d rule term ≡ true → d ≡ Unmet rule term
+at-is NoRule rule term e = absurd (true≢false (sym e))
+at-is (Unmet i j) rule term e = let both = and-both (eqb i rule) (eqb j term) e in rw (eqb-true i rule (both .0), eqb-true j term (both .1)) refl
 
 -- A refused book is refused by every operation.
 book-refused : (chars : List ℕ) (r : Refusal) → bookOf chars ≡ refused r → BookRefused chars (refusalNumber r) (refusalLine r)
@@ -81,7 +111,7 @@ module _ (chars : List ℕ) (b : Contents) (read : bookOf chars ≡ accepted b) 
       by-test true i = absurd (other (suitable-length (b .sizes) l i))
       by-test false i = i
 
-  ledger-refused : (size : ℕ) → (size ≡ ledgerSize → ⊥) → LedgerRefused chars size 11 0
+  ledger-refused : (size : ℕ) → (size ≡ ledgerSize → ⊥) → LedgerRefused chars size 11
   unfolding openReply openIn requestReply requestIn showView showIn
   ledger-refused size other =
       record {
@@ -91,21 +121,37 @@ module _ (chars : List ℕ) (b : Contents) (read : bookOf chars ≡ accepted b) 
       }
 
   -- 12, or else 13, falls on a request in the starting facts.
-  request-refused : (q : List ℕ) (n : ℕ) → fallsOn b q n ≡ true → RequestRefused chars q n 0
-  unfolding fallsOn requestReply requestIn
+  request-refused : (q : List ℕ) (n : ℕ) → fallsOn b q n ≡ true → RequestRefused chars q n noPlace
+  unfolding fallsOn why requestReply requestIn
   request-refused q n e = record { ledger = b .facts; opened = opened-facts chars b read; refuses = by-form (wellFormed (b .sizes) q) refl e }
     where
       permits : Bool
       permits = allowed b (b .facts) (requestOf q)
 
-      by-form : (t : Bool) → wellFormed (b .sizes) q ≡ t → cond t (not permits && eqb n 13) (eqb n 12) ≡ true
-          → requestReply chars (b .facts) q ≡ refusing n 0 (b .facts)
+      by-form : (t : Bool) → wellFormed (b .sizes) q ≡ t → cond t (not permits && (isNone (why b q) && eqb n 13)) (eqb n 12) ≡ true
+          → requestReply chars (b .facts) q ≡ refusing n noPlace (b .facts)
       by-form true i f =
-          let both = and-both (not permits) (eqb n 13) f in
-          rw (read, facts-suitable chars b read, i, not-true permits (both .0), eqb-true n 13 (both .1)) refl
+          let both = and-both (not permits) (isNone (why b q) && eqb n 13) f in
+          let none = and-both (isNone (why b q)) (eqb n 13) (both .1) in
+          rw (read, facts-suitable chars b read, i, not-true permits (both .0), none-is (why b q) (none .0), eqb-true n 13 (none .1)) refl
       by-form false i f = rw (read, facts-suitable chars b read, i, eqb-true n 12 f) refl
 
-  show-refused : (p : ℕ) → isPerson (b .sizes) p ≡ false → ShowRefused chars (record { 0 = p }) 12 0
+  -- 15 falls on a request in the starting facts, with the rule and the term.
+  request-unmet : (q : List ℕ) (rule term n : ℕ) → fallsAt b q rule term n ≡ true → RequestRefused chars q n (atTerm rule term)
+  unfolding fallsAt why requestReply requestIn
+  request-unmet q rule term n e =
+      let permits = allowed b (b .facts) (requestOf q) in
+      let formed = and-both (wellFormed (b .sizes) q) _ e in
+      let denied = and-both (not permits) _ (formed .1) in
+      let at = and-both (isAt (why b q) rule term) (eqb n 15) (denied .1) in
+      record {
+        ledger = b .facts;
+        opened = opened-facts chars b read;
+        refuses =
+            rw (read, facts-suitable chars b read, formed .0, not-true permits (denied .0), at-is (why b q) rule term (at .0), eqb-true n 15 (at .1)) refl;
+      }
+
+  show-refused : (p : ℕ) → isPerson (b .sizes) p ≡ false → ShowRefused chars (record { 0 = p }) 12
   unfolding showView showIn
   show-refused p none =
       record { ledger = b .facts; opened = opened-facts chars b read; refuses = rw (read, facts-suitable chars b read, none) refl }
@@ -122,11 +168,12 @@ module _ (chars : List ℕ) (b : Contents) (read : bookOf chars ≡ accepted b) 
       rw (eqb-true n 10 (both .1)) (buffer-refused size (ltb-true size (10 * factCount (b .sizes)) (both .0)))
   falls-refuses n (ledger-of size) e =
       let both = and-both (not (eqb size ledgerSize)) (eqb n 11) e in
-      rw (eqb-true n 11 (both .1)) (ledger-refused size (eqb-false size ledgerSize (not-true _ (both .0))))
-  falls-refuses n (asked q) e = request-refused (five q) n e
+      (refl, rw (eqb-true n 11 (both .1)) (ledger-refused size (eqb-false size ledgerSize (not-true _ (both .0)))))
+  falls-refuses n (asked q) e = (refl, request-refused (five q) n e)
+  falls-refuses n (asked-for q rule term) e = (refl, request-unmet (five q) rule term n e)
   falls-refuses n (shown-to p) e =
       let both = and-both (not (isPerson (b .sizes) p)) (eqb n 12) e in
-      rw (eqb-true n 12 (both .1)) (show-refused p (not-true _ (both .0)))
+      (refl, rw (eqb-true n 12 (both .1)) (show-refused p (not-true _ (both .0))))
   falls-refuses n (list-of size) e =
       let both = and-both (not (eqb (size % 5) 0)) (eqb n 14) e in
       rw (eqb-true n 14 (both .1)) (list-refused size (not-true _ (both .0)))
@@ -144,6 +191,7 @@ turned-back r e = by-answer (bookOf (r .book)) refl (r .trial) e
     by-answer (refused x) i (buffer-of size) f = absurd (true≢false (sym f))
     by-answer (refused x) i (ledger-of size) f = absurd (true≢false (sym f))
     by-answer (refused x) i (asked q) f = absurd (true≢false (sym f))
+    by-answer (refused x) i (asked-for q rule term) f = absurd (true≢false (sym f))
     by-answer (refused x) i (shown-to p) f = absurd (true≢false (sym f))
     by-answer (refused x) i (list-of size) f = absurd (true≢false (sym f))
     by-answer (accepted b) i t f =

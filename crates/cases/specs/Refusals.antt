@@ -1,12 +1,12 @@
--- The table of refusals, with the paper's number, line and example of each. Paper 01, "Turned back at the gate". What a row means is
--- said by the product's own definitions on the book's characters; no number is taken from them.
+-- The table of refusals, with the paper's number, line and example of each. Paper 01, "Turned back at the gate"; 15 by paper 02. What a
+-- row means is said by the product's own definitions on the book's characters; no number is taken from them.
 use mathlib.Core.Path.{_≡_}
 use mathlib.Core.List.{List, [], _∷_, _++_}
 use Prim.Native.Nat.{ℕ}
 use Prim.Native.String.{String}
 use lib.ListN.{length, replicate}
 use Rattle.facts.specs.declared.Person.{Person}
-use Rattle.ledger.specs.Ledger.{Reply, refusal, openReply, requestReply}
+use Rattle.ledger.specs.Ledger.{Reply, Told, noPlace, onLine, atTerm, refusal, openReply, requestReply}
 use Rattle.ledger.specs.Show.{hidden, showView}
 use Rattle.replay.specs.Replay as replay
 use Rattle.replay.specs.Replay.{replayed}
@@ -27,6 +27,8 @@ pub data Trial : Type 0 where
   ledger-of : ℕ → Trial
   -- 12 and 13: this request on the ledger of starting facts.
   asked : String → Trial
+  -- 15: this request on the ledger of starting facts, and the rule and the term that are told.
+  asked-for : String → ℕ → ℕ → Trial
   -- 12: show of this person on the ledger of starting facts.
   shown-to : ℕ → Trial
   -- 14: replay of a list of so many bytes.
@@ -42,9 +44,9 @@ pub record RefusalRow : Type 0 where
 abbrev pub refusalRow : ℕ → ℕ → List ℕ → Trial → RefusalRow
 refusalRow n k chars t = record { number = n; line = k; book = chars; trial = t }
 
--- Refusal n with line k of an operation on a lent ledger: "every lent buffer keeps its bytes".
-abbrev pub refusing : ℕ → ℕ → List ℕ → Reply
-refusing n k l = record { answer = refusal n k; ledger = l }
+-- Refusal n, with what it tells, of an operation on a lent ledger: "every lent buffer keeps its bytes".
+abbrev pub refusing : ℕ → Told → List ℕ → Reply
+refusing n t l = record { answer = refusal n t; ledger = l }
 
 -- The same of plan and its buffer: what its promise says of every answer.
 abbrev pub PlanRefuses : List ℕ → ℕ → ℕ → List ℕ → Type 0
@@ -52,37 +54,38 @@ PlanRefuses chars n k before = (answer : Planned) (out : List ℕ) → PlanPromi
 
 -- Every operation refuses the book, whatever else it is given.
 pub record BookRefused (chars : List ℕ) (n k : ℕ) : Type 0 where
-  pub opens : (l : List ℕ) → openReply chars l ≡ refusing n k l
-  pub requests : (l q : List ℕ) → requestReply chars l q ≡ refusing n k l
-  pub shows : (l : List ℕ) (p : Person) → showView chars l p ≡ hidden n k
+  pub opens : (l : List ℕ) → openReply chars l ≡ refusing n (onLine k) l
+  pub requests : (l q : List ℕ) → requestReply chars l q ≡ refusing n (onLine k) l
+  pub shows : (l : List ℕ) (p : Person) → showView chars l p ≡ hidden n (onLine k)
   pub replays : (bytes : List ℕ) → replayed chars bytes ≡ replay.refusal n k
   pub plans : (before : List ℕ) → PlanRefuses chars n k before
 
 -- Open, request and show refuse every ledger of this size.
-pub record LedgerRefused (chars : List ℕ) (size n k : ℕ) : Type 0 where
-  pub opens : (l : List ℕ) → length l ≡ size → openReply chars l ≡ refusing n k l
-  pub requests : (l q : List ℕ) → length l ≡ size → requestReply chars l q ≡ refusing n k l
-  pub shows : (l : List ℕ) (p : Person) → length l ≡ size → showView chars l p ≡ hidden n k
+pub record LedgerRefused (chars : List ℕ) (size n : ℕ) : Type 0 where
+  pub opens : (l : List ℕ) → length l ≡ size → openReply chars l ≡ refusing n noPlace l
+  pub requests : (l q : List ℕ) → length l ≡ size → requestReply chars l q ≡ refusing n noPlace l
+  pub shows : (l : List ℕ) (p : Person) → length l ≡ size → showView chars l p ≡ hidden n noPlace
 
 -- The request is refused on the ledger that open writes.
-pub record RequestRefused (chars q : List ℕ) (n k : ℕ) : Type 0 where
+pub record RequestRefused (chars q : List ℕ) (n : ℕ) (t : Told) : Type 0 where
   pub ledger : List ℕ
   pub opened : Opened chars ledger
-  pub refuses : requestReply chars ledger q ≡ refusing n k ledger
+  pub refuses : requestReply chars ledger q ≡ refusing n t ledger
 
 -- On that ledger the person is not shown.
-pub record ShowRefused (chars : List ℕ) (p : Person) (n k : ℕ) : Type 0 where
+pub record ShowRefused (chars : List ℕ) (p : Person) (n : ℕ) : Type 0 where
   pub ledger : List ℕ
   pub opened : Opened chars ledger
-  pub refuses : showView chars ledger p ≡ hidden n k
+  pub refuses : showView chars ledger p ≡ hidden n noPlace
 
--- Refusal n with line k falls on the book's characters as they are tried.
+-- Refusal n with line k falls on the book's characters as they are tried; k is 0 for those without a line.
 unfoldable pub Refuses : List ℕ → ℕ → ℕ → Trial → Type 0
 Refuses chars n k on-book = BookRefused chars n k
 Refuses chars n k (buffer-of size) = (before : List ℕ) → length before ≡ size → PlanRefuses chars n k before
-Refuses chars n k (ledger-of size) = LedgerRefused chars size n k
-Refuses chars n k (asked q) = RequestRefused chars (five q) n k
-Refuses chars n k (shown-to p) = ShowRefused chars (record { 0 = p }) n k
+Refuses chars n k (ledger-of size) = (k ≡ 0) × LedgerRefused chars size n
+Refuses chars n k (asked q) = (k ≡ 0) × RequestRefused chars (five q) n noPlace
+Refuses chars n k (asked-for q rule term) = (k ≡ 0) × RequestRefused chars (five q) n (atTerm rule term)
+Refuses chars n k (shown-to p) = (k ≡ 0) × ShowRefused chars (record { 0 = p }) n
 Refuses chars n k (list-of size) = (bytes : List ℕ) → length bytes ≡ size → replayed chars bytes ≡ replay.refusal n k
 
 -- What a row claims.
@@ -109,6 +112,10 @@ goodRule = "030100000000"
 
 abbrev pub goodBook : List ℕ
 goodBook = written (goodFirst ∷ goodRule ∷ goodLast ∷ [])
+
+-- Person 0 holds value 0. Behind the rule above, given twice, role 1 may add value 1 to who directly holds 0 and 1, or 1.
+abbrev pub unmetBook : List ℕ
+unmetBook = written (goodFirst ∷ goodRule ∷ goodRule ∷ "030101000102010000010001" ∷ "030101000101010001" ∷ "0401000000" ∷ goodLast ∷ [])
 
 -- "Each returns its number, and 1-9 a line (1 for refusal 1: line 0)". Above each row its "when", then its example; where the "when" has
 -- several cases, one more example for each.
@@ -155,6 +162,8 @@ refusals =
     ∷ refusalRow 12 0 goodBook (shown-to 1)
     -- "not permitted": "a role without rules"
     ∷ refusalRow 13 0 goodBook (asked "0101000000")
+    -- Paper 02, "Where rules match and each has a term that does not hold": value 1 by role 1, the third rule and its second term
+    ∷ refusalRow 15 0 unmetBook (asked-for "0101000001" 3 2)
     -- "plan length no multiple of five": "7 bytes"
     ∷ refusalRow 14 0 goodBook (list-of 7)
     ∷ []

@@ -5,23 +5,25 @@ ghost use lib.ListN.{length};
 ghost use Rattle.facts.specs.Facts.{ledgerSize, holds, putFact};
 ghost use Rattle.requests.specs.Requests.{adds};
 ghost use Rattle.gate.specs.Inner.Ranges.{InRange};
-ghost use Rattle.frames.specs.Book.{contentsOf};
+ghost use Rattle.frames.specs.Book.{listed, contentsOf};
 ghost use Rattle.frames.specs.Inner.Fits.{Admitted};
-ghost use Rattle.ledger.specs.Ledger.{refusalNumber, refusalLine, reply, openIn, openReply, allowed, requestIn, requestReply};
+ghost use Rattle.denials.specs.Denials.{whyNot};
+ghost use Rattle.ledger.specs.Ledger.{refusalNumber, told, reply, openIn, openReply, allowed, requestIn, requestReply};
 ghost use Rattle.ledger.specs.Show.{setBelow, valueSet, valueSets, hidden, showIn, showView, viewOf};
 ghost use Rattle.inherit.specs.Inheritance.{personHolds, personIn};
+use denials::Denial;
 use facts::Attr;
 use facts::Crew;
 use facts::LEDGER_SIZE;
 use facts::Person;
 use frames::Book;
 
-// The refusals 1-9 and 11-13.
+// The refusals 1-9, 11-13 and 15.
 pub enum Refusal {
     BadBook(frames::Refusal),
     BadLedger,
     BadRequest,
-    NotPermitted,
+    NotPermitted(Denial),
 }
 
 pub enum Outcome {
@@ -44,19 +46,7 @@ pub fn refusal_number(r: Refusal) -> u8
         Refusal::BadBook(b) => frames::refusal_number(b),
         Refusal::BadLedger => 11,
         Refusal::BadRequest => 12,
-        Refusal::NotPermitted => 13,
-    }
-}
-
-// The line of a refusal, 0 for those without.
-pub fn refusal_line(r: Refusal) -> usize
-    ensures { λ n. ⌜ n ≡ refusalLine r ⌝ }
-{
-    match r {
-        Refusal::BadBook(b) => frames::refusal_line(b),
-        Refusal::BadLedger => 0,
-        Refusal::BadRequest => 0,
-        Refusal::NotPermitted => 0,
+        Refusal::NotPermitted(d) => denials::denial_number(d),
     }
 }
 
@@ -107,6 +97,16 @@ fn is_allowed(b: Book, ledger: &[u8], q: requests::Request) -> bool
     rules::first_listed(rules, ledger, &juniors, q) < n
 }
 
+// Why no rule permits the request.
+fn why_not(b: Book, ledger: &[u8], q: requests::Request) -> Denial
+    requires { ⌜ Admitted (contentsOf b) ⌝ }
+    ensures { λ d. ⌜ d ≡ whyNot (b .juniors) (listed (b .rules)) (holds (now (ledger .entry))) q ⌝ }
+{
+    let juniors = b.juniors;
+    let rules = b.rules;
+    denials::why_not(rules, ledger, &juniors, q)
+}
+
 // Sets or clears the one fact of a request.
 fn carry_out(ledger: &mut [u8], q: requests::Request)
     ensures { λ _. ⌜ now (ledger .exit) ≡ putFact (now (ledger .entry)) (q .fact) (adds (q .op)) ⌝ }
@@ -129,7 +129,8 @@ fn request_in(b: Book, ledger: &mut [u8], request: &[u8]) -> Outcome
     }
     let q = requests::request_of(request);
     if !is_allowed(b, ledger, q) {
-        return Outcome::Refused(Refusal::NotPermitted);
+        let d = why_not(b, ledger, q);
+        return Outcome::Refused(Refusal::NotPermitted(d));
     }
     carry_out(ledger, q);
     Outcome::Done
@@ -208,7 +209,7 @@ fn value_sets(z: gate::Sizes, ledger: &[u8], juniors: &[u32], p: Person) -> [u32
 
 // A refused show.
 fn not_shown(r: Refusal) -> Shown
-    ensures { λ s. ⌜ viewOf s ≡ hidden (refusalNumber r) (refusalLine r) ⌝ }
+    ensures { λ s. ⌜ viewOf s ≡ hidden (refusalNumber r) (told r) ⌝ }
 {
     Shown {
         outcome: Outcome::Refused(r),

@@ -1,10 +1,11 @@
--- `ledger::request_in` meets its contract: 11, then 12, then 13, else the one fact is set or cleared. Assumes nothing.
+-- `ledger::request_in` meets its contract: 11, then 12, then 13 or 15, else the one fact is set or cleared. Assumes nothing.
 use mathlib.Core.Path.{sym, ap, _∙_}
 use borrow.Author.Tests.{not-true, not-false}
 use Rattle.frames.specs.Book.{contentsOf}
 use Rattle.ledger.specs.Ledger.{reply, requestIn, after}
 use Rattle.ledger.specs.declared.Outcome.the-variants.{Done}
 use borrow.Author.Needs.{needs}
+use Rattle.ledger.proofs.DeniedLaws.{denied-said}
 use Rattle.ledger.proofs.request_in.Statement.{statement}
 use Rattle.ledger.proofs.request_in.Tie as tie
 
@@ -38,20 +39,25 @@ request-of-requires c κs = search needs
 is-allowed-requires : tie.Need-is-allowed-requires
 is-allowed-requires c κs = search needs
 
+why-not-requires : tie.Need-why-not-requires
+why-not-requires c κs = search needs
+
 same-length-3 : tie.Need-same-length-3
 same-length-3 c = search needs
 
 returns-3 : tie.Need-returns-3
 unfolding requestIn contentsOf after
 returns-3 c =
-    let formed = c .before .before .before .before in
+    let denied = c .before .before in
+    let formed = denied .before .before .before .before in
     let suited = formed .before .before in
     rw (
       sym (suited .before .is-suitable .ensures) ∙ not-false _ (suited .if1 .left),
       sym (formed .before .is-request .ensures) ∙ not-false _ (formed .if2 .left),
-      ← c .before .before .before .request-of .ensures,
-      sym (c .before .is-allowed .ensures) ∙ not-true _ (c .if3 .taken),
-    )
+      ← denied .before .before .before .request-of .ensures,
+      sym (denied .before .is-allowed .ensures) ∙ not-true _ (denied .if3 .taken),
+      ← c .why-not .ensures,
+    ) (denied-said (c .why-not .result) _)
 
 carry-out-requires : tie.Need-carry-out-requires
 carry-out-requires c κs = search needs
@@ -85,6 +91,7 @@ request-in-spec =
     returns-2
     request-of-requires
     is-allowed-requires
+    why-not-requires
     same-length-3
     returns-3
     carry-out-requires
