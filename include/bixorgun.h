@@ -3,7 +3,7 @@
  * Link with libbixorgun.a (x86-64). The functions keep no state, allocate nothing and write to the one lent buffer
  * alone, so any number of threads may call them at once; a buffer that one call writes is in no other call's hands
  * meanwhile. Give a thread 320 KB of stack or more (BIXORGUN_STACK). As measured with threads, plan needs 174 KB (of
- * 1,024 bytes) and each other operation 72 KB or less; the rest is room for later versions.
+ * 1,024 bytes), request 84 KB and each other operation 72 KB or less; the rest is room for later versions.
  *
  * What the proofs take for granted, and a caller has to see to:
  *   - a pointer is valid for the length that follows it and is never NULL. For length 0 any non-null pointer will do;
@@ -26,9 +26,9 @@ extern "C" {
 
 /* The minor rises with every later change of a format or of this interface. */
 #define BIXORGUN_VERSION_MAJOR 0
-#define BIXORGUN_VERSION_MINOR 2
+#define BIXORGUN_VERSION_MINOR 3
 #define BIXORGUN_VERSION_PATCH 0
-#define BIXORGUN_VERSION "0.2.0"
+#define BIXORGUN_VERSION "0.3.0"
 
 /* ---------------------------------------------------------------- sizes, in bytes */
 
@@ -49,9 +49,10 @@ static inline size_t bixorgun_plan_size(size_t crews, size_t attributes, size_t 
 
 /* Every operation answers one number:
  *   bits 0-7    the result, one of those below;
- *   bits 8-15   the number of a refusal, 1 to 14 (0 with every other result);
- *   bits 16-63  the value: with REFUSED the line of refusals 1 to 9 (0 for refusal 1 and for 10 to 14), with PLAN the count of
- *               requests, with STOPS the request at which replay stops, counted from 1; 0 with every other result.
+ *   bits 8-15   the number of a refusal, 1 to 15 (0 with every other result);
+ *   bits 16-63  the value: with REFUSED the line of refusals 1 to 9 alone (0 for refusal 1), 0 for 10 to 14, and for 15
+ *               256 x rule + term, which bixorgun_rule and bixorgun_term take apart; with PLAN the count of requests,
+ *               with STOPS the request at which replay stops, counted from 1; 0 with every other result.
  *               A value of 2^48 or more, which only replay of a plan of over 10^15 bytes could have, is given modulo 2^48.
  */
 #define BIXORGUN_DONE 0       /* open, request, show */
@@ -91,8 +92,24 @@ static inline uint64_t bixorgun_value(uint64_t answer)
 #define BIXORGUN_SHORT_PLAN_BUFFER 10 /* plan: under 10 x F bytes */
 #define BIXORGUN_BAD_LEDGER 11       /* open: not 1,792 bytes; request, show: or a bit outside the sizes */
 #define BIXORGUN_BAD_REQUEST 12      /* request: not five bytes or a field out of range; show: no such person */
-#define BIXORGUN_NOT_PERMITTED 13    /* request */
+#define BIXORGUN_NO_RULE 13          /* request: no rule has its op, role, a and v */
 #define BIXORGUN_BAD_PLAN_LENGTH 14  /* replay: no multiple of five */
+#define BIXORGUN_UNMET_TERM 15       /* request: rules have its op, role, a and v; each has a term that does not hold */
+
+/* Of an answer REFUSED with 15: the place of the first rule that has the request's op, role, a and v, among all the
+ * book's rules (03 frames in the book's order, repeats counted, other lines not), counted from 1: 1 to 512.
+ * 0 of every other answer. */
+static inline unsigned bixorgun_rule(uint64_t answer)
+{
+    return bixorgun_refusal(answer) == BIXORGUN_UNMET_TERM ? (unsigned)(bixorgun_value(answer) / 256) : 0;
+}
+
+/* Of an answer REFUSED with 15: the place in that rule of its first term that does not hold, counted from 1: 1 to 8.
+ * 0 of every other answer. */
+static inline unsigned bixorgun_term(uint64_t answer)
+{
+    return bixorgun_refusal(answer) == BIXORGUN_UNMET_TERM ? (unsigned)(bixorgun_value(answer) % 256) : 0;
+}
 
 /* ---------------------------------------------------------------- operations */
 
@@ -102,7 +119,10 @@ uint64_t bixorgun_open(const uint8_t *book, size_t book_len, uint8_t *ledger, si
 
 /* Carries out a request, five bytes: op role subject a v.
  * DONE: it was permitted, and its one fact is set or cleared in `ledger` (it may have been so already).
- * REFUSED with 1-9, 11, 12 or 13; a refusal leaves every byte of `ledger` as it was. */
+ * REFUSED with 1-9, then 11, 12, then 13 or 15, both "not permitted"; a refusal leaves every byte of `ledger` as it
+ * was. 13: no rule has its op, role, a and v. 15: some rules have them, and each has a term that does not hold of the
+ * subject in `ledger` as it stands; bixorgun_rule and bixorgun_term of the answer tell the first such rule and its first
+ * such term. */
 uint64_t bixorgun_request(const uint8_t *book, size_t book_len, uint8_t *ledger, size_t ledger_len,
                           const uint8_t *request, size_t request_len);
 

@@ -1,6 +1,7 @@
-/* Plans a book, from a file or standard input, carries the plan out on a ledger and shows the query's person before and after.
+/* Plans a book, from a file or standard input, carries the plan out on a ledger and shows the query's person before and
+ * after. With requests, ten digits each, it makes these in the plan's place and says of each what came of it.
  *
- *     plan_book [FILE]
+ *     plan_book [FILE [REQUEST...]]
  *     plan_book --version
  */
 #include <inttypes.h>
@@ -21,10 +22,27 @@ static void print_bytes(const uint8_t *bytes, size_t n)
     putchar('\n');
 }
 
+/* A lead reads 13 and 15 in words: with 13 the rule is missing, with 15 what a rule asks for. */
+static void print_refusal(FILE *to, uint64_t answer)
+{
+    switch (bixorgun_refusal(answer)) {
+    case BIXORGUN_NO_RULE:
+        fprintf(to, "refusal 13: no rule of the book matches the request's op, role, a and v\n");
+        break;
+    case BIXORGUN_UNMET_TERM:
+        fprintf(to, "refusal 15: rule %u of the book matches the request, but its term %u does not hold\n",
+                bixorgun_rule(answer), bixorgun_term(answer));
+        break;
+    default:
+        fprintf(to, "result %u, refusal %u, line %" PRIu64 "\n", bixorgun_result(answer), bixorgun_refusal(answer),
+                bixorgun_value(answer));
+    }
+}
+
 static int refused(const char *operation, uint64_t answer)
 {
-    fprintf(stderr, "%s: result %u, refusal %u, line %" PRIu64 "\n", operation, bixorgun_result(answer), bixorgun_refusal(answer),
-            bixorgun_value(answer));
+    fprintf(stderr, "%s: ", operation);
+    print_refusal(stderr, answer);
     return 1;
 }
 
@@ -52,19 +70,41 @@ static uint8_t query_person(size_t book_len)
     return sscanf((const char *)book + at, "%*4c%2x", &person) == 1 ? (uint8_t)person : 0;
 }
 
-int main(int argc, char **argv)
+/* Reads a request from ten digits; 0 when they are not that. */
+static int read_request(const char *digits, uint8_t *request)
 {
-    if (argc > 1 && strcmp(argv[1], "--version") == 0) {
-        puts(BIXORGUN_VERSION);
+    if (strlen(digits) != 2 * BIXORGUN_REQUEST_SIZE || strspn(digits, "0123456789ABCDEF") != 2 * BIXORGUN_REQUEST_SIZE)
         return 0;
-    }
-    FILE *in = argc > 1 ? fopen(argv[1], "rb") : stdin;
-    if (!in) {
-        perror(argv[1]);
-        return 2;
-    }
-    size_t book_len = fread(book, 1, sizeof book, in);
+    for (size_t i = 0; i < BIXORGUN_REQUEST_SIZE; i++)
+        if (sscanf(digits + 2 * i, "%2" SCNx8, request + i) != 1)
+            return 0;
+    return 1;
+}
 
+/* Makes the caller's own requests from the starting facts. One that is refused leaves the ledger as it was. */
+static int make_requests(size_t book_len, char **digits, int count)
+{
+    uint64_t answer = bixorgun_open(book, book_len, ledger, sizeof ledger);
+    if (bixorgun_result(answer) != BIXORGUN_DONE)
+        return refused("open", answer);
+    for (int i = 0; i < count; i++) {
+        uint8_t request[BIXORGUN_REQUEST_SIZE];
+        if (!read_request(digits[i], request)) {
+            fprintf(stderr, "%s: a request is ten digits, 0-9 and A-F\n", digits[i]);
+            return 2;
+        }
+        answer = bixorgun_request(book, book_len, ledger, sizeof ledger, request, sizeof request);
+        printf("request %s: ", digits[i]);
+        if (bixorgun_result(answer) == BIXORGUN_DONE)
+            puts("done");
+        else
+            print_refusal(stdout, answer);
+    }
+    return show(book_len, query_person(book_len));
+}
+
+static int carry_out_plan(size_t book_len)
+{
     uint64_t answer = bixorgun_plan(book, book_len, plan, sizeof plan);
     if (bixorgun_result(answer) == BIXORGUN_NO_WAY) {
         puts("no way");
@@ -94,4 +134,19 @@ int main(int argc, char **argv)
             return refused("request", answer);
     }
     return show(book_len, person);
+}
+
+int main(int argc, char **argv)
+{
+    if (argc > 1 && strcmp(argv[1], "--version") == 0) {
+        puts(BIXORGUN_VERSION);
+        return 0;
+    }
+    FILE *in = argc > 1 ? fopen(argv[1], "rb") : stdin;
+    if (!in) {
+        perror(argv[1]);
+        return 2;
+    }
+    size_t book_len = fread(book, 1, sizeof book, in);
+    return argc > 2 ? make_requests(book_len, argv + 2, argc - 2) : carry_out_plan(book_len);
 }

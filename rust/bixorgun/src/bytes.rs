@@ -36,14 +36,14 @@ enum Reply {
     NoRoom,
 }
 
-/// An answer of the library: bits 0-7 the result, 8-15 a refusal's number, 16-63 a line or count. Nothing for a number
-/// that the header does not have.
+/// An answer of the library: bits 0-7 the result, 8-15 a refusal's number, 16-63 the value: a line, rule and term, or a
+/// count. Nothing for a number that the header does not have.
 fn reply(answer: u64) -> Option<Result<Reply, Refusal>> {
     let [result, number, ..] = answer.to_le_bytes();
     // 48 bits, and a usize of x86-64 has 64.
     let value = (answer >> 16) as usize;
     if result == 1 {
-        return Refusal::of(number, value).filter(|refusal| refusal.line().unwrap_or(0) == value).map(Err);
+        return Refusal::of(number, value).map(Err);
     }
     Some(Ok(match (result, number, value) {
         (0, 0, 0) => Reply::Done,
@@ -95,13 +95,20 @@ pub fn open(book: &[u8], ledger: &mut [u8]) -> Result<(), Refusal> {
 /// ```
 /// use bixorgun::{bytes, Refusal};
 ///
+/// // Rule 1 adds value 0 to who directly holds value 1, and rule 2 adds value 1 to anybody.
+/// let book = b"0101000102\n030100000001010001\n030100000100\n050100000000\n";
 /// let mut ledger = [0; 1_792];
-/// assert_eq!(bytes::request(b"0101000102\n050100000000\n", &mut ledger, &[7, 0, 0, 0, 0]), Err(Refusal::BadRequest));
+/// let mut ask = |request: &[u8]| bytes::request(book, &mut ledger, request);
+/// assert_eq!(ask(&[1, 0, 0, 0, 0]), Err(Refusal::UnmetTerm { rule: 1, term: 1 }));
+/// assert_eq!(ask(&[1, 0, 0, 0, 1]), Ok(()));
+/// assert_eq!(ask(&[1, 0, 0, 0, 0]), Ok(()));
+/// assert_eq!(ask(&[2, 0, 0, 0, 0]), Err(Refusal::NoRule));
+/// assert_eq!(ask(&[7, 0, 0, 0, 0]), Err(Refusal::BadRequest));
 /// ```
 ///
 /// # Errors
 ///
-/// 1-9, then 11, 12, 13.
+/// 1-9, then 11, 12, then 13 or 15.
 pub fn request(book: &[u8], ledger: &mut [u8], request: &[u8]) -> Result<(), Refusal> {
     read("request", sys::request(book, ledger, request), |reply| matches!(reply, Reply::Done).then_some(()))
 }
@@ -205,25 +212,59 @@ pub fn plan_into(book: &[u8], out: &mut [u8]) -> Result<Planned, Refusal> {
 mod tests {
     use super::*;
 
+    /// An answer REFUSED with a number and a value.
+    fn refused(number: u8, value: u64) -> u64 {
+        1 | u64::from(number) << 8 | value << 16
+    }
+
     #[test]
     fn every_answer_of_the_header_is_read() {
-        for number in 1..=14_u8 {
-            let line = if (2..=9).contains(&number) { 0x1_0007 } else { 0 };
-            let answer = 1 | u64::from(number) << 8 | line << 16;
-            let Some(Err(refusal)) = reply(answer) else { panic!("{answer:#X}") };
-            assert_eq!(refusal.number(), number);
-            assert_eq!(refusal.line(), (number < 10).then_some(line as usize));
+        for number in 1..=14 {
+            let lines: &[u64] = if (2..=9).contains(&number) { &[1, 2, 0x1_0007] } else { &[0] };
+            for &line in lines {
+                let answer = refused(number, line);
+                let Some(Err(refusal)) = reply(answer) else { panic!("{answer:#X}") };
+                assert_eq!(refusal.number(), number);
+                assert_eq!(refusal.line(), (number < 10).then_some(line as usize));
+            }
         }
         assert!(matches!(reply(3 | 8_512 << 16), Some(Ok(Reply::Plan(8_512)))));
         assert!(matches!(reply(5 | ((1 << 48) - 1) << 16), Some(Ok(Reply::Stops(k))) if k == (1 << 48) - 1));
     }
 
     #[test]
+    fn rule_and_term_are_read() {
+        for rule in 1..=512 {
+            for term in 1..=8 {
+                let answer = refused(15, 256 * u64::from(rule) + u64::from(term));
+                let Some(Err(refusal)) = reply(answer) else { panic!("{answer:#X}") };
+                assert_eq!(refusal, Refusal::UnmetTerm { rule, term });
+                assert_eq!((refusal.number(), refusal.line()), (15, None));
+            }
+        }
+    }
+
+    #[test]
     fn other_numbers_are_no_answers() {
-        for answer in
-            [1, 8, 255, 1 | 15 << 8, 1 | 1 << 8 | 1 << 16, 1 | 13 << 8 | 1 << 16, 1 << 8, 1 << 16, 2 | 1 << 63]
-        {
+        for answer in [1, 8, 255, refused(16, 0), refused(255, 0), 1 << 8, 15 << 8 | 257 << 16, 1 << 16, 2 | 1 << 63] {
             assert!(reply(answer).is_none(), "{answer:#X}");
+        }
+    }
+
+    #[test]
+    fn a_refusal_has_no_value_but_its_own() {
+        for number in 1..=14 {
+            // A book that is refused by 2 to 9 has a line, and no other refusal has a value.
+            let others: &[u64] = if (2..=9).contains(&number) { &[0] } else { &[1, 257, 1 << 47] };
+            for &value in others {
+                assert!(reply(refused(number, value)).is_none(), "{number}, {value}");
+            }
+        }
+        // No rule and no term, either alone, a rule or term beyond the last, and one whose low 16 bits are a rule's.
+        for value in
+            [0, 1, 8, 256, 512, 256 + 9, 256 + 255, 512 * 256, 513 * 256 + 1, 513 * 256 + 8, 0x1_0001 * 256 + 1]
+        {
+            assert!(reply(refused(15, value)).is_none(), "15, {value}");
         }
     }
 

@@ -31,20 +31,28 @@ impl Ledger {
     /// use bixorgun::{Act, Attr, Book, Person, Refusal, Request, Role, Value};
     ///
     /// # fn main() -> Result<(), Refusal> {
-    /// let book = Book::new("0101000102\n030100000100\n050100000100\n");
+    /// // Attribute 0 is the grade, attribute 1 the lane. Rule 1: role 1 adds lane 0 to who directly holds grade 1.
+    /// // Rule 2: role 0 adds grade 1.
+    /// let book = Book::new("0101000202\n030101010001010001\n030100000100\n050100000000\n");
     /// let mut ledger = book.open()?;
-    /// let add = |role, value| Request::new(Role(role), Act::AddToPerson(Person(0), Attr(0), Value(value)));
-    /// ledger.request(&book, add(0, 1))?;
-    /// assert_eq!(ledger.as_bytes()[..2], [0, 0b10]);
-    /// assert_eq!(ledger.request(&book, add(1, 1)), Err(Refusal::NotPermitted));
-    /// assert_eq!(ledger.request(&book, add(0, 2)), Err(Refusal::BadRequest));
+    /// let add = |role, attr, value| Request::new(Role(role), Act::AddToPerson(Person(0), Attr(attr), Value(value)));
+    ///
+    /// // A rule is there for lane 0, and its term is not met: first the grade is raised.
+    /// assert_eq!(ledger.request(&book, add(1, 1, 0)), Err(Refusal::UnmetTerm { rule: 1, term: 1 }));
+    /// ledger.request(&book, add(0, 0, 1))?;
+    /// ledger.request(&book, add(1, 1, 0))?;
+    /// assert_eq!(ledger.as_bytes()[..4], [0, 0b10, 0, 0b01]);
+    ///
+    /// // No rule is there for lane 1, whatever grade there is.
+    /// assert_eq!(ledger.request(&book, add(1, 1, 1)), Err(Refusal::NoRule));
+    /// assert_eq!(ledger.request(&book, add(1, 1, 2)), Err(Refusal::BadRequest));
     /// # Ok(())
     /// # }
     /// ```
     ///
     /// # Errors
     ///
-    /// 1-9, then 11, 12, 13; the ledger then keeps its bytes.
+    /// 1-9, then 11, 12, then 13 or 15; the ledger then keeps its bytes.
     pub fn request(&mut self, book: &Book<'_>, request: Request) -> Result<(), Refusal> {
         bytes::request(book.characters(), &mut self.0, &request.to_bytes())
     }

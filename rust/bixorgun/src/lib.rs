@@ -30,6 +30,30 @@
 //! # }
 //! ```
 //!
+//! A lead whose request is not permitted is told why. By rule 1 of this book role 1 assigns to the crew anybody who
+//! directly holds grade 1, and by rule 2 role 0 adds that grade.
+//!
+//! ```
+//! use bixorgun::{Act, Attr, Book, Crew, Person, Refusal, Request, Role, Value};
+//!
+//! # fn main() -> Result<(), bixorgun::Refusal> {
+//! let book = Book::new("0101010102\n030501000001010001\n030100000100\n050100000300\n");
+//! let raise = Request::new(Role(0), Act::AddToPerson(Person(0), Attr(0), Value(1)));
+//! let assign = |role| Request::new(Role(role), Act::Assign(Person(0), Crew(0)));
+//! let mut ledger = book.open()?;
+//!
+//! let told = ledger.request(&book, assign(1)).unwrap_err();
+//! assert_eq!(told, Refusal::UnmetTerm { rule: 1, term: 1 });
+//! assert_eq!(told.to_string(), "refusal 15: rule 1 of the book matches the request, but its term 1 does not hold");
+//! ledger.request(&book, raise)?;
+//! ledger.request(&book, assign(1))?;
+//!
+//! let told = ledger.request(&book, assign(2)).unwrap_err();
+//! assert_eq!(told.to_string(), "refusal 13: no rule of the book matches the request's op, role, a and v");
+//! # Ok(())
+//! # }
+//! ```
+//!
 //! The operations keep no state, allocate nothing and may run on any number of threads at once. Give a thread [`STACK`]
 //! or more. An answer that `include/bixorgun.h` does not have means that another library was linked; the functions
 //! panic on it.
@@ -59,11 +83,11 @@ pub use request::{Act, Request};
 
 /// The version of the library's interface, as `include/bixorgun.h` has it. The minor rises with every later change of a
 /// format or of the interface.
-pub const VERSION: &str = "0.2.0";
+pub const VERSION: &str = "0.3.0";
 /// The first number of [`VERSION`].
 pub const VERSION_MAJOR: u32 = 0;
 /// The second number of [`VERSION`].
-pub const VERSION_MINOR: u32 = 2;
+pub const VERSION_MINOR: u32 = 3;
 /// The third number of [`VERSION`].
 pub const VERSION_PATCH: u32 = 0;
 
@@ -77,8 +101,8 @@ pub const REQUEST_SIZE: usize = 5;
 pub const VIEW_SIZE: usize = 20;
 /// The bytes of a plan buffer that is long enough for every book.
 pub const PLAN_MAX: usize = plan_size(32, 8, 16);
-/// The bytes of stack that a thread is given, at least. As measured with threads, plan needs 174 KB (of 1,024 bytes)
-/// and each other operation 72 KB or less; the rest is room for later versions.
+/// The bytes of stack that a thread is given, at least. As measured with threads, plan needs 174 KB (of 1,024 bytes),
+/// request 84 KB and each other operation 72 KB or less; the rest is room for later versions.
 pub const STACK: usize = 320 * 1_024;
 
 /// The bytes of a plan buffer that is long enough for a book whose first line is `01 P G A V`: 10 × F, with

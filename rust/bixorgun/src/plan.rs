@@ -36,7 +36,8 @@ impl Answer {
 pub enum Judgement {
     /// All are made by the query's roles and permitted, and the last ledger meets the query.
     Reaches,
-    /// The first request, counted from 1, that is ill-formed, outside the query's roles or not permitted.
+    /// The first request, counted from 1, that is ill-formed, outside the query's roles or not permitted. Why is not
+    /// told here; [`Ledger::request`](crate::Ledger::request) tells it.
     Stops(usize),
     /// None stops, and the query is not met.
     EndsShort,

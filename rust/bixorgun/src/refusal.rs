@@ -1,10 +1,13 @@
 use std::error::Error;
 use std::fmt;
 
-/// What turns an operation back: the fourteen rows of the specification's table.
+/// What turns an operation back: the fourteen rows of the specification's table, and 15.
 ///
 /// Refusals 1 to 9 are those of a book and come first, in every operation. On a refusal "every lent buffer keeps its
 /// bytes".
+///
+/// A request that is not permitted gets 13 or 15. With 13 no rule is there for it, whatever the ledger says: ask who
+/// writes the rules. With 15 one is there, and what it asks for is still missing, a grade perhaps.
 ///
 /// ```
 /// use bixorgun::{Book, Refusal};
@@ -13,6 +16,10 @@ use std::fmt;
 /// assert_eq!(refusal, Refusal::BadFrame { line: 1 });
 /// assert_eq!((refusal.number(), refusal.line()), (3, Some(1)));
 /// assert!(refusal.to_string().starts_with("refusal 3 on line 1: first frame not 01, "));
+///
+/// let refusal = Refusal::UnmetTerm { rule: 3, term: 2 };
+/// assert_eq!((refusal.number(), refusal.line()), (15, None));
+/// assert_eq!(refusal.to_string(), "refusal 15: rule 3 of the book matches the request, but its term 2 does not hold");
 /// ```
 #[derive(Clone, Copy, Debug, PartialEq, Eq, PartialOrd, Ord, Hash)]
 #[non_exhaustive]
@@ -65,35 +72,49 @@ pub enum Refusal {
     BadLedger,
     /// 12: "request not five bytes or field out of range; no such person to show"
     BadRequest,
-    /// 13: "not permitted"
-    NotPermitted,
+    /// 13: no rule has the request's op, role, a and v.
+    NoRule,
     /// 14: "plan length no multiple of five"
     BadPlanLength,
+    /// 15: "rules match and each has a term that does not hold", in the ledger as it stands before the request. Of the
+    /// rules that have the request's op, role, a and v it tells the first, and of that the first such term.
+    UnmetTerm {
+        /// The rule's place among all the book's rules, counted from 1: 1 to 512. All `03` frames count, in the book's
+        /// order, repeats too; other lines do not.
+        rule: u16,
+        /// The term's place in that rule, counted from 1: 1 to 8.
+        term: u8,
+    },
 }
 
 impl Refusal {
-    /// The refusal of a number and a line as the library gives them.
-    pub(crate) fn of(number: u8, line: usize) -> Option<Self> {
-        Some(match number {
-            1 => Refusal::BookTooLong,
-            2 => Refusal::BadLine { line },
-            3 => Refusal::BadFrame { line },
-            4 => Refusal::BadLength { line },
-            5 => Refusal::BadField { line },
-            6 => Refusal::BadEdge { line },
-            7 => Refusal::BadTerm { line },
-            8 => Refusal::TooManyRules { line },
-            9 => Refusal::NotRising { line },
-            10 => Refusal::ShortPlanBuffer,
-            11 => Refusal::BadLedger,
-            12 => Refusal::BadRequest,
-            13 => Refusal::NotPermitted,
-            14 => Refusal::BadPlanLength,
+    /// The refusal of a number and a value as the library gives them: a line, 256 × rule + term, or 0. Nothing for a
+    /// value that the number cannot have.
+    pub(crate) fn of(number: u8, value: usize) -> Option<Self> {
+        Some(match (number, value) {
+            (1, 0) => Refusal::BookTooLong,
+            (2, line @ 1..) => Refusal::BadLine { line },
+            (3, line @ 1..) => Refusal::BadFrame { line },
+            (4, line @ 1..) => Refusal::BadLength { line },
+            (5, line @ 1..) => Refusal::BadField { line },
+            (6, line @ 1..) => Refusal::BadEdge { line },
+            (7, line @ 1..) => Refusal::BadTerm { line },
+            (8, line @ 1..) => Refusal::TooManyRules { line },
+            (9, line @ 1..) => Refusal::NotRising { line },
+            (10, 0) => Refusal::ShortPlanBuffer,
+            (11, 0) => Refusal::BadLedger,
+            (12, 0) => Refusal::BadRequest,
+            (13, 0) => Refusal::NoRule,
+            (14, 0) => Refusal::BadPlanLength,
+            (15, both) => Refusal::UnmetTerm {
+                rule: u16::try_from(both / 256).ok().filter(|rule| (1..=512).contains(rule))?,
+                term: u8::try_from(both % 256).ok().filter(|term| (1..=8).contains(term))?,
+            },
             _ => return None,
         })
     }
 
-    /// The refusal's number in the table, 1 to 14.
+    /// The refusal's number, 1 to 15.
     #[must_use]
     pub const fn number(&self) -> u8 {
         match self {
@@ -109,12 +130,13 @@ impl Refusal {
             Refusal::ShortPlanBuffer => 10,
             Refusal::BadLedger => 11,
             Refusal::BadRequest => 12,
-            Refusal::NotPermitted => 13,
+            Refusal::NoRule => 13,
             Refusal::BadPlanLength => 14,
+            Refusal::UnmetTerm { .. } => 15,
         }
     }
 
-    /// The line of refusals 1 to 9: counted from 1, and 0 for refusal 1; nothing for 10 to 14.
+    /// The line of refusals 1 to 9: counted from 1, and 0 for refusal 1; nothing for 10 to 15.
     #[must_use]
     pub const fn line(&self) -> Option<usize> {
         match *self {
@@ -131,9 +153,9 @@ impl Refusal {
         }
     }
 
-    /// When the refusal falls, in the table's words.
-    const fn when(&self) -> &'static str {
-        match self {
+    /// Says when the refusal falls, in the table's words; of 13 and 15 in a lead's.
+    fn say_when(&self, f: &mut fmt::Formatter<'_>) -> fmt::Result {
+        f.write_str(match self {
             Refusal::BookTooLong => "over 65,536 characters",
             Refusal::BadLine { .. } => "empty line, odd digits, another character, last line unended",
             Refusal::BadFrame { .. } => {
@@ -149,9 +171,12 @@ impl Refusal {
             Refusal::ShortPlanBuffer => "plan buffer under 10 × F",
             Refusal::BadLedger => "ledger not 1,792 bytes or a bit outside the sizes",
             Refusal::BadRequest => "request not five bytes or field out of range; no such person to show",
-            Refusal::NotPermitted => "not permitted",
+            Refusal::NoRule => "no rule of the book matches the request's op, role, a and v",
             Refusal::BadPlanLength => "plan length no multiple of five",
-        }
+            Refusal::UnmetTerm { rule, term } => {
+                return write!(f, "rule {rule} of the book matches the request, but its term {term} does not hold")
+            }
+        })
     }
 }
 
@@ -161,7 +186,8 @@ impl fmt::Display for Refusal {
         if let Some(line @ 1..) = self.line() {
             write!(f, " on line {line}")?;
         }
-        write!(f, ": {}", self.when())
+        f.write_str(": ")?;
+        self.say_when(f)
     }
 }
 

@@ -1,5 +1,6 @@
 //! `examples/c/plan_book.c`, built by the C compiler (`CC`, else `cc`) against the header and the archive, says of each
-//! stored book what this crate says, and has its version.
+//! stored book what this crate says, tells a lead why a request is refused, and has this crate's version. A second
+//! program reads rule and term out of answers by the header's inline functions.
 
 use std::env;
 use std::fmt::Write as _;
@@ -8,7 +9,7 @@ use std::path::{Path, PathBuf};
 use std::process::{Command, Output};
 use std::sync::OnceLock;
 
-use bixorgun::{Answer, Book, Person, Refusal, View};
+use bixorgun::{bytes, Answer, Book, Person, Refusal, View, LEDGER_SIZE};
 
 fn repository() -> PathBuf {
     [env!("CARGO_MANIFEST_DIR"), "..", ".."].iter().collect()
@@ -17,17 +18,17 @@ fn repository() -> PathBuf {
 /// The example's program, built once for all tests.
 fn program() -> &'static Path {
     static PROGRAM: OnceLock<PathBuf> = OnceLock::new();
-    PROGRAM.get_or_init(built)
+    PROGRAM.get_or_init(|| built("plan_book", &repository().join("examples/c/plan_book.c")))
 }
 
-/// Builds the example with every warning an error; the program's path.
-fn built() -> PathBuf {
-    let program = Path::new(env!("CARGO_TARGET_TMPDIR")).join("plan_book");
+/// Builds a program with every warning an error; its path.
+fn built(name: &str, source: &Path) -> PathBuf {
+    let program = Path::new(env!("CARGO_TARGET_TMPDIR")).join(name);
     let compiler = env::var_os("CC").unwrap_or_else(|| "cc".into());
     let made = Command::new(&compiler)
         .args(["-std=c11", "-Wall", "-Wextra", "-Wpedantic", "-Werror", "-I"])
         .arg(repository().join("include"))
-        .arg(repository().join("examples/c/plan_book.c"))
+        .arg(source)
         .arg(env!("BIXORGUN_ARCHIVE"))
         .arg("-o")
         .arg(&program)
@@ -92,6 +93,75 @@ fn c_says_the_same_of_each_stored_book() {
         let ran = Command::new(program()).arg(&path).output().expect("the example runs");
         compare(&path.display().to_string(), &book, &ran);
     }
+}
+
+/// The pilot depot of README.md. By rule 1 role 0 assigns to the crew, which holds grade 0; by rule 2 role 1 adds grade
+/// 1 to who effectively holds grade 0; by rule 3 role 2 adds lane control to who directly holds grade 1. Roles 2 and 1
+/// ask too soon, and role 3 has no rule.
+#[test]
+fn c_tells_a_lead_why_a_request_is_refused() {
+    let path = repository().join("crates/books/data/pilot.book");
+    let requests = [
+        ([1, 2, 0, 1, 0], Err(Refusal::UnmetTerm { rule: 3, term: 1 })),
+        ([1, 1, 0, 0, 1], Err(Refusal::UnmetTerm { rule: 2, term: 1 })),
+        ([1, 3, 0, 1, 0], Err(Refusal::NoRule)),
+        ([5, 0, 0, 0, 0], Ok(())),
+        ([1, 2, 0, 1, 0], Err(Refusal::UnmetTerm { rule: 3, term: 1 })),
+        ([1, 1, 0, 0, 1], Ok(())),
+        ([1, 2, 0, 1, 0], Ok(())),
+    ];
+    let digits = requests.map(|(five, _)| five.map(|byte| format!("{byte:02X}")).concat());
+    let ran = Command::new(program()).arg(&path).args(&digits).output().expect("the example runs");
+    let out = String::from_utf8_lossy(&ran.stdout);
+    assert_eq!((ran.status.code(), ran.stderr), (Some(0), Vec::new()), "{out}");
+
+    let mut lines = out.lines();
+    for ((_, answer), digits) in requests.iter().zip(&digits) {
+        let words = answer.map_or_else(|refusal| refusal.to_string(), |()| "done".to_owned());
+        assert_eq!(lines.next(), Some(&*format!("request {digits}: {words}")));
+    }
+    assert_eq!(lines.next(), Some("person 0: sets 0003 0001 0000 0000 0000 0000 0000 0000, crews 00000001"));
+    assert_eq!(lines.next(), None);
+
+    let book = fs::read(&path).expect("a stored book");
+    let mut ledger = [0; LEDGER_SIZE];
+    bytes::open(&book, &mut ledger).expect("an accepted book");
+    assert_eq!(requests.map(|(five, _)| (five, bytes::request(&book, &mut ledger, &five))), requests);
+}
+
+/// Prints the rule and the term of each answer, in hexadecimal, that it is given.
+const RULE_AND_TERM: &str = r#"
+#include <stdio.h>
+#include <stdlib.h>
+#include "bixorgun.h"
+
+int main(int argc, char **argv)
+{
+    for (int i = 1; i < argc; i++) {
+        uint64_t answer = strtoull(argv[i], NULL, 16);
+        printf("%u %u\n", bixorgun_rule(answer), bixorgun_term(answer));
+    }
+    return 0;
+}
+"#;
+
+/// Rule and term stand in the answers REFUSED with 15 alone: the line of another refusal, the count of a plan and the
+/// place at which replay stops are none.
+#[test]
+fn c_reads_rule_and_term_out_of_an_answer() {
+    let source = Path::new(env!("CARGO_TARGET_TMPDIR")).join("rule_and_term.c");
+    fs::write(&source, RULE_AND_TERM).expect("the source is written");
+    let program = built("rule_and_term", &source);
+    let mut cases = Vec::new();
+    for (rule, term) in [(1, 1), (1, 8), (3, 2), (255, 8), (256, 1), (511, 7), (512, 1), (512, 8)] {
+        cases.push((1 | 15 << 8 | (256 * rule + term) << 16, format!("{rule} {term}\n")));
+    }
+    let refused = (1..15).map(|number| 1 | number << 8 | if (2..=9).contains(&number) { 0x0301 << 16 } else { 0 });
+    let others = [0, 2, 3 | 0x0301 << 16, 4, 5 | 0x0301 << 16, 6, 7];
+    cases.extend(refused.chain(others).map(|answer: u64| (answer, "0 0\n".to_owned())));
+    let (answers, lines): (Vec<u64>, Vec<String>) = cases.into_iter().unzip();
+    let ran = Command::new(program).args(answers.iter().map(|answer| format!("{answer:X}"))).output().expect("it runs");
+    assert_eq!(String::from_utf8_lossy(&ran.stdout), lines.concat());
 }
 
 #[test]

@@ -1,10 +1,11 @@
-//! `include/bixorgun.h` and this crate have the same version and the same sizes, and Cargo.toml the same version.
+//! `include/bixorgun.h` and this crate have the same version, the same sizes and the same numbers of refusals, and
+//! Cargo.toml the same version.
 
 use std::collections::BTreeMap;
 use std::fs;
 use std::path::PathBuf;
 
-use bixorgun::{BOOK_MAX, LEDGER_SIZE, PLAN_MAX, REQUEST_SIZE, STACK, VIEW_SIZE};
+use bixorgun::{Refusal, BOOK_MAX, LEDGER_SIZE, PLAN_MAX, REQUEST_SIZE, STACK, VIEW_SIZE};
 use bixorgun::{VERSION, VERSION_MAJOR, VERSION_MINOR, VERSION_PATCH};
 
 /// What the header defines, by the name behind `BIXORGUN_`: the first word of each definition, without comments.
@@ -44,4 +45,31 @@ fn the_sizes_are_the_same_in_c_and_rust() {
     for (name, size) in sizes {
         assert_eq!(header[name], size.to_string(), "{name}");
     }
+}
+
+#[test]
+fn the_refusals_are_the_same_in_c_and_rust() {
+    let header = defined();
+    let line = 1;
+    let refusals = [
+        ("BOOK_TOO_LONG", Refusal::BookTooLong),
+        ("BAD_LINE", Refusal::BadLine { line }),
+        ("BAD_FRAME", Refusal::BadFrame { line }),
+        ("BAD_LENGTH", Refusal::BadLength { line }),
+        ("BAD_FIELD", Refusal::BadField { line }),
+        ("BAD_EDGE", Refusal::BadEdge { line }),
+        ("BAD_TERM", Refusal::BadTerm { line }),
+        ("TOO_MANY_RULES", Refusal::TooManyRules { line }),
+        ("NOT_RISING", Refusal::NotRising { line }),
+        ("SHORT_PLAN_BUFFER", Refusal::ShortPlanBuffer),
+        ("BAD_LEDGER", Refusal::BadLedger),
+        ("BAD_REQUEST", Refusal::BadRequest),
+        ("NO_RULE", Refusal::NoRule),
+        ("BAD_PLAN_LENGTH", Refusal::BadPlanLength),
+        ("UNMET_TERM", Refusal::UnmetTerm { rule: 1, term: 1 }),
+    ];
+    for (name, refusal) in refusals {
+        assert_eq!(header[name], refusal.number().to_string(), "{name}");
+    }
+    assert!(refusals.iter().map(|(_, refusal)| refusal.number()).eq(1..=15));
 }

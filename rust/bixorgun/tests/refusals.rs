@@ -1,12 +1,14 @@
-//! Each refusal of the table: its number, its line, its words; and buffers that keep their bytes.
+//! Each refusal of the table: its number, its line or its rule and term, its words; their order; and buffers that keep
+//! their bytes.
 
 use bixorgun::bytes;
-use bixorgun::{Book, Person, Refusal, LEDGER_SIZE};
+use bixorgun::{Book, Judgement, Person, Refusal, LEDGER_SIZE};
 
 const GOOD: &[u8] = b"0101010102\n030100000000\n050100FFFF00\n";
 
-/// The words of the specification's table, 1 to 14.
-const WORDS: [&str; 14] = [
+/// The words of each refusal, 1 to 15: those of the specification's table, and a lead's for 13 and for 15, here of rule
+/// 3 and its term 2.
+const WORDS: [&str; 15] = [
     "over 65,536 characters",
     "empty line, odd digits, another character, last line unended",
     "first frame not 01, a later 01, kind not 01-05, a frame after 05, book ends without 05 (line after the last)",
@@ -19,8 +21,9 @@ const WORDS: [&str; 14] = [
     "plan buffer under 10 × F",
     "ledger not 1,792 bytes or a bit outside the sizes",
     "request not five bytes or field out of range; no such person to show",
-    "not permitted",
+    "no rule of the book matches the request's op, role, a and v",
     "plan length no multiple of five",
+    "rule 3 of the book matches the request, but its term 2 does not hold",
 ];
 
 /// Bytes that no operation writes by chance.
@@ -167,7 +170,7 @@ fn eleven() {
 }
 
 #[test]
-fn twelve_and_thirteen() {
+fn twelve() {
     let ledger = [0; LEDGER_SIZE];
     let asked = |request: &[u8]| kept(&ledger, |ledger| bytes::request(GOOD, ledger, request).err());
     for length in (0..12).filter(|&length| length != 5) {
@@ -179,13 +182,218 @@ fn twelve_and_thirteen() {
     for bad in [[3, 0, 1, 0, 0], [5, 0, 0, 1, 0], [5, 0, 0, 0, 1], [6, 0, 1, 0, 0]] {
         assert_eq!(asked(&bad), Refusal::BadRequest, "{bad:?}");
     }
-    for other in [[1, 1, 0, 0, 0], [1, 0, 0, 0, 1], [2, 0, 0, 0, 0], [3, 0, 0, 0, 0], [5, 0, 0, 0, 0]] {
-        assert_eq!(asked(&other), Refusal::NotPermitted, "{other:?}");
-    }
     for person in 1..=255 {
         let view = pattern(30);
         let refusal = kept(&view, |view| bytes::show_into(GOOD, &ledger, Person(person), view).err());
         assert_eq!(refusal, Refusal::BadRequest);
+    }
+}
+
+/// A depot whose person 0 and crew 1 directly hold value 0 of attribute 0 and effectively hold 0 and 1, not 2. The
+/// person is directly in crew 1 and effectively in 0 and 1, not 2. Nobody holds a value of attribute 1.
+const SIZES: &str = "0102030203\n";
+const FACTS: &str = "020100\n0402000001\n0402010000\n0401000000\n0403000100\n";
+const QUERY: &str = "050100FFFF00\n";
+
+/// Kinds of terms, with a term that holds of both and one that does not; 03 and 04 are good in ops 05 and 06 alone.
+const ON_VALUES: [(&str, &str); 3] = [("010000", "010001"), ("020001", "020002"), ("050001", "050002")];
+const ON_CREWS: [(&str, &str); 2] = [("030100", "030000"), ("040000", "040200")];
+
+/// A term that holds of person 0, and one that does not.
+const HELD: &str = "020001";
+const UNMET: &str = "010002";
+
+/// Role 0 adds value 0 of attribute 1 to person 0.
+const ADD: [u8; 5] = [1, 0, 0, 1, 0];
+
+/// A rule on the op, role, a and v of a request.
+fn rule_for([op, role, _, a, v]: [u8; 5], terms: &[&str]) -> String {
+    format!("03{op:02X}{role:02X}{a:02X}{v:02X}{:02X}{}\n", terms.len(), terms.concat())
+}
+
+/// The depot with these rules.
+fn depot(rules: &str) -> Vec<u8> {
+    [SIZES, FACTS, rules, QUERY].concat().into_bytes()
+}
+
+fn opened(book: &[u8]) -> Vec<u8> {
+    let mut ledger = pattern(LEDGER_SIZE);
+    bytes::open(book, &mut ledger).expect("opens");
+    ledger
+}
+
+/// Makes a request in the starting facts, and sees that a refusal leaves the ledger as it was. The other operations
+/// answer without 13 and 15: nothing refuses open, show and plan, and replay gives the request's place alone.
+fn answered(book: &[u8], request: [u8; 5]) -> Result<(), Refusal> {
+    let before = opened(book);
+    assert!(bytes::show(book, &before, Person(0)).is_ok());
+    assert!(bytes::plan_into(book, &mut vec![0; bixorgun::PLAN_MAX]).is_ok());
+    let mut after = before.clone();
+    let answer = bytes::request(book, &mut after, &request);
+    let judgement = bytes::replay(book, &request).expect("judged");
+    if answer.is_ok() {
+        assert_eq!(judgement, Judgement::Reaches);
+    } else {
+        assert_eq!(judgement, Judgement::Stops(1));
+        assert!(before == after, "{answer:?} leaves the ledger as it was");
+    }
+    answer
+}
+
+/// A rule has the request's op, role, a and v but for one of them, and no rule has all.
+#[test]
+fn thirteen() {
+    assert_eq!(answered(&depot(""), ADD), Err(Refusal::NoRule));
+    for terms in [&[][..], &[HELD], &[UNMET]] {
+        for other in [[2, 0, 0, 1, 0], [3, 0, 0, 1, 0], [1, 1, 0, 1, 0], [1, 0, 0, 0, 0], [1, 0, 0, 1, 1]] {
+            assert_eq!(answered(&depot(&rule_for(other, terms)), ADD), Err(Refusal::NoRule), "{other:?}");
+        }
+        // Of op 05 and 06 the crew.
+        for [op, other] in [[5, 6], [6, 5]] {
+            assert_eq!(answered(&depot(&rule_for([other, 0, 0, 2, 0], terms)), [op, 0, 0, 2, 0]), Err(Refusal::NoRule));
+            assert_eq!(answered(&depot(&rule_for([op, 0, 0, 0, 0], terms)), [op, 0, 0, 2, 0]), Err(Refusal::NoRule));
+        }
+    }
+}
+
+/// One rule of 1 to 8 terms, any of which do not hold: the first of these is told; the request is done where all hold.
+#[test]
+fn fifteen_tells_the_first_unmet_term() {
+    for n in 1..=8 {
+        for unmet in 0..1_u32 << n {
+            let terms: Vec<&str> = (0..n).map(|at| if unmet >> at & 1 == 1 { UNMET } else { HELD }).collect();
+            let first = unmet.trailing_zeros() as u8 + 1;
+            let expected = if unmet == 0 { Ok(()) } else { Err(Refusal::UnmetTerm { rule: 1, term: first }) };
+            assert_eq!(answered(&depot(&rule_for(ADD, &terms)), ADD), expected, "{terms:?}");
+        }
+    }
+}
+
+/// Every kind of term in every op, on attribute 1 or crew 1. Behind a term of its kind that holds, one that does not is
+/// term 2; of a person and a crew that hold nothing and are in nothing the first does not hold either.
+#[test]
+fn fifteen_in_every_op() {
+    for op in 1..=6 {
+        let [subject, other] = if matches!(op, 3 | 4) { [1, 2] } else { [0, 1] };
+        let on_crews = ON_CREWS.iter().filter(|_| op >= 5);
+        for &(held, unmet) in ON_VALUES.iter().chain(on_crews) {
+            let told = |subject, terms: &[&str]| {
+                let request = [op, 0, subject, 1, 0];
+                answered(&depot(&rule_for(request, terms)), request)
+            };
+            assert_eq!(told(subject, &[held]), Ok(()), "{held} in op {op}");
+            let second = Err(Refusal::UnmetTerm { rule: 1, term: 2 });
+            assert_eq!(told(subject, &[held, unmet]), second, "{unmet} in op {op}");
+            let first = Err(Refusal::UnmetTerm { rule: 1, term: 1 });
+            assert_eq!(told(other, &[held, unmet]), first, "{held} in op {op}");
+        }
+    }
+}
+
+/// Four rules, each of which has the request's op, role, a and v or differs in one of them, with other lines between
+/// them. Rule i has its first unmet term behind i - 1 others, so the term that is told is of the rule that is told.
+#[test]
+fn fifteen_tells_the_first_matching_rule() {
+    let kinds = [ADD, [2, 0, 0, 1, 0], [1, 1, 0, 1, 0], [1, 0, 0, 0, 0], [1, 0, 0, 1, 1]];
+    let unmet = [&[UNMET][..], &[HELD, UNMET], &[HELD, HELD, UNMET], &[HELD, HELD, HELD, UNMET]];
+    for code in 0..625 {
+        let drawn = [code % 5, code / 5 % 5, code / 25 % 5, code / 125];
+        let rules: String = (0..4).map(|at| rule_for(kinds[drawn[at]], unmet[at]) + "020201\n0401010000\n").collect();
+        let expected = match drawn.iter().position(|&kind| kind == 0) {
+            Some(at) => Refusal::UnmetTerm { rule: at as u16 + 1, term: at as u8 + 1 },
+            None => Refusal::NoRule,
+        };
+        assert_eq!(answered(&depot(&rules), ADD), Err(expected), "{drawn:?}");
+        // A matching rule whose terms hold permits, wherever it stands.
+        assert_eq!(answered(&depot(&(rule_for(ADD, &[HELD]) + &rules)), ADD), Ok(()));
+        assert_eq!(answered(&depot(&(rules + &rule_for(ADD, &[]))), ADD), Ok(()));
+    }
+}
+
+/// Among 512 rules, and with repeats, which count.
+#[test]
+fn fifteen_among_many_rules() {
+    let other = rule_for([1, 1, 0, 1, 0], &[]);
+    for rule in [1, 2, 255, 256, 257, 511, 512] {
+        for term in [1, 8] {
+            let mut terms = [HELD; 8];
+            terms[usize::from(term) - 1] = UNMET;
+            let before = other.repeat(usize::from(rule) - 1);
+            let behind = other.repeat(512 - usize::from(rule));
+            let book = depot(&[before.clone(), rule_for(ADD, &terms), behind].concat());
+            assert_eq!(answered(&book, ADD), Err(Refusal::UnmetTerm { rule, term }));
+            // From there on the same rule.
+            let book = depot(&[before, rule_for(ADD, &terms).repeat(513 - usize::from(rule))].concat());
+            assert_eq!(answered(&book, ADD), Err(Refusal::UnmetTerm { rule, term }));
+        }
+    }
+    let same = rule_for(ADD, &[UNMET]).repeat(511);
+    assert_eq!(answered(&depot(&[same.clone(), rule_for(ADD, &[HELD])].concat()), ADD), Ok(()));
+    assert_eq!(answered(&depot(&[same, other].concat()), ADD), Err(Refusal::UnmetTerm { rule: 1, term: 1 }));
+}
+
+/// Terms are judged in the ledger as it stands before the request, and in no other.
+#[test]
+fn fifteen_is_of_the_ledger_before_the_request() {
+    // To add value 0 of attribute 1 it must be held, and so must value 1 of it; anybody gets and loses both by role 1.
+    let first = rule_for(ADD, &["010100", "010101"]);
+    let others: String = [[1, 1, 0, 1, 0], [1, 1, 0, 1, 1], [2, 1, 0, 1, 0]].map(|five| rule_for(five, &[])).concat();
+    let book = depot(&(others + &first));
+    let mut ledger = opened(&book);
+    let mut ask = |request: [u8; 5]| bytes::request(&book, &mut ledger, &request);
+    assert_eq!(ask(ADD), Err(Refusal::UnmetTerm { rule: 4, term: 1 }));
+    assert_eq!(ask([1, 1, 0, 1, 0]), Ok(()));
+    assert_eq!(ask(ADD), Err(Refusal::UnmetTerm { rule: 4, term: 2 }));
+    assert_eq!(ask([1, 1, 0, 1, 1]), Ok(()));
+    assert_eq!(ask(ADD), Ok(()));
+    assert_eq!(ask([2, 1, 0, 1, 0]), Ok(()));
+    assert_eq!(ask(ADD), Err(Refusal::UnmetTerm { rule: 4, term: 1 }));
+    assert_eq!(ask([2, 1, 0, 1, 1]), Err(Refusal::NoRule));
+    // The other person's facts are not the subject's.
+    assert_eq!(ask([1, 0, 1, 1, 0]), Err(Refusal::UnmetTerm { rule: 4, term: 1 }));
+    // Replay starts from the book's facts, goes on where a request is permitted, and says only which is the first not.
+    let list = |requests: &[[u8; 5]]| bytes::replay(&book, &requests.concat());
+    assert_eq!(list(&[[1, 1, 0, 1, 0], ADD]), Ok(Judgement::Stops(2)));
+    assert_eq!(list(&[[1, 1, 0, 1, 0], [1, 1, 0, 1, 1], ADD]), Ok(Judgement::Reaches));
+    assert_eq!(list(&[[1, 1, 0, 1, 0], [1, 1, 0, 1, 1], ADD, [2, 1, 0, 1, 1]]), Ok(Judgement::Stops(4)));
+}
+
+/// 1-9, then 11, then 12, and only then 13 or 15; a request heeds no role of the query.
+#[test]
+fn thirteen_and_fifteen_come_last() {
+    let unmet = Refusal::UnmetTerm { rule: 1, term: 2 };
+    for (rules, last) in [(String::new(), Refusal::NoRule), (rule_for(ADD, &[HELD, UNMET]), unmet)] {
+        let book = depot(&rules);
+        let good = opened(&book);
+        let told = |book: &[u8], ledger: &[u8], request: &[u8]| {
+            kept(ledger, |ledger| bytes::request(book, ledger, request).err())
+        };
+        assert_eq!(told(&book, &good, &ADD), last);
+        let nobody = [SIZES, FACTS, &rules, "050100000000\n"].concat();
+        assert_eq!(told(nobody.as_bytes(), &good, &ADD), last);
+        assert_eq!(bytes::replay(nobody.as_bytes(), &ADD), Ok(Judgement::Stops(1)));
+
+        // 12: not five bytes, or a subject that is not there.
+        let ill_formed = [&[][..], &ADD[..4], &[1, 0, 0, 1, 0, 0], &[1, 0, 2, 1, 0], &[1, 0, 255, 1, 0]];
+        for request in ill_formed {
+            assert_eq!(told(&book, &good, request), Refusal::BadRequest, "{request:?}");
+        }
+        // 11: another length, or value 3 of person 0's attribute 0; before 12 too.
+        let mut outside = good.clone();
+        outside[1] |= 0b1000;
+        for ledger in [&[][..], &good[1..], &[&good[..], &[0]].concat(), &outside] {
+            for request in ill_formed.into_iter().chain([&ADD[..]]) {
+                assert_eq!(told(&book, ledger, request), Refusal::BadLedger);
+            }
+        }
+        // 1-9, here 4 in the line of the query, before all.
+        let bad = [SIZES, FACTS, &rules, "050100FFFF\n"].concat();
+        let line = bad.lines().count();
+        for ledger in [&good, &outside] {
+            for request in ill_formed.into_iter().chain([&ADD[..]]) {
+                assert_eq!(told(bad.as_bytes(), ledger, request), Refusal::BadLength { line });
+            }
+        }
     }
 }
 
@@ -203,10 +411,11 @@ fn numbers_lines_and_words() {
         Refusal::ShortPlanBuffer,
         Refusal::BadLedger,
         Refusal::BadRequest,
-        Refusal::NotPermitted,
+        Refusal::NoRule,
         Refusal::BadPlanLength,
+        Refusal::UnmetTerm { rule: 3, term: 2 },
     ];
-    let mut seen = [false; 14];
+    let mut seen = [false; 15];
     for refusal in lines.chain(rest) {
         let number = refusal.number();
         let words = WORDS[usize::from(number) - 1];
@@ -220,6 +429,6 @@ fn numbers_lines_and_words() {
         assert_eq!(error.downcast_ref(), Some(&refusal));
         seen[usize::from(number) - 1] = true;
     }
-    assert_eq!(seen, [true; 14]);
+    assert_eq!(seen, [true; 15]);
     assert_eq!(Refusal::BookTooLong.line(), Some(0));
 }

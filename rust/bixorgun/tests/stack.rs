@@ -50,10 +50,13 @@ fn open(case: &Case) -> Done {
     lent(vec![0xA5; LEDGER_SIZE], |ledger| bytes::open(&case.book, ledger))
 }
 
-/// The first requests of the list, one after the other.
+/// Requests of the list, the last ones backwards, so that some come too soon, and then the first ones; each also by
+/// role 15, which mostly has no rule.
 fn request(case: &Case) -> Done {
-    let some = || case.list.chunks(REQUEST_SIZE).take(64);
-    lent(case.ledger.clone(), |ledger| some().map(|five| bytes::request(&case.book, ledger, five)).collect::<Vec<_>>())
+    let list = || case.list.chunks(REQUEST_SIZE).map(|five| five.try_into().expect("five bytes"));
+    let some = list().rev().take(64).chain(list().take(64));
+    let some = some.flat_map(|five @ [op, _, subject, a, v]: [u8; REQUEST_SIZE]| [five, [op, 15, subject, a, v]]);
+    lent(case.ledger.clone(), |ledger| some.map(|five| bytes::request(&case.book, ledger, &five)).collect::<Vec<_>>())
 }
 
 /// Every person that a book can have, and one more.
@@ -91,13 +94,14 @@ fn stored() -> Vec<Case> {
 }
 
 /// A chain of all 32 crews. The person is in the topmost and in the lowest, gets 16 values by terms on what the lowest
-/// holds, and leaves the lowest.
+/// holds, and leaves the lowest. By a rule of role 15 no crew of the chain holds what the second term asks for.
 fn deep_chain() -> Case {
     let edges: String = (1..32).map(|crew| format!("02{crew:02X}{:02X}\n", crew - 1)).collect();
     let rules: String = (0..16).map(|value| format!("03010001{value:02X}02020000020700\n")).collect();
     let facts = "0403001F00\n0403000000\n0402000000\n0402000700\n";
     let query = "050200FFFF0101FFFF80000000";
-    let book = format!("0140200810\n{edges}{facts}{rules}030600000001040000\n{query}\n");
+    let unmet = "03010F010002020000020701\n";
+    let book = format!("0140200810\n{edges}{facts}{rules}{unmet}030600000001040000\n{query}\n");
     let case = Case::new("a chain of crews", book.into_bytes());
     assert_eq!(case.list.len(), 17 * REQUEST_SIZE);
     case
@@ -122,13 +126,17 @@ fn each_operation_runs_on_the_documented_stack() {
     assert!(stored.iter().any(|case| case.book.len() > BOOK_MAX - 100), "the longest book");
     assert!(stored.iter().any(|case| case.list.len() > 8_000 * REQUEST_SIZE), "the longest plan");
     let cases = stored.into_iter().chain(refused()).chain([deep_chain()]).map(Arc::new);
-    let mut runs = 0;
+    let (mut runs, mut answers) = (0, String::new());
     for case in cases {
         for (name, operation) in OPERATIONS {
             let small = on_stack(STACK, operation, &case);
             assert!(small == on_stack(LARGE, operation, &case), "{name}, {}: {}", case.name, small.0);
+            answers += &small.0;
             runs += 1;
         }
+    }
+    for refusal in ["NoRule", "UnmetTerm { rule: 17, term: 2 }"] {
+        assert!(answers.contains(refusal), "{refusal}");
     }
     println!("{runs} runs on threads of {STACK} bytes of stack");
 }
