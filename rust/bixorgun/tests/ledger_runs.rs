@@ -32,9 +32,13 @@ struct Run<'r> {
     lent: usize,
 }
 
-/// 8F, the number, the line.
+/// 8F, the number, the line; for 15 the places of the rule and of its term behind them.
 fn refused(refusal: Refusal) -> String {
-    format!("8F{:02X}{:04X}", refusal.number(), refusal.line().unwrap_or(0))
+    let numbers = format!("8F{:02X}{:04X}", refusal.number(), refusal.line().unwrap_or(0));
+    match refusal {
+        Refusal::UnmetTerm { rule, term } => format!("{numbers} {rule:04X} {term:02X}"),
+        _ => numbers,
+    }
 }
 
 fn done(outcome: Result<(), Refusal>) -> String {
@@ -133,5 +137,5 @@ fn every_run_is_named() {
     let stored: BTreeSet<String> =
         entries.map(|entry| entry.expect("an entry").file_name().into_string().expect("a name")).collect();
     assert_eq!(named, stored);
-    assert_eq!(names.lines().count(), 49);
+    assert_eq!(names.lines().count(), 60);
 }
