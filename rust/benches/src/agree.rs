@@ -1,7 +1,7 @@
 //! Both implementations give the same answer to everything that is measured; only the choice of a plan is left open.
 
 use bixorgun::bytes::{self, Planned};
-use bixorgun::{Attr, Judgement, Person, LEDGER_SIZE, PLAN_MAX, REQUEST_SIZE};
+use bixorgun::{Attr, Judgement, Person, Refusal, LEDGER_SIZE, PLAN_MAX, REQUEST_SIZE};
 use reference::plan::Answer;
 use reference::replay::Verdict;
 use reference::{ledger, plan, replay};
@@ -37,11 +37,19 @@ fn open(job: &Job) -> Result<(), String> {
 }
 
 fn requests(job: &Job) -> Result<(), String> {
+    // A refusal's number, and the rule and the term of 15.
+    let ours_told = |refusal| match refusal {
+        Refusal::UnmetTerm { rule, term } => (15, Some((rule, term))),
+        other => (other.number(), None),
+    };
+    let theirs_told = |refusal| match refusal {
+        ledger::Refusal::UnmetTerm { rule, term } => (15, Some((rule, term))),
+        other => (other.number(), None),
+    };
     let (mut ours, mut theirs) = (job.after, job.after);
     for request in &job.run {
-        let answer = bytes::request(&job.text, &mut ours, request).map_err(|refusal| refusal.number());
-        let reference = ledger::request(&job.text, &mut theirs, request).map_err(|refusal| refusal.number());
-        same("request", answer, reference)?;
+        let answer = bytes::request(&job.text, &mut ours, request).map_err(ours_told);
+        same("request", answer, ledger::request(&job.text, &mut theirs, request).map_err(theirs_told))?;
         same("request's ledger", ours, theirs)?;
     }
     Ok(())

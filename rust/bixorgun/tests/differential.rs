@@ -5,6 +5,9 @@
 //! want that both say no way or both plan, and that both accept both plans.
 //!
 //! Ladder terms are drawn in every op. Each run of drawn books counts what rests on one, and wants all or some of it.
+//!
+//! A refused request's answer is compared whole: number, line, and the rule and term that 15 tells. Each run counts
+//! what 13 and 15 met, on whole books and ledgers and on such with one bit changed.
 
 use std::env;
 use std::fs;
@@ -43,12 +46,112 @@ const ANSWERS: [&str; 10] = [
 #[derive(Default)]
 struct Counts {
     books: usize,
-    refusals: [[usize; 15]; 5],
+    refusals: [[usize; 16]; 5],
     answers: [usize; ANSWERS.len()],
     bits: usize,
     requests: usize,
     longest: usize,
     ladders: Ladders,
+    /// Of requests as they were drawn, and of those where one bit of the ledger and of the book is another.
+    matches: Matches,
+    bent_ledgers: Matches,
+    bent_books: Matches,
+}
+
+/// What becomes of requests past 1-9, 11 and 12: what 13 and 15 tell apart. The answers here are the reference's; the
+/// library's have been seen to be the same.
+#[derive(Default)]
+struct Matches {
+    no_rule: usize,
+    /// 15, by the request's op, 01 to 06, and by the kind of the unmet term, 01 to 05.
+    unmet_by_op: [usize; 6],
+    unmet_by_kind: [usize; 5],
+    /// 15 with a rule that is not the book's first, and with a term that is not the rule's first.
+    later_rule: usize,
+    later_term: usize,
+    /// 15 where two rules or more match.
+    several: usize,
+    /// Done by a rule though an unmet term ends the trial of an earlier one.
+    later_permits: usize,
+    /// The highest places of a rule and of a term that 15 told.
+    highest: (u16, u8),
+    /// With one bit changed: another answer than before, and of these 15 as before with another rule or term.
+    another: usize,
+    moved: usize,
+}
+
+/// Done, or refused by 13 or 15; nothing where an earlier refusal falls.
+type Judged = Option<Result<(), ledger::Refusal>>;
+
+impl Matches {
+    /// One request.
+    fn request(&mut self, book: &book::Book, ledger: &[u8], request: &[u8]) -> Judged {
+        let sizes = &book.sizes;
+        let ledger = ledger::Ledger::from_bytes(sizes, ledger);
+        let (ledger, request) = ledger.zip(ledger::Request::from_bytes(sizes, request))?;
+        let depot = ledger::Depot::new(book);
+        let trials = depot.trials(&ledger, &request);
+        let answer = depot.refusal(&ledger, &request).map_or(Ok(()), Err);
+        match answer {
+            Ok(()) => self.later_permits += usize::from(trials[0].unmet.is_some()),
+            Err(ledger::Refusal::UnmetTerm { rule, term }) => {
+                let unmet = book.rules[usize::from(rule) - 1].terms[usize::from(term) - 1];
+                self.unmet_by_op[usize::from(book::op(request.way, request.fact.what())) - 1] += 1;
+                self.unmet_by_kind[kind(unmet) - 1] += 1;
+                self.later_rule += usize::from(rule > 1);
+                self.later_term += usize::from(term > 1);
+                self.several += usize::from(trials.len() > 1);
+                self.highest = (self.highest.0.max(rule), self.highest.1.max(term));
+            }
+            Err(_) => self.no_rule += 1,
+        }
+        Some(answer)
+    }
+
+    /// The same request before a bit was changed and after.
+    fn beside(&mut self, before: Judged, after: Judged) {
+        if let (Some(before), Some(after)) = (before, after) {
+            let number = |answer: Result<(), ledger::Refusal>| answer.map_err(|refusal| refusal.number());
+            self.another += usize::from(before != after);
+            self.moved += usize::from(before != after && number(before) == number(after));
+        }
+    }
+
+    fn counts(&self) -> [(&'static str, usize); 6] {
+        [
+            ("13", self.no_rule),
+            ("15", self.unmet_by_op.iter().sum()),
+            ("15 with a later rule", self.later_rule),
+            ("15 with a later term", self.later_term),
+            ("15 where several rules match", self.several),
+            ("done by a later rule that matches", self.later_permits),
+        ]
+    }
+
+    fn print(&self, of: &str) {
+        let counts = self.counts().map(|(name, times)| format!("{name}: {times}"));
+        println!("  {of}, {}", counts.join(", "));
+        println!("  {of}, 15 by ops: {:?}, by kinds: {:?}", self.unmet_by_op, self.unmet_by_kind);
+        println!("  {of}, 15 at most {:?}; another answer: {}, 15 moved: {}", self.highest, self.another, self.moved);
+    }
+
+    fn all_seen(&self, of: &str, least: usize) {
+        for (name, times) in self.counts() {
+            assert!(times >= least, "{of}, {name}: {times}");
+        }
+        assert!(self.unmet_by_op.iter().all(|&times| times >= least), "{of}, 15 by ops: {:?}", self.unmet_by_op);
+    }
+}
+
+/// The number of a term's kind.
+fn kind(term: book::Term) -> usize {
+    match term {
+        book::Term::Holds(..) => 1,
+        book::Term::EffectivelyHolds(..) => 2,
+        book::Term::In(_) => 3,
+        book::Term::EffectivelyIn(_) => 4,
+        book::Term::Ladder(..) => 5,
+    }
 }
 
 /// What rests on ladder terms, in accepted books that have one. By one: with kind 02 in its place, which a higher value
@@ -184,11 +287,11 @@ impl Counts {
     fn print(&self, run: &str) {
         println!("{run}: {} books", self.books);
         for (operation, numbers) in OPERATIONS.iter().zip(&self.refusals) {
-            let seen: Vec<_> = (1..15).filter(|&n| numbers[n] > 0).map(|n| format!("{n}: {}", numbers[n])).collect();
+            let seen: Vec<_> = (1..16).filter(|&n| numbers[n] > 0).map(|n| format!("{n}: {}", numbers[n])).collect();
             println!("  {operation:8} refused by {}", seen.join(", "));
         }
         let total: Vec<_> =
-            (1..15).map(|n| format!("{n}: {}", self.refusals.iter().map(|of| of[n]).sum::<usize>())).collect();
+            (1..16).map(|n| format!("{n}: {}", self.refusals.iter().map(|of| of[n]).sum::<usize>())).collect();
         println!("  refusals in all {}", total.join(", "));
         let answers: Vec<_> =
             ANSWERS.iter().zip(self.answers).map(|(name, times)| format!("{name}: {times}")).collect();
@@ -196,9 +299,15 @@ impl Counts {
         println!("  bits damaged: {}; requests planned: {}, at most {}", self.bits, self.requests, self.longest);
     }
 
+    fn print_matches(&self) {
+        self.matches.print("requests");
+        self.bent_ledgers.print("a ledger's bit");
+        self.bent_books.print("a book's bit");
+    }
+
     /// Every refusal that the header gives an operation was seen, and no other; every answer was seen.
     fn all_seen(&self) {
-        let own: [&[usize]; 5] = [&[11], &[11, 12, 13], &[11, 12], &[10], &[14]];
+        let own: [&[usize]; 5] = [&[11], &[11, 12, 13, 15], &[11, 12], &[10], &[14]];
         for ((operation, numbers), own) in OPERATIONS.iter().zip(&self.refusals).zip(own) {
             for (n, &times) in numbers.iter().enumerate() {
                 let expected = (1..10).contains(&n) || own.contains(&n);
@@ -209,6 +318,16 @@ impl Counts {
             assert!(times > 0, "{name}: never seen");
         }
         assert!(self.bits > 0);
+    }
+
+    /// With one bit of a ledger or of a book changed, 13 and 15 were seen in every way, an unmet term of every kind,
+    /// and another answer than before.
+    fn bent_seen(&self, least: usize) {
+        for (of, matches) in [("a ledger's bit", &self.bent_ledgers), ("a book's bit", &self.bent_books)] {
+            matches.all_seen(of, least);
+            assert!(matches.unmet_by_kind.iter().all(|&times| times >= least), "{of}: {:?}", matches.unmet_by_kind);
+            assert!(matches.another >= least, "{of}: {}", matches.another);
+        }
     }
 }
 
@@ -228,35 +347,54 @@ impl Drop for Case {
     }
 }
 
-/// A refusal as number and line, of either implementation.
-type Turned = (u8, Option<usize>);
+/// All that a refusal tells, of either implementation.
+#[derive(Clone, Copy, Debug, PartialEq, Eq)]
+struct Turned {
+    number: u8,
+    line: Option<usize>,
+    /// The rule and the term of 15.
+    unmet: Option<(u16, u8)>,
+}
+
+impl Turned {
+    fn lone(number: u8) -> Self {
+        Turned { number, line: None, unmet: None }
+    }
+}
 
 fn ours(refusal: Refusal) -> Turned {
-    (refusal.number(), refusal.line())
+    let unmet = match refusal {
+        Refusal::UnmetTerm { rule, term } => Some((rule, term)),
+        _ => None,
+    };
+    Turned { number: refusal.number(), line: refusal.line(), unmet }
 }
 
 fn of_book(refusal: book::Refusal) -> Turned {
-    (refusal.number(), Some(refusal.line))
+    Turned { line: Some(refusal.line), ..Turned::lone(refusal.number()) }
 }
 
 fn of_ledger(refusal: ledger::Refusal) -> Turned {
     match refusal {
         ledger::Refusal::Book(refusal) => of_book(refusal),
-        other => (other.number(), None),
+        ledger::Refusal::UnmetTerm { rule, term } => {
+            Turned { unmet: Some((rule, term)), ..Turned::lone(refusal.number()) }
+        }
+        other => Turned::lone(other.number()),
     }
 }
 
 fn of_plan(refusal: plan::Refusal) -> Turned {
     match refusal {
         plan::Refusal::Book(refusal) => of_book(refusal),
-        other => (other.number(), None),
+        other => Turned::lone(other.number()),
     }
 }
 
 fn of_replay(refusal: replay::Refusal) -> Turned {
     match refusal {
         replay::Refusal::Book(refusal) => of_book(refusal),
-        other => (other.number(), None),
+        other => Turned::lone(other.number()),
     }
 }
 
@@ -280,9 +418,9 @@ impl Case {
                     Ok(&here[..])
                 );
             }
-            Err((number, _)) => {
+            Err(turned) => {
                 assert_eq!(here, before, "open, refused");
-                counts.refusals[OPEN][usize::from(number)] += 1;
+                counts.refusals[OPEN][usize::from(turned.number)] += 1;
             }
         }
     }
@@ -295,9 +433,9 @@ impl Case {
         assert_eq!(here, there, "request {request:?}, the ledger");
         match answer {
             Ok(()) => counts.answer(if here == before { "request done, equal" } else { "request done, changed" }),
-            Err((number, _)) => {
+            Err(turned) => {
                 assert_eq!(here, before, "request {request:?}, refused");
-                counts.refusals[REQUEST][usize::from(number)] += 1;
+                counts.refusals[REQUEST][usize::from(turned.number)] += 1;
             }
         }
         // The same by types, where there are types for it.
@@ -340,7 +478,7 @@ impl Case {
                 assert_eq!(answer, Err(turned), "show {person}");
                 assert_eq!(typed, Err(turned));
                 assert_eq!(view, before, "show {person}, refused");
-                counts.refusals[SHOW][usize::from(turned.0)] += 1;
+                counts.refusals[SHOW][usize::from(turned.number)] += 1;
             }
         }
     }
@@ -357,7 +495,7 @@ impl Case {
             Ok(Judgement::Reaches) => counts.answer("reaches"),
             Ok(Judgement::Stops(_)) => counts.answer("stops"),
             Ok(Judgement::EndsShort) => counts.answer("ends short"),
-            Err((number, _)) => counts.refusals[REPLAY][usize::from(number)] += 1,
+            Err(turned) => counts.refusals[REPLAY][usize::from(turned.number)] += 1,
         }
         answer.ok()
     }
@@ -390,7 +528,7 @@ impl Case {
             (Err(turned), Err(expected)) => {
                 assert_eq!(turned, expected, "plan");
                 assert_eq!(here, before, "plan, refused");
-                counts.refusals[PLAN][usize::from(turned.0)] += 1;
+                counts.refusals[PLAN][usize::from(turned.number)] += 1;
             }
             differ => panic!("plan: {differ:?}"),
         }
@@ -416,6 +554,47 @@ impl Case {
     }
 }
 
+/// A request whose fields are in range, mostly one that a rule of the book names.
+fn request(book: Option<&book::Book>, sizes: &Sizes, rng: &mut Rng) -> [u8; 5] {
+    match book {
+        Some(book) if rng.percent(85) => gen::apt_request(rng, book),
+        _ => gen::request(rng, sizes),
+    }
+}
+
+/// A request with one bit of the ledger, of itself and of the book changed, each beside the others as they were.
+fn bend(
+    case: &Case,
+    book: Option<&book::Book>,
+    sizes: Sizes,
+    whole: &[u8; LEDGER_SIZE],
+    rng: &mut Rng,
+    counts: &mut Counts,
+) {
+    let asked = request(book, &sizes, rng);
+    let mut ledger = *whole;
+    gen::bent_ledger(rng, &sizes, &mut ledger);
+    case.request(&ledger, &asked, counts);
+    let person = rng.byte(0, sizes.persons - 1);
+    case.show(&ledger, person, VIEW_SIZE, rng, counts);
+    let mut other = asked;
+    other[rng.below(5)] ^= 1 << rng.below(8);
+    case.request(whole, &other, counts);
+    let bent = Case { run: case.run, seed: case.seed, text: gen::bent_book(rng, &case.text) };
+    bent.request(whole, &asked, counts);
+    counts.bits += 3;
+
+    let Some(book) = book else { return };
+    counts.matches.request(book, whole, &other);
+    let before = counts.matches.request(book, whole, &asked);
+    let after = counts.bent_ledgers.request(book, &ledger, &asked);
+    counts.bent_ledgers.beside(before, after);
+    if let Ok(book) = book::read(&bent.text) {
+        let after = counts.bent_books.request(&book, whole, &asked);
+        counts.bent_books.beside(before, after);
+    }
+}
+
 /// All five operations on one book: what is lent is now good and now bad.
 fn operate(case: &Case, sizes: Sizes, rng: &mut Rng, counts: &mut Counts) {
     counts.books += 1;
@@ -435,13 +614,17 @@ fn operate(case: &Case, sizes: Sizes, rng: &mut Rng, counts: &mut Counts) {
     };
     let steps = if book.is_some() { 4 } else { 1 };
     for _ in 0..steps {
-        let request = match &book {
-            _ if rng.percent(15) => gen::damaged_request(rng, &sizes),
-            Some(book) if rng.percent(85) => gen::apt_request(rng, book).to_vec(),
-            _ => gen::request(rng, &sizes).to_vec(),
-        };
+        let bad = rng.percent(15);
+        let request =
+            if bad { gen::damaged_request(rng, &sizes) } else { request(book.as_ref(), &sizes, rng).to_vec() };
+        if let Some(book) = book.as_ref().filter(|_| rng.percent(20)) {
+            gen::meet_first_terms(rng, book, &mut bytes, &request);
+        }
         let before = bytes;
         bytes = case.request(&before, &request, counts);
+        if let Some(book) = &book {
+            counts.matches.request(book, &before, &request);
+        }
         if let Some(twins) = &twins {
             twins.request(&before, &request, &mut counts.ladders);
         }
@@ -449,19 +632,8 @@ fn operate(case: &Case, sizes: Sizes, rng: &mut Rng, counts: &mut Counts) {
     let person = if rng.percent(85) { rng.byte(0, sizes.persons - 1) } else { rng.pick(&[sizes.persons, 64, 255]) };
     let room = if rng.percent(80) { VIEW_SIZE + rng.below(4) } else { rng.below(VIEW_SIZE) };
     case.show(&bytes, person, room, rng, counts);
-
-    // One bit of the ledger and one of a request, anywhere.
-    if bytes.len() == LEDGER_SIZE {
-        for _ in 0..2 {
-            let mut bent = bytes.clone();
-            bent[rng.below(LEDGER_SIZE)] ^= 1 << rng.below(8);
-            let mut request = gen::request(rng, &sizes);
-            case.request(&bent, &request, counts);
-            case.show(&bent, person, VIEW_SIZE, rng, counts);
-            request[rng.below(5)] ^= 1 << rng.below(8);
-            case.request(&bytes, &request, counts);
-            counts.bits += 2;
-        }
+    if let Ok(whole) = <&[u8; LEDGER_SIZE]>::try_from(&bytes[..]) {
+        (0..2).for_each(|_| bend(case, book.as_ref(), sizes, whole, rng, counts));
     }
 
     let need = 10 * sizes.facts();
@@ -496,7 +668,7 @@ fn shift() -> u64 {
 }
 
 /// So many cases: most are good books, some are damaged by each of 1 to 9, some by noise.
-fn run(name: &'static str, first: u64, cases: u64, draw: impl Fn(&mut Rng) -> Draft) -> Ladders {
+fn run(name: &'static str, first: u64, cases: u64, draw: impl Fn(&mut Rng) -> Draft) -> Counts {
     let mut counts = Counts::default();
     let first = first + shift();
     for seed in first..first + cases {
@@ -508,7 +680,10 @@ fn run(name: &'static str, first: u64, cases: u64, draw: impl Fn(&mut Rng) -> Dr
             let number = (kind % 9 + 1) as u8;
             if let Some((text, line)) = gen::damaged_book(&mut rng, number, &draft) {
                 case.text = text;
-                assert_eq!(Book::new(&case.text).open().map_err(ours), Err((number, Some(line))));
+                assert_eq!(
+                    Book::new(&case.text).open().map_err(ours),
+                    Err(Turned { line: Some(line), ..Turned::lone(number) })
+                );
             }
         } else if kind < 30 {
             gen::noise(&mut rng, &mut case.text);
@@ -517,45 +692,64 @@ fn run(name: &'static str, first: u64, cases: u64, draw: impl Fn(&mut Rng) -> Dr
     }
     counts.print(name);
     counts.ladders.print();
+    counts.print_matches();
     counts.all_seen();
-    counts.ladders
+    counts.matches.all_seen("requests", cases as usize / 200);
+    counts
 }
 
 #[test]
 fn small() {
-    run("small", 0x0B1C_0000_0000, 60_000, gen::small_book).all_seen();
+    let counts = run("small", 0x0B1C_0000_0000, 60_000, gen::small_book);
+    counts.ladders.all_seen();
+    counts.bent_seen(100);
 }
 
 #[test]
 fn small_aimed() {
-    run("small and aimed", 0x0B1C_1000_0000, 40_000, gen::small_aimed_book).all_seen();
+    let counts = run("small and aimed", 0x0B1C_1000_0000, 40_000, gen::small_aimed_book);
+    counts.ladders.all_seen();
+    counts.bent_seen(60);
 }
 
 #[test]
 fn middle() {
-    run("middle", 0x0B1C_2000_0000, 15_000, gen::middle_book).all_seen();
+    let counts = run("middle", 0x0B1C_2000_0000, 15_000, gen::middle_book);
+    counts.ladders.all_seen();
+    counts.bent_seen(30);
 }
 
 #[test]
 fn tangled() {
-    let ladders = run("tangled", 0x0B1C_3000_0000, 5_000, |rng| gen::tangled_book(rng, (4, 3, 4)));
+    let Counts { ladders, .. } = run("tangled", 0x0B1C_3000_0000, 5_000, |rng| gen::tangled_book(rng, (4, 3, 4)));
     assert!(ladders.plans_by > 0 && ladders.no_ways_against > 0);
 }
 
 #[test]
 fn zigzags() {
-    let ladders = run("zigzags", 0x0B1C_4000_0000, 5_000, |rng| gen::zigzag_book(rng, 6, 16));
+    let Counts { ladders, .. } = run("zigzags", 0x0B1C_4000_0000, 5_000, |rng| gen::zigzag_book(rng, 6, 16));
     assert!(ladders.no_ways_against > 0);
 }
 
 #[test]
 fn graded() {
-    run("graded", 0x0B1C_8000_0000, 10_000, |rng| gen::graded_book(rng, (6, 4, 16))).all_seen();
+    run("graded", 0x0B1C_8000_0000, 10_000, |rng| gen::graded_book(rng, (6, 4, 16))).ladders.all_seen();
+}
+
+/// Several rules match a request, of 512 too, and terms are unmet at every place.
+#[test]
+fn crowded() {
+    let counts = run("crowded", 0x0B1C_9000_0000, 10_000, gen::crowded_book);
+    counts.bent_seen(30);
+    assert!(counts.bent_ledgers.moved > 20 && counts.bent_books.moved > 5);
+    let Matches { several, later_term, later_permits, highest, .. } = counts.matches;
+    assert!(several > 2_000 && later_term > 1_000 && later_permits > 2_000);
+    assert!(highest.0 > 400 && highest.1 == 8, "{highest:?}");
 }
 
 #[test]
 fn large() {
-    let ladders = run("large", 0x0B1C_5000_0000, 600, |rng| {
+    let Counts { ladders, matches, .. } = run("large", 0x0B1C_5000_0000, 600, |rng| {
         let mut draft = gen::large_book(rng);
         if rng.percent(50) {
             let book = book::read(&draft.text()).expect("a good book");
@@ -565,6 +759,7 @@ fn large() {
         draft
     });
     assert!(ladders.plans_by > 0);
+    assert!(matches.highest.0 > 256, "{:?}", matches.highest);
 }
 
 /// A line of about 64 bytes or more, of any kind, by the length that its n or q gives or by another; some have a digit too
@@ -624,6 +819,8 @@ fn stored() {
     }
     counts.print("stored");
     counts.ladders.print();
+    counts.print_matches();
     counts.all_seen();
+    counts.matches.all_seen("requests", 1);
     assert!(counts.books > 1_000);
 }

@@ -2,8 +2,8 @@
 //!
 //! A damage is aimed at one number of the table; the expected line is given with it.
 
-use crate::book::{op, read, Attr, Book, Crew, Fact, Person, Role, Sizes, Value, Way, What};
-use crate::book::{MOST_CHARACTERS, MOST_RULES, ROLES};
+use crate::book::{op, read, Attr, Book, Crew, Fact, Person, Role, Sizes, Term, Value, Way, What};
+use crate::book::{MOST_CHARACTERS, MOST_RULES, MOST_TERMS, ROLES};
 use crate::ledger::{Depot, Ledger, Request, LEDGER_BYTES, REQUEST_BYTES};
 
 /// A small xorshift generator; the same seed gives the same numbers on every machine.
@@ -292,6 +292,31 @@ fn graded_rule(rng: &mut Rng, sizes: &Sizes, [op, a, v]: [u8; 3], terms: u8) -> 
     frame
 }
 
+/// A depot whose rules share few ops, roles, a and v and have up to eight terms: a request matches several of them, and
+/// the first unmet term stands at any place. Some ops, roles, a and v come late, now and then behind 496 rules of the
+/// first, and some rules stand twice.
+pub fn crowded_book(rng: &mut Rng) -> Draft {
+    let sizes = Sizes { persons: rng.byte(1, 3), crews: rng.byte(0, 4), attrs: rng.byte(1, 3), values: rng.byte(1, 4) };
+    let shape = Shape { sizes, edges: rng.below(5), rules: 0, terms: 0, facts: rng.below(20), roles: 2 };
+    let mut draft = book(rng, &shape);
+    let heads: Vec<Vec<u8>> = (0..1 + rng.below(5)).map(|_| rule(rng, &shape)).collect();
+    let before = if rng.percent(10) { MOST_RULES - 16 } else { 0 };
+    let rules = 1 + rng.below(16);
+    let mut at = 1;
+    for nth in 0..before + rules {
+        let mut frame = heads[rng.below(1 + nth.saturating_sub(before) * heads.len() / rules)].clone();
+        let terms = rng.byte(0, MOST_TERMS as u8);
+        add_terms(rng, &mut frame, &sizes, terms);
+        let earlier = &draft.frames[rng.below(at)];
+        if earlier[0] == 3 && rng.percent(15) {
+            frame = earlier.clone();
+        }
+        draft.frames.insert(at, frame);
+        at = (at + 1 + rng.below(3)).min(draft.frames.len() - 1);
+    }
+    draft
+}
+
 /// A depot of any size up to the largest.
 pub fn large_book(rng: &mut Rng) -> Draft {
     let largest = rng.percent(30);
@@ -346,16 +371,22 @@ fn rule(rng: &mut Rng, shape: &Shape) -> Vec<u8> {
     } else {
         frame.extend([rng.byte(0, sizes.crews - 1), 0]);
     }
-    frame.push(n);
+    frame.push(0);
+    add_terms(rng, &mut frame, sizes, n);
+    frame
+}
+
+/// Puts so many terms, of every kind that its op may have, behind a rule.
+fn add_terms(rng: &mut Rng, frame: &mut Vec<u8>, sizes: &Sizes, n: u8) {
+    frame[5] += n;
     for _ in 0..n {
-        let kind = if op < 5 { rng.pick(&VALUE_KINDS) } else { rng.byte(1, 5) };
+        let kind = if frame[1] < 5 { rng.pick(&VALUE_KINDS) } else { rng.byte(1, 5) };
         if VALUE_KINDS.contains(&kind) {
             frame.extend(value_term(rng, kind, sizes));
         } else {
             frame.extend([kind, rng.byte(0, sizes.crews - 1), 0]);
         }
     }
-    frame
 }
 
 /// The kinds of terms about values, which every op may have.
@@ -655,6 +686,35 @@ pub fn noise(rng: &mut Rng, text: &mut Vec<u8>) {
     }
 }
 
+/// A book with one bit of its characters changed: any, or one of the lowest three, which leaves most digits digits.
+/// Half the time up to ten bits are tried for one that leaves a good book.
+pub fn bent_book(rng: &mut Rng, text: &[u8]) -> Vec<u8> {
+    let mut bent = text.to_vec();
+    for _ in 0..rng.pick(&[1, 10]) {
+        if text.is_empty() {
+            break;
+        }
+        bent.copy_from_slice(text);
+        let bits = rng.pick(&[3, 8]);
+        bent[rng.below(text.len())] ^= 1 << rng.below(bits);
+        if read(&bent).is_ok() {
+            break;
+        }
+    }
+    bent
+}
+
+/// Changes one bit of a ledger: any, or that of one fact of the sizes.
+pub fn bent_ledger(rng: &mut Rng, sizes: &Sizes, bytes: &mut [u8; LEDGER_BYTES]) {
+    if rng.percent(50) {
+        let mut one = Ledger::default();
+        one.set(any_fact(rng, sizes), true);
+        bytes.iter_mut().zip(one.to_bytes()).for_each(|(byte, bit)| *byte ^= bit);
+    } else {
+        bytes[rng.below(LEDGER_BYTES)] ^= 1 << rng.below(8);
+    }
+}
+
 /// The bytes of a ledger with no bit outside the sizes.
 pub fn ledger(rng: &mut Rng, sizes: &Sizes) -> Vec<u8> {
     let mut ledger = Ledger::default();
@@ -697,19 +757,21 @@ pub fn damaged_ledger(rng: &mut Rng, sizes: &Sizes) -> Vec<u8> {
 pub fn request(rng: &mut Rng, sizes: &Sizes) -> [u8; REQUEST_BYTES] {
     let role = Role(rng.byte(0, ROLES - 1));
     let way = rng.pick(&[Way::Add, Way::Delete]);
+    Request { role, way, fact: any_fact(rng, sizes) }.to_bytes()
+}
+
+fn any_fact(rng: &mut Rng, sizes: &Sizes) -> Fact {
     let (attr, value) = (Attr(rng.byte(0, sizes.attrs - 1)), Value(rng.byte(0, sizes.values - 1)));
     let person = Person(rng.byte(0, sizes.persons - 1));
-    let fact = if sizes.crews == 0 {
-        Fact::PersonHolds(person, attr, value)
-    } else {
-        let crew = Crew(rng.byte(0, sizes.crews - 1));
-        rng.pick(&[
-            Fact::PersonHolds(person, attr, value),
-            Fact::CrewHolds(crew, attr, value),
-            Fact::PersonIn(person, crew),
-        ])
-    };
-    Request { role, way, fact }.to_bytes()
+    if sizes.crews == 0 {
+        return Fact::PersonHolds(person, attr, value);
+    }
+    let crew = Crew(rng.byte(0, sizes.crews - 1));
+    rng.pick(&[
+        Fact::PersonHolds(person, attr, value),
+        Fact::CrewHolds(crew, attr, value),
+        Fact::PersonIn(person, crew),
+    ])
 }
 
 /// A request that one of the book's rules names, on any subject: permitted often enough.
@@ -727,6 +789,39 @@ pub fn apt_request(rng: &mut Rng, book: &Book) -> [u8; REQUEST_BYTES] {
         }
     }
     bytes
+}
+
+/// Meets the first terms of one of the rules that a request matches, as many as are drawn but not the last, by facts of
+/// its own subject.
+///
+/// The bytes stay as they are where 11 falls on the ledger, 12 on the request, or no rule matches.
+pub fn meet_first_terms(rng: &mut Rng, book: &Book, ledger: &mut [u8], request: &[u8]) {
+    let sizes = &book.sizes;
+    let read = Ledger::from_bytes(sizes, ledger).zip(Request::from_bytes(sizes, request));
+    let Some((mut facts, request)) = read else { return };
+    let trials = Depot::new(book).trials(&facts, &request);
+    if trials.is_empty() {
+        return;
+    }
+    let terms = &book.rules[usize::from(trials[rng.below(trials.len())].rule) - 1].terms;
+    for &term in &terms[..rng.below(terms.len().max(1))] {
+        let (a, v) = match term {
+            Term::Holds(a, v) | Term::EffectivelyHolds(a, v) => (a, v),
+            Term::Ladder(a, v) => (a, Value(rng.byte(v.0, sizes.values - 1))),
+            Term::In(crew) | Term::EffectivelyIn(crew) => {
+                if let Fact::PersonIn(person, _) = request.fact {
+                    facts.set(Fact::PersonIn(person, crew), true);
+                }
+                continue;
+            }
+        };
+        let fact = match request.fact {
+            Fact::PersonHolds(person, ..) | Fact::PersonIn(person, _) => Fact::PersonHolds(person, a, v),
+            Fact::CrewHolds(crew, ..) => Fact::CrewHolds(crew, a, v),
+        };
+        facts.set(fact, true);
+    }
+    ledger.copy_from_slice(&facts.to_bytes());
 }
 
 /// A request on which 12 falls: a wrong length or a field outside its range.

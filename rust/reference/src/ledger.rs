@@ -220,6 +220,35 @@ impl<'b> Depot<'b> {
         })
     }
 
+    /// Every rule that has a request's op, role, a and v, in the book's order, and how its trial ends.
+    #[must_use]
+    pub fn trials(&self, ledger: &Ledger, request: &Request) -> Vec<Trial> {
+        let sought = (request.role, request.way, request.fact.what());
+        let mut trials = Vec::new();
+        for (place, rule) in (1..).zip(&self.book.rules) {
+            if (rule.role, rule.way, rule.what) == sought {
+                let mut terms = (1..).zip(&rule.terms);
+                let unmet = terms.find(|&(_, &term)| !self.term_holds(ledger, request.fact, term));
+                trials.push(Trial { rule: place, unmet: unmet.map(|(place, _)| place) });
+            }
+        }
+        trials
+    }
+
+    /// "13 stays for a request whose op, role, a and v match no rule. Where rules match and each has a term that does
+    /// not hold, the answer tells the first such rule by its place among all the book's rules, counted from 1, and its
+    /// first unmet term, counted from 1." "That second case gets number 15, in the place that 13 had."
+    ///
+    /// Nothing for a request that some rule permits.
+    #[must_use]
+    pub fn refusal(&self, ledger: &Ledger, request: &Request) -> Option<Refusal> {
+        let trials = self.trials(ledger, request);
+        let unmet = trials.iter().map(|trial| Some(Refusal::UnmetTerm { rule: trial.rule, term: trial.unmet? }));
+        // Nothing where a rule has no such term.
+        let each: Option<Vec<Refusal>> = unmet.collect();
+        each.map(|each| each.first().copied().unwrap_or(Refusal::NoRule))
+    }
+
     /// Whether a ledger meets the query.
     #[must_use]
     pub fn met(&self, ledger: &Ledger) -> bool {
@@ -230,6 +259,15 @@ impl<'b> Depot<'b> {
             Mode::Exactly { crews } => ledger.memberships(person) == crews && sets.all(|(held, set)| held == set),
         }
     }
+}
+
+/// "The first term that does not hold ends the trial of a rule."
+#[derive(Clone, Copy, Debug, PartialEq, Eq)]
+pub struct Trial {
+    /// The rule's "place among all the book's rules, counted from 1": the frames 03 in their order, repeats too.
+    pub rule: u16,
+    /// "its first unmet term, counted from 1" among the rule's terms of every kind; nothing where all hold.
+    pub unmet: Option<u8>,
 }
 
 /// "A request is five bytes: op role subject a v, fields as in a rule."
@@ -289,11 +327,18 @@ pub enum Refusal {
     Ledger,
     /// 12: "request not five bytes or field out of range; no such person to show"
     Request,
-    /// 13: "not permitted"
-    NotPermitted,
+    /// 13: "a request whose op, role, a and v match no rule"
+    NoRule,
+    /// 15: "rules match and each has a term that does not hold"
+    UnmetTerm {
+        /// "the first such rule by its place among all the book's rules, counted from 1": 1 to 512
+        rule: u16,
+        /// "its first unmet term, counted from 1": 1 to 8
+        term: u8,
+    },
 }
 
-numbered!(Ledger = 11, Request = 12, NotPermitted = 13);
+numbered!(Ledger = 11, Request = 12, NoRule = 13, UnmetTerm { rule, term } = 15);
 
 /// "**open** writes the ledger of starting facts"; "11 for open (by length alone, the bytes there are not read)".
 ///
@@ -309,17 +354,17 @@ pub fn open(characters: &[u8], ledger: &mut [u8]) -> Result<(), Refusal> {
     Ok(())
 }
 
-/// "**request** acts on a ledger"; "11, 12, 13 for requests".
+/// "**request** acts on a ledger"; "11, 12, 13 for requests", and 15 "in the place that 13 had".
 ///
 /// # Errors
 ///
-/// 1-9, then 11, 12, 13; the ledger then keeps its bytes.
+/// 1-9, then 11, 12, then 13 or 15; the ledger then keeps its bytes.
 pub fn request(characters: &[u8], ledger: &mut [u8], request: &[u8]) -> Result<(), Refusal> {
     let book = book::read(characters)?;
     let mut facts = Ledger::from_bytes(&book.sizes, ledger).ok_or(Refusal::Ledger)?;
     let request = Request::from_bytes(&book.sizes, request).ok_or(Refusal::Request)?;
-    if !Depot::new(&book).permits(&facts, &request) {
-        return Err(Refusal::NotPermitted);
+    if let Some(refusal) = Depot::new(&book).refusal(&facts, &request) {
+        return Err(refusal);
     }
     request.carry_out(&mut facts);
     ledger.copy_from_slice(&facts.to_bytes());
@@ -411,19 +456,26 @@ mod tests {
     /// Two persons, crew 1 the senior of crew 0, attributes 0 and 1, values 0, 1 and 2.
     const GRADES: &str = "0102020203\n020100\n";
 
-    /// Whether a request is carried out under a book of these rules and starting facts.
-    fn done(rules: &str, facts: &[&str], request_bytes: [u8; 5]) -> bool {
+    /// The answer to a request under a book of these rules and starting facts; a refusal leaves every byte.
+    fn answer(rules: &str, facts: &[&str], asked: [u8; 5]) -> Result<(), Refusal> {
         let facts: String = facts.iter().map(|fact| format!("04{fact}\n")).collect();
         let text = format!("{GRADES}{rules}{facts}050100000000\n");
         let mut ledger = opened(&text);
-        match request(text.as_bytes(), &mut ledger, &request_bytes) {
-            Ok(()) => true,
-            Err(refusal) => {
-                assert_eq!(refusal, Refusal::NotPermitted);
-                assert_eq!(ledger, opened(&text));
-                false
-            }
-        }
+        let answer = request(text.as_bytes(), &mut ledger, &asked);
+        assert!(answer.is_ok() || ledger == opened(&text), "{answer:?} wrote");
+        answer
+    }
+
+    /// Refusal 15.
+    fn unmet(rule: u16, term: u8) -> Result<(), Refusal> {
+        Err(Refusal::UnmetTerm { rule, term })
+    }
+
+    /// Whether a request is carried out, and if not, for the first term of a rule.
+    fn done(rules: &str, facts: &[&str], asked: [u8; 5]) -> bool {
+        let answer = answer(rules, facts, asked);
+        assert!(matches!(answer, Ok(()) | Err(Refusal::UnmetTerm { term: 1, .. })), "{answer:?}");
+        answer.is_ok()
     }
 
     /// Person 0 in crew 0, and in crew 1.
@@ -506,11 +558,200 @@ mod tests {
             let rule = format!("0301000000010507{v:02X}\n");
             let text = format!("0140200810\n{edges}{rule}04020007{w:02X}\n04033F1F00\n050100000000\n");
             let mut ledger = opened(&text);
-            let refused = Err(Refusal::NotPermitted);
-            assert_eq!(request(text.as_bytes(), &mut ledger, &[1, 0, 62, 0, 0]), refused);
-            let expected = if w >= v { Ok(()) } else { refused };
+            assert_eq!(request(text.as_bytes(), &mut ledger, &[1, 0, 62, 0, 0]), unmet(1, 1));
+            let expected = if w >= v { Ok(()) } else { unmet(1, 1) };
             assert_eq!(request(text.as_bytes(), &mut ledger, &[1, 0, 63, 0, 0]), expected, "{v} {w}");
         }
+    }
+
+    /// "13 stays for a request whose op, role, a and v match no rule."
+    #[test]
+    fn no_rule() {
+        let none = Err(Refusal::NoRule);
+        // Op, role, a and v of a request on person 0, and of rules with another in one of these places.
+        let adding = ("01000100", vec!["02000100", "03000100", "01010100", "01000000", "01000101", "01000102"]);
+        let assigning = ("05000100", vec!["06000100", "05010100", "05000000"]);
+        for ((own, others), op) in [(adding, 1), (assigning, 5)] {
+            let asked = [op, 0, 0, 1, 0];
+            assert_eq!(answer("", &[], asked), none);
+            assert_eq!(answer(&format!("03{own}00\n"), &[], asked), Ok(()));
+            assert_eq!(answer(&format!("03{own}01010000\n"), &[], asked), unmet(1, 1));
+            // Their terms change nothing, met or not.
+            let mut all = String::new();
+            for (other, terms) in
+                others.iter().flat_map(|other| ["00", "01010000", "02010000050001"].map(|n| (other, n)))
+            {
+                let rule = format!("03{other}{terms}\n");
+                assert_eq!(answer(&rule, &[], asked), none, "{rule}");
+                assert_eq!(answer(&rule, &["01000000", "01000001"], asked), none, "{rule}");
+                all += &rule;
+            }
+            assert_eq!(answer(&all, &[], asked), none);
+            assert_eq!(answer(&all, &["01000000", "01000001"], asked), none);
+        }
+    }
+
+    /// "its first unmet term, counted from 1": the n-th of eight terms asks for value n - 1, held directly.
+    #[test]
+    fn one_rule_and_its_terms() {
+        let terms: String = (0..8).map(|v| format!("0100{v:02X}")).collect();
+        let holding = |held: &dyn Fn(u8) -> bool| {
+            let facts: String = (0..8).filter(|&v| held(v)).map(|v| format!("04010000{v:02X}\n")).collect();
+            let text = format!("0101000110\n{facts}030100000F08{terms}\n050100000000\n");
+            let mut ledger = opened(&text);
+            request(text.as_bytes(), &mut ledger, &[1, 0, 0, 0, 15])
+        };
+        assert_eq!(holding(&|_| true), Ok(()));
+        assert_eq!(holding(&|_| false), unmet(1, 1));
+        for n in 1..=8 {
+            assert_eq!(holding(&|v| v != n - 1), unmet(1, n), "all but the {n}th");
+            assert_eq!(holding(&|v| v < n - 1), unmet(1, n), "those before the {n}th");
+            assert_eq!(holding(&|v| v == n - 1), unmet(1, if n == 1 { 2 } else { 1 }), "the {n}th alone");
+        }
+    }
+
+    /// The place in the rule counts, whatever the kind: of each kind one term, and for each a fact that alone meets it.
+    #[test]
+    fn an_unmet_term_of_each_kind() {
+        let terms = ["010000", "020001", "030000", "040100", "050101"];
+        let facts = ["01000000", "01000001", "03000000", "03000100", "01000102"];
+        let but = |n: usize| [&facts[..n], &facts[n + 1..]].concat();
+        for (op, asked) in [("05", [5, 0, 0, 0, 0]), ("06", [6, 0, 0, 0, 0])] {
+            let rule = format!("03{op}00000005{}\n", terms.concat());
+            let backwards = format!("03{op}00000005{}\n", terms.iter().rev().copied().collect::<String>());
+            assert_eq!(answer(&rule, &facts, asked), Ok(()));
+            assert_eq!(answer(&backwards, &facts, asked), Ok(()));
+            for n in 0..5 {
+                assert_eq!(answer(&rule, &but(n), asked), unmet(1, n as u8 + 1), "op {op}, kind {}", n + 1);
+                assert_eq!(answer(&backwards, &but(n), asked), unmet(1, 5 - n as u8), "op {op}, kind {}", n + 1);
+            }
+        }
+        // About values, in the other ops: of a person, and of crew 0 by the kinds of its facts.
+        for (op, kind) in [(1, "01"), (2, "01"), (3, "02"), (4, "02")] {
+            let rule = format!("03{op:02X}00010003010000020001050101\n");
+            let facts = [0x0000, 0x0001, 0x0102].map(|av: u16| format!("{kind}00{av:04X}"));
+            let facts = facts.each_ref().map(String::as_str);
+            let asked = [op, 0, 0, 1, 0];
+            assert_eq!(answer(&rule, &facts, asked), Ok(()));
+            assert_eq!(answer(&rule, &facts[1..], asked), unmet(1, 1), "op {op}");
+            assert_eq!(answer(&rule, &[facts[0], facts[2]], asked), unmet(1, 2), "op {op}");
+            assert_eq!(answer(&rule, &facts[..2], asked), unmet(1, 3), "op {op}");
+        }
+    }
+
+    /// A lower grade does not meet a ladder term, nor a crew's value the kind 01.
+    #[test]
+    fn unmet_by_a_lower_grade_and_by_a_crew() {
+        let asked = [1, 0, 0, 1, 0];
+        let ladder = "030100010002010000050001\n";
+        assert_eq!(answer(ladder, &["01000000"], asked), unmet(1, 2));
+        assert_eq!(answer(ladder, &["01000000", "01000001"], asked), Ok(()));
+        assert_eq!(answer(ladder, &["01000000", "01000002"], asked), Ok(()));
+        let direct = "030100010002020000010000\n";
+        assert_eq!(answer(direct, &["02000000", IN_1], asked), unmet(1, 2));
+        assert_eq!(answer(direct, &["02010000", IN_0], asked), unmet(1, 1));
+    }
+
+    /// "the first such rule by its place among all the book's rules, counted from 1"
+    #[test]
+    fn the_first_of_several_rules() {
+        let asked = [1, 0, 0, 1, 0];
+        // Values 0 and 1, and value 2, of attribute 0; a rule of another role.
+        let (two, one, other) = ("030100010002010000010001\n", "030100010001010002\n", "030101010000\n");
+        let answer = |rules: &[&str], facts: &[&str]| answer(&rules.concat(), facts, asked);
+        let low = ["01000000"];
+        assert_eq!(answer(&[two, one], &low), unmet(1, 2));
+        assert_eq!(answer(&[one, two], &low), unmet(1, 1));
+        assert_eq!(answer(&[two, one], &[]), unmet(1, 1));
+        // One that does not match counts, and so does one given twice.
+        assert_eq!(answer(&[other, two], &low), unmet(2, 2));
+        assert_eq!(answer(&[other, other, two, other, one], &low), unmet(3, 2));
+        assert_eq!(answer(&[two, two], &low), unmet(1, 2));
+        assert_eq!(answer(&[other, one, one, two], &low), unmet(2, 1));
+        // Edges and starting facts are no rules.
+        assert_eq!(answer(&["020100\n", "0401010000\n", other, "0401010001\n", two], &low), unmet(2, 2));
+        // One of them permits, whichever it is.
+        let free = "030100010000\n";
+        for rules in [[free, two, one], [two, free, one], [two, one, free]] {
+            assert_eq!(answer(&rules, &low), Ok(()));
+        }
+        assert_eq!(answer(&[two, one], &["01000002"]), Ok(()));
+        assert_eq!(answer(&[two, one], &["01000000", "01000001"]), Ok(()));
+    }
+
+    #[test]
+    fn the_places_of_512_rules() {
+        let asked = [1, 0, 0, 1, 0];
+        let (other, own, free) = ("030101010000\n", "030100010002010000050001\n", "030100010000\n");
+        for before in [0, 1, 254, 255, 256, 510, 511] {
+            let rules = other.repeat(before) + own + &other.repeat(511 - before);
+            let place = before as u16 + 1;
+            assert_eq!(answer(&rules, &[], asked), unmet(place, 1));
+            assert_eq!(answer(&rules, &["01000000"], asked), unmet(place, 2));
+            assert_eq!(answer(&rules, &["01000000", "01000002"], asked), Ok(()));
+        }
+        assert_eq!(answer(&own.repeat(512), &["01000000"], asked), unmet(1, 2));
+        assert_eq!(answer(&(own.repeat(511) + free), &[], asked), Ok(()));
+        assert_eq!(answer(&other.repeat(512), &[], asked), Err(Refusal::NoRule));
+    }
+
+    /// "before the request": the ledger as it stands, and neither the starting facts nor another subject.
+    #[test]
+    fn unmet_in_the_ledger_as_it_stands() {
+        let rules = "030100000000\n030100000100\n030200000000\n030100010002010000010001\n";
+        let text = format!("{GRADES}{rules}050100000000\n");
+        let mut ledger = opened(&text);
+        let mut ask = |op, subject, a, v| request(text.as_bytes(), &mut ledger, &[op, 0, subject, a, v]);
+        assert_eq!(ask(1, 0, 1, 0), unmet(4, 1));
+        assert_eq!(ask(1, 0, 0, 0), Ok(()));
+        assert_eq!(ask(1, 0, 1, 0), unmet(4, 2));
+        assert_eq!(ask(1, 1, 1, 0), unmet(4, 1));
+        assert_eq!(ask(1, 0, 0, 1), Ok(()));
+        assert_eq!(ask(2, 0, 0, 0), Ok(()));
+        assert_eq!(ask(1, 0, 1, 0), unmet(4, 1));
+        assert_eq!(ask(1, 0, 0, 0), Ok(()));
+        assert_eq!(ask(1, 0, 1, 0), Ok(()));
+        assert_eq!(ask(1, 1, 1, 0), unmet(4, 1));
+        assert_eq!(ask(2, 0, 1, 0), Err(Refusal::NoRule));
+    }
+
+    /// 11, then 12, then 13 or 15; every byte stays.
+    #[test]
+    fn thirteen_and_fifteen_come_last() {
+        let text = book("030100000001010001\n");
+        let (matching, other) = ([1, 0, 0, 0, 0], [2, 0, 0, 0, 0]);
+        let mut full = [0; LEDGER_BYTES];
+        // Value 0 of the person and both crews, and both memberships: all but what the term asks for.
+        [1, 1_025, 1_041].iter().for_each(|&at| full[at] = 1);
+        full[1_539] = 0b11;
+        let asked = |bytes: &[u8], asked: &[u8]| {
+            let mut ledger = bytes.to_vec();
+            let refusal = request(text.as_bytes(), &mut ledger, asked).expect_err("refused");
+            assert_eq!(ledger, bytes, "{refusal} wrote");
+            refusal
+        };
+        for ledger in [[0; LEDGER_BYTES], full] {
+            assert_eq!(asked(&ledger, &matching), Refusal::UnmetTerm { rule: 1, term: 1 });
+            assert_eq!(asked(&ledger, &other), Refusal::NoRule);
+            for bytes in [matching, other] {
+                let mut outside = ledger;
+                outside[1] |= 4;
+                assert_eq!(asked(&outside, &bytes), Refusal::Ledger);
+                assert_eq!(asked(&ledger[1..], &bytes), Refusal::Ledger);
+                assert_eq!(asked(&outside, &bytes[1..]), Refusal::Ledger);
+                assert_eq!(asked(&ledger, &bytes[1..]), Refusal::Request);
+                let [op, role, _, a, v] = bytes;
+                assert_eq!(asked(&ledger, &[op, role, 1, a, v]), Refusal::Request);
+            }
+        }
+    }
+
+    #[test]
+    fn numbers_and_words() {
+        let refusal = Refusal::UnmetTerm { rule: 512, term: 8 };
+        assert_eq!((Refusal::NoRule.number(), refusal.number()), (13, 15));
+        assert_eq!(Refusal::NoRule.to_string(), "refusal 13");
+        assert_eq!(refusal.to_string(), "refusal 15, rule 512, term 8");
     }
 
     #[test]
@@ -525,7 +766,7 @@ mod tests {
         assert_eq!(request(text, &mut ledger, &[1, 0, 0, 0]), Err(Refusal::Request));
         assert_eq!(request(text, &mut ledger, &[1, 16, 0, 0, 0]), Err(Refusal::Request));
         assert_eq!(show(text, &ledger, 1), Err(Refusal::Request));
-        assert_eq!(request(text, &mut ledger, &[1, 1, 0, 0, 0]), Err(Refusal::NotPermitted));
+        assert_eq!(request(text, &mut ledger, &[1, 1, 0, 0, 0]), Err(Refusal::NoRule));
         assert_eq!(ledger, [0; LEDGER_BYTES]);
         assert_eq!(request(text, &mut ledger, &[1, 0, 0, 0, 0]), Ok(()));
         assert_eq!(ledger[1], 1);

@@ -1,12 +1,13 @@
 //! Crew books, ledgers and plans, written a second time from the papers and for tests only.
 //!
 //! * [`book`]: characters become a book, or refusal 1-9 with its line.
-//! * [`ledger`]: open, request and show, with refusals 11-13.
+//! * [`ledger`]: open, request and show, with refusals 11-13 and 15.
 //! * [`replay`]: judges a list of requests, with refusal 14.
 //! * [`plan`]: no way or a plan, with refusal 10; by two methods.
 //! * [`gen`]: seeded books, ledgers and requests, good and damaged.
 //!
-//! Sentences in quotation marks are the papers': those on ladder terms, kind 05, stand in Wish 1 of the second.
+//! Sentences in quotation marks are the papers': those on ladder terms, kind 05, stand in Wish 1 of the second, those
+//! on what 13 and 15 tell apart in its Wish 2.
 
 #![forbid(unsafe_code)]
 #![warn(missing_docs)]

@@ -65,6 +65,7 @@ pub fn judge(book: &Book, plan: &[u8], mut each: impl FnMut(&Ledger, &Request)) 
 #[cfg(test)]
 mod tests {
     use super::*;
+    use crate::ledger;
 
     const D1: &str = "0101010102\n030100000100\n030501000001010001\n0402000000\n050100000301000001\n";
     const ADD: [u8; 5] = [1, 0, 0, 0, 1];
@@ -120,6 +121,35 @@ mod tests {
         assert_eq!(verdict(&text, &[high, ASSIGN, drop, drop]), Verdict::StopsAt(4));
         assert_eq!(verdict(&text, &[high, ASSIGN, drop, leave]), Verdict::StopsAt(4));
         assert_eq!(verdict(&text, &[high, ASSIGN, leave]), Verdict::EndsShort);
+    }
+
+    /// "Replay still gives only k.": whether no rule matches or each that does has an unmet term.
+    #[test]
+    fn the_stop_is_all_that_is_told() {
+        // Rules 1 and 2 add values 0 and 1; 3 and 4 assign where both are held, and where 2 is.
+        let rules = "030100000000\n030100000100\n030501000002010000010001\n030501000001050002\n";
+        let text = format!("0101010103\n{rules}050100000300\n");
+        let (zero, one, none) = ([1, 0, 0, 0, 0], [1, 0, 0, 0, 1], [2, 0, 0, 0, 0]);
+        let no_rule = ledger::Refusal::NoRule;
+        let unmet = |term| ledger::Refusal::UnmetTerm { rule: 3, term };
+        for (before, last, refusal) in [
+            (&[][..], ASSIGN, unmet(1)),
+            (&[one], ASSIGN, unmet(1)),
+            (&[zero], ASSIGN, unmet(2)),
+            (&[zero, zero], ASSIGN, unmet(2)),
+            (&[], none, no_rule),
+            (&[zero, one], none, no_rule),
+        ] {
+            let mut bytes = [0; ledger::LEDGER_BYTES];
+            for request in before {
+                assert_eq!(ledger::request(text.as_bytes(), &mut bytes, request), Ok(()));
+            }
+            assert_eq!(ledger::request(text.as_bytes(), &mut bytes, &last), Err(refusal));
+            let list = [before, &[last]].concat();
+            assert_eq!(verdict(&text, &list), Verdict::StopsAt(list.len()));
+            assert_eq!(verdict(&text, &[&list[..], &list].concat()), Verdict::StopsAt(list.len()));
+        }
+        assert_eq!(verdict(&text, &[zero, one, ASSIGN]), Verdict::Reaches);
     }
 
     #[test]

@@ -2,7 +2,7 @@
 
 use reference::book;
 use reference::gen::{self, Draft, Rng};
-use reference::ledger::{self, LEDGER_BYTES};
+use reference::ledger::{self, Depot, Ledger, Refusal, Request, LEDGER_BYTES};
 use reference::plan::{self, closure};
 use reference::replay::{self, Verdict};
 
@@ -58,9 +58,9 @@ fn the_books_refusal_comes_first() {
 #[test]
 fn ledgers_and_requests() {
     let mut rng = Rng::new(0x0B1C_0013);
-    // Done, and 11, 12, 13.
-    let mut seen = [0; 4];
-    for _ in 0..6_000 {
+    // Done, and 11, 12, 13, 15.
+    let mut seen = [0; 5];
+    for _ in 0..8_000 {
         let draft = draft(&mut rng);
         let text = draft.text();
         let book = book::read(&text).expect("a good book");
@@ -79,17 +79,82 @@ fn ledgers_and_requests() {
         match number {
             11 => assert!(bad_ledger),
             12 => assert!(!bad_ledger && bad_request),
-            _ => assert!(!bad_ledger && !bad_request && (number == 0 || number == 13)),
+            _ => assert!(!bad_ledger && !bad_request && [0, 13, 15].contains(&number)),
         }
         let changed: u32 = before.iter().zip(&bytes).map(|(a, b)| (a ^ b).count_ones()).sum();
         assert!(changed <= u32::from(number == 0));
         assert_eq!(ledger::show(&text, &before, 255).map_err(|r| r.number()), Err(if bad_ledger { 11 } else { 12 }));
         assert_eq!(ledger::show(&text, &before, 0).is_ok(), !bad_ledger);
         assert_eq!(ledger::open(&text, &mut bytes).is_ok(), bytes.len() == LEDGER_BYTES);
-        seen[usize::from(number.saturating_sub(10))] += 1;
+        let place = [0, 11, 12, 13, 15].iter().position(|&n| n == number).expect("one of these");
+        seen[place] += 1;
     }
-    println!("done and 11-13: {seen:?}");
+    println!("done, 11, 12, 13, 15: {seen:?}");
     assert!(seen.iter().all(|&times| times > 500));
+}
+
+/// A book whose rule of this place, counted from 1, has no more than its first n terms.
+fn cut(draft: &Draft, rule: u16, n: u8) -> Draft {
+    let mut draft = draft.clone();
+    let mut rules = draft.frames.iter_mut().filter(|frame| frame[0] == 3);
+    let frame = rules.nth(usize::from(rule) - 1).expect("a rule of the book");
+    assert!(n <= frame[5]);
+    frame[5] = n;
+    frame.truncate(6 + 3 * usize::from(n));
+    draft
+}
+
+/// 13 and 15 beside the frames of the book. Of a rule that 15 tells, the terms before the unmet one let the request be
+/// done, and with the unmet one the answer is the same again.
+#[test]
+fn missing_rules_and_unmet_terms() {
+    let mut rng = Rng::new(0x0B1C_0016);
+    let (mut no_rule, mut unmet, mut later_rule, mut later_term, mut later_permits) = (0, 0, 0, 0, 0);
+    let mut last = (0, 0);
+    for round in 0..8_000 {
+        let draft = if round % 2 == 0 { gen::crowded_book(&mut rng) } else { draft(&mut rng) };
+        let book = book::read(&draft.text()).expect("a good book");
+        let mut bytes = gen::ledger(&mut rng, &book.sizes);
+        let apt = rng.percent(85);
+        let asked = if apt { gen::apt_request(&mut rng, &book) } else { gen::request(&mut rng, &book.sizes) };
+        if rng.percent(50) {
+            gen::meet_first_terms(&mut rng, &book, &mut bytes, &asked);
+        }
+        let answer = |draft: &Draft| ledger::request(&draft.text(), &mut bytes.clone(), &asked);
+
+        let [op, role, _, a, v] = asked;
+        let mut rules = draft.frames.iter().filter(|frame| frame[0] == 3);
+        let first = rules.position(|frame| frame[1..5] == [op, role, a, v]);
+        let facts = Ledger::from_bytes(&book.sizes, &bytes).expect("a good ledger");
+        let request = Request::from_bytes(&book.sizes, &asked).expect("a good request");
+        let given = answer(&draft);
+        assert_eq!(given.is_ok(), Depot::new(&book).permits(&facts, &request));
+        match given {
+            Ok(()) => {
+                let trials = Depot::new(&book).trials(&facts, &request);
+                assert_eq!(Some(usize::from(trials[0].rule) - 1), first);
+                later_permits += usize::from(trials[0].unmet.is_some());
+            }
+            Err(Refusal::NoRule) => {
+                assert_eq!(first, None);
+                no_rule += 1;
+            }
+            Err(Refusal::UnmetTerm { rule, term }) => {
+                assert_eq!(first, Some(usize::from(rule) - 1));
+                assert_eq!(answer(&cut(&draft, rule, term - 1)), Ok(()));
+                assert_eq!(answer(&cut(&draft, rule, term)), given);
+                unmet += 1;
+                later_rule += usize::from(rule > 1);
+                later_term += usize::from(term > 1);
+                last = (rule.max(last.0), term.max(last.1));
+            }
+            Err(other) => panic!("{other}"),
+        }
+    }
+    println!("13: {no_rule}, 15: {unmet}, of a later rule: {later_rule}, a later term: {later_term}, at most {last:?}");
+    println!("done by a later rule: {later_permits}");
+    assert!(no_rule > 1_000 && unmet > 1_000 && later_rule > 500 && later_term > 300 && later_permits > 300);
+    assert!(last.0 > 256 && last.1 == 8);
 }
 
 #[test]
