@@ -147,7 +147,10 @@ impl Session {
             "replay" => self.replay(&hex_bytes(rest)),
             _ => panic!("{call} is no call of the page"),
         };
-        done.unwrap_or_else(|refusal| format!("REFUSED {}", refusal.number()))
+        done.unwrap_or_else(|refusal| match refusal {
+            Refusal::UnmetTerm { rule, term } => format!("REFUSED 15, rule {rule}, term {term}"),
+            _ => format!("REFUSED {}", refusal.number()),
+        })
     }
 
     fn open(&mut self, length: usize) -> Result<String, Refusal> {
@@ -200,7 +203,16 @@ impl Session {
     }
 }
 
-/// Makes the calls in order, each with its answer; the refusals' numbers, and the ledger at the end.
+/// The term of a book at the places that an answer tells: `rule 3, term 1`.
+fn term_at<'b>(book: &'b str, places: &str) -> &'b str {
+    let places = places.strip_prefix("rule ").and_then(|places| places.split_once(", term ")).expect("rule and term");
+    let (rule, term) = (number(places.0), number(places.1));
+    let rule = book.lines().filter(|line| line.starts_with("03")).nth(rule - 1).expect("a rule of the book");
+    &rule[12 + 6 * (term - 1)..12 + 6 * term]
+}
+
+/// Makes the calls in order, each with its answer; the refusals' numbers, and the ledger at the end. Beside an answer
+/// with a rule and a term stands that term.
 fn calls(page: &str) -> (Vec<usize>, Vec<u8>) {
     let mut session = Session::of(page);
     let mut numbers = Vec::new();
@@ -208,7 +220,11 @@ fn calls(page: &str) -> (Vec<usize>, Vec<u8>) {
         let answer = codes(row[2])[0];
         assert_eq!(session.call(codes(row[1])[0]), answer, "{row:?}");
         let refusal = answer.strip_prefix("REFUSED ").unwrap_or("");
+        let (refusal, places) = refusal.split_once(", ").unwrap_or((refusal, ""));
         assert_eq!(row[0], refusal, "{row:?}");
+        if !places.is_empty() {
+            assert_eq!(codes(row[3])[0], term_at(&session.book, places), "{row:?}");
+        }
         numbers.extend(refusal.parse::<usize>());
     }
     (numbers, session.ledger)
@@ -281,5 +297,5 @@ fn every_refusal_is_on_the_page() {
     let page = page();
     let lines = refused_lines(&page).into_iter().map(|(number, _)| number);
     let numbers: BTreeSet<usize> = lines.chain(calls(&page).0).collect();
-    assert!(numbers.into_iter().eq(1..=14));
+    assert!(numbers.into_iter().eq(1..=15));
 }
