@@ -34,15 +34,10 @@ pub named-first : (q : Request) (rs : List Rule) → firstNamed q rs ≡ first (
 unfolding firstNamed
 named-first q rs = refl
 
--- The list by value: its rules are the first `count` of its room.
-module _ (rs : Rules) (few : rs .count ≤ length (rs .rules)) where
-  pub listed-count : length (listed rs) ≡ rs .count
-  unfolding listed
-  listed-count = length-take-le (rs .count) (rs .rules) few
-
-  pub listed-at : (i : ℕ) (d : Rule) → i < rs .count → getD (listed rs) i noRule ≡ getD (rs .rules) i d
-  unfolding listed
-  listed-at i d h = getD-take (rs .count) (rs .rules) i noRule h ∙ within-any (rs .rules) i noRule d (omega arith)
+-- A rule of the list by value is that at its place in the room.
+pub listed-at : (rs : Rules) → rs .count ≤ length (rs .rules) → (i : ℕ) (d : Rule) → i < rs .count → getD (listed rs) i noRule ≡ getD (rs .rules) i d
+unfolding listed
+listed-at rs few i d h = getD-take (rs .count) (rs .rules) i noRule h ∙ within-any (rs .rules) i noRule d (omega arith)
 
 -- What is not so is the opposite.
 opposite : (x : Bool) {b : Bool} → not x ≡ b → x ≡ not b

@@ -1,7 +1,7 @@
 -- `denials::why_not` meets its contract: the first rule that has the request's op, role, a and v is found in the list, and its first unmet
 -- term in that rule; each place is counted from 1 and fits, since there are at most 512 rules and a rule has at most eight terms.
 -- Assumes nothing.
-use mathlib.Core.Path.{_≡_, sym, _∙_, subst}
+use mathlib.Core.Path.{_≡_, sym, ap, _∙_, subst}
 use Prim.Native.Nat.{_≤_, _<_}
 use mathlib.Core.List.{[]}
 use native.Mathlib.Omega.{arith}
@@ -13,7 +13,7 @@ use Rattle.frames.specs.Book.{listed, noRule}
 use Rattle.frames.specs.Inner.Fits.{Short}
 use Rattle.rule_list.proofs.ByValue as list
 use Rattle.rules.proofs.TrialLaws.{at-place}
-use Rattle.denials.proofs.DenialLaws.{listed-count, listed-at, unmet-at-most, why-unmet, why-none}
+use Rattle.denials.proofs.DenialLaws.{listed-at, unmet-at-most, why-unmet, why-none}
 use Rattle.denials.proofs.why_not.Statement.{statement}
 use Rattle.denials.proofs.why_not.Tie as tie
 
@@ -27,9 +27,12 @@ searched c = c .before .before .before
 abbrev start-of-none : tie.Then1 → tie.Start
 start-of-none c = c .before .before .before .before
 
--- The list has its count of rules.
+-- The list has its count of rules, and room for them.
 whole : (c : tie.Start) → c .args .rs .count ≤ length (c .args .rs .rules)
-whole c = omega (arith, c .pre .0 .0, list.filled (c .args .rs) (c .good .0))
+whole c = list.within (c .args .rs) (c .good .0) (c .pre .0 .0)
+
+counted : (c : tie.Start) → length (listed (c .args .rs)) ≡ c .args .rs .count
+counted c = ap length (list.front-is (c .args .rs)) ∙ list.all-there (c .args .rs) (c .good .0) (c .pre .0 .0)
 
 -- The rule that is taken out of the list's room. Past the room's end a rule without room for terms would stand; the place is within.
 abbrev taken : tie.After-r → Rule
@@ -44,7 +47,7 @@ brief c =
     let at-start = start c in
     let rs = at-start .args .rs in
     subst Short (listed-at rs (whole at-start) _ _ (inside c))
-    (at-place Short (listed rs) _ noRule (omega (arith, listed-count rs (whole at-start), inside c)) (at-start .pre .0 .1))
+    (at-place Short (listed rs) _ noRule (omega (arith, counted at-start, inside c)) (at-start .pre .0 .1))
 
 -- The place of its first unmet term is at most eight.
 few-terms : (c : tie.After-first-unmet) → c .first-unmet .result ≤ 8
@@ -67,7 +70,7 @@ returns c =
     let at-start = start-of-none c in
     let rs = at-start .args .rs in
     sym (why-none (at-start .args .juniors .now) (holds (at-start .args .ledger .now)) (at-start .args .q) (listed rs)
-    (omega (arith, listed-count rs (whole at-start), c .if1 .taken, c .before .named-listed .ensures)))
+    (omega (arith, counted at-start, c .if1 .taken, c .before .named-listed .ensures)))
 
 mul-r : tie.Need-mul-r
 mul-r c = search needs
@@ -98,7 +101,7 @@ returns-2 c =
     let same : getD (listed rs) (found .named-listed .result) noRule ≡ taken (c .before) = listed-at rs (whole at-start)
     (found .named-listed .result) _ (inside (c .before)) in
     sym (why-unmet (at-start .args .juniors .now) (holds (at-start .args .ledger .now)) (at-start .args .q) (listed rs)
-    (omega (arith, listed-count rs (whole at-start), found .named-listed .ensures, inside (c .before)))
+    (omega (arith, counted at-start, found .named-listed .ensures, inside (c .before)))
     ∙ rw (← found .named-listed .ensures, same, ← c .first-unmet .ensures))
 
 pub why-not-spec : {M : Type 1} → statement M
