@@ -7,7 +7,7 @@ use Prim.Native.Nat.{ℕ, _-_, _≤_, _<_}
 use native.Mathlib.Omega.{arith}
 use lib.ListN.{length}
 use Rattle.theory.specs.Inner.Facts.{State, _⊆_}
-use Rattle.quantifiers.specs.Inner.Lists.{countBelow}
+use Rattle.quantifiers.specs.Quantifiers.{countBelow}
 use Rattle.theory.proofs.FactLaws.{minus-in, minus-clear, antisym, count-less}
 use Rattle.quantifiers.proofs.BelowLaws.{count-mono}
 use Rattle.theory.specs.Inner.Plan.{World, AddClosed, BackClosed}

@@ -21,7 +21,7 @@ use Rattle.frames.specs.Book.{noRule}
 use Rattle.frames.specs.declared.Rule.{Rule}
 use Rattle.frames.specs.declared.Rules.{Rules}
 use Rattle.moves.specs.Inner.Listed.{ofList, isChosen, chosenCount, RoomFrom, Taken, movesFrom, Gathered, partOf, Prepared}
-use Rattle.quantifiers.specs.Inner.Lists.{oneIf, countBelow}
+use Rattle.quantifiers.specs.Quantifiers.{oneIf, countBelow}
 
 -- ---------------------------------------------------------------- one rule more
 

@@ -18,7 +18,7 @@ use Rattle.frames.specs.Book.{Contents}
 use Rattle.frames.specs.Inner.Fits.{inSizes, Admitted}
 use Rattle.requests.proofs.RequestLaws.{well-formed-fact}
 use Rattle.theory.specs.Inner.Facts.{State, _⊆_, update}
-use Rattle.quantifiers.specs.Inner.Lists.{oneIf, countBelow}
+use Rattle.quantifiers.specs.Quantifiers.{oneIf, countBelow}
 use Rattle.theory.proofs.FactLaws.{update-same, update-other, at, count-update}
 use Rattle.quantifiers.proofs.BelowLaws.{count-le, count-mono}
 use Rattle.theory.specs.Inner.Plan.{Ask, Req, req, apply, end, Runs, World, Lawful, Step, Plan}

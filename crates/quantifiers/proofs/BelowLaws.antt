@@ -8,8 +8,7 @@ use native.Mathlib.Numerals.{add-one}
 use native.Mathlib.Omega.{arith}
 use lib.Dec.{leb}
 use borrow.Author.Tests.{leb-true, le-leb}
-use Rattle.quantifiers.specs.Quantifiers.{allBelow, anyBelow, anyFrom}
-use Rattle.quantifiers.specs.Inner.Lists.{oneIf, countBelow}
+use Rattle.quantifiers.specs.Quantifiers.{allBelow, anyBelow, anyFrom, oneIf, countBelow}
 use Rattle.quantifiers.proofs.BoolLaws.{and-both, and-from, and-or, or-cases, or-swap, not-on, bool-eq, by-test}
 
 -- ---------------------------------------------------------------- some number below n

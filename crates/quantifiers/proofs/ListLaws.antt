@@ -1,4 +1,4 @@
--- Tests over a list: by its elements, by its places, and from the front of its first n, where what is left decides.
+-- Tests over a list: by its elements, by its places, and from a place on, where what is left decides.
 use mathlib.Core.Path.{_≡_, refl, ap, sym, _∙_}
 use mathlib.Core.Bool.{Bool, true, false, _&&_, _||_, or-false, or-assoc, true≢false}
 use mathlib.Core.List.{List, [], _∷_, _++_, map}
@@ -9,7 +9,7 @@ use lib.ListN.{length, getD, set, take, drop, drop-of-length-le}
 use lib.Seq.{drop-cons, getD-take, length-take-le, take-suc, take-suc-set, take-all}
 use Rattle.quantifiers.specs.Quantifiers.{all, any, anyBelow}
 use Rattle.quantifiers.specs.Inner.Lists.{Each}
-use Rattle.quantifiers.proofs.BoolLaws.{and-both, or-right}
+use Rattle.quantifiers.proofs.BoolLaws.{and-both, and-from, or-right}
 use Rattle.quantifiers.proofs.BelowLaws.{any-zero, any-step}
 
 -- ---------------------------------------------------------------- by the elements
@@ -99,31 +99,43 @@ module _ {A : Type 0} where
       ap (any p) (take-suc xs n d (omega arith)) ∙ any-last p (take n xs) (getD xs n d)
       ∙ ap (λ u. u || p (getD xs n d)) (any-front p d xs n (omega arith)) ∙ sym (any-step (λ j. p (getD xs j d)) n)
 
--- ---------------------------------------------------------------- from the front
+-- ---------------------------------------------------------------- from a place on
 
-module _ {A : Type 0} (xs : List A) (n : ℕ) (fits : n ≤ length xs) where
-  pub front-length : length (take n xs) ≡ n
-  front-length = length-take-le n xs fits
-
+module _ {A : Type 0} (p : A → Bool) (xs : List A) where
   -- The next one, in front of what is left behind it.
-  pub front-drop : (i : ℕ) (d : A) → i < n → drop i (take n xs) ≡ getD xs i d ∷ drop (i + 1) (take n xs)
-  front-drop i d h = rw (add-one, drop-cons (take n xs) i d (omega (arith, front-length)), getD-take n xs i d h)
+  rest : (i : ℕ) (d : A) → i < length xs → drop i xs ≡ getD xs i d ∷ drop (i + 1) xs
+  rest i d h = rw (add-one, drop-cons xs i d h)
 
+  -- Nothing is left, the next one passes, the next one fails.
+  pub rest-out : (i : ℕ) → length xs ≤ i → all p (drop i xs) ≡ true
+  unfolding all
+  rest-out i h = rw (drop-of-length-le xs {i = i} h)
+
+  pub rest-pass : (i : ℕ) (d : A) → i < length xs → p (getD xs i d) ≡ true → all p (drop i xs) ≡ all p (drop (i + 1) xs)
+  unfolding all
+  rest-pass i d h e = ap (all p) (rest i d h) ∙ rw e
+
+  pub rest-fail : (i : ℕ) (d : A) → i < length xs → p (getD xs i d) ≡ false → all p (drop i xs) ≡ false
+  unfolding all
+  rest-fail i d h e = rw (rest i d h, e)
+
+-- The same of the first n.
 module _ {A : Type 0} (p : A → Bool) (xs : List A) (n : ℕ) (fits : n ≤ length xs) where
-  -- Nothing is left.
   pub all-out : (i : ℕ) → n ≤ i → all p (drop i (take n xs)) ≡ true
-  unfolding all
-  all-out i h = rw (drop-of-length-le (take n xs) {i = i} (omega (arith, front-length xs n fits)))
+  all-out i h = rest-out p (take n xs) i (omega (arith, length-take-le n xs fits))
 
-  -- The next one passes.
   pub all-pass : (i : ℕ) (d : A) → i < n → p (getD xs i d) ≡ true → all p (drop i (take n xs)) ≡ all p (drop (i + 1) (take n xs))
-  unfolding all
-  all-pass i d h e = ap (all p) (front-drop xs n fits i d h) ∙ rw e
+  all-pass i d h e = rest-pass p (take n xs) i d (omega (arith, length-take-le n xs fits)) (ap p (getD-take n xs i d h) ∙ e)
 
-  -- The next one fails.
   pub all-fail : (i : ℕ) (d : A) → i < n → p (getD xs i d) ≡ false → all p (drop i (take n xs)) ≡ false
-  unfolding all
-  all-fail i d h e = rw (front-drop xs n fits i d h, e)
+  all-fail i d h e = rest-fail p (take n xs) i d (omega (arith, length-take-le n xs fits)) (ap p (getD-take n xs i d h) ∙ e)
+
+-- Where all of a list pass, the first n do.
+pub all-take : {A : Type 0} (p : A → Bool) (xs : List A) (n : ℕ) → all p xs ≡ true → all p (take n xs) ≡ true
+unfolding all
+all-take p xs zero e = refl
+all-take p [] (suc n) e = refl
+all-take p (x ∷ xs) (suc n) e = let both = and-both (p x) (all p xs) e in and-from (p x) (all p (take n xs)) (both .0) (all-take p xs n (both .1))
 
 -- Within the list it does not matter what stands for a place past its end.
 pub within-any : {A : Type 0} (xs : List A) (i : ℕ) (d e : A) → i < length xs → getD xs i d ≡ getD xs i e

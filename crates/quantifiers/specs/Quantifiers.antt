@@ -1,5 +1,5 @@
--- All or some one, of a list and of the numbers below a bound; the first of a list.
-use Prim.Native.Nat.{ℕ, zero, suc}
+-- All or some one, of a list and of the numbers below a bound; the first of a list; how many numbers below a bound.
+use Prim.Native.Nat.{ℕ, zero, suc, _+_}
 use mathlib.Core.Bool.{Bool, true, false, cond, _&&_, _||_}
 use mathlib.Core.List.{List, [], _∷_}
 use lib.Dec.{leb}
@@ -32,3 +32,13 @@ anyBelow p (suc n) = anyBelow p n || p n
 -- Some number from v on, below n, passes a test.
 unfoldable pub anyFrom : (ℕ → Bool) → ℕ → ℕ → Bool
 anyFrom p v n = anyBelow (λ w. leb v w && p w) n
+
+-- A truth value as a number.
+abbrev pub oneIf : Bool → ℕ
+oneIf true = 1
+oneIf false = 0
+
+-- How many numbers below n pass a test.
+unfoldable pub countBelow : (ℕ → Bool) → ℕ → ℕ
+countBelow p zero = 0
+countBelow p (suc n) = countBelow p n + oneIf (p n)

@@ -3,7 +3,7 @@
 use native.Mathlib.Omega.{arith}
 use mathlib.Core.Path.{_≡_, sym, _∙_}
 use lib.ListN.{length}
-use Rattle.quantifiers.specs.Inner.Lists.{countBelow}
+use Rattle.quantifiers.specs.Quantifiers.{countBelow}
 use Rattle.shown.specs.Inner.Shown.{direct}
 use Rattle.level.specs.Inner.Moves.{movesIn}
 use Rattle.level.proofs.SettleLaws.{Going, going-first, settled, stuck, go-on, smaller, result-found, result-none}

@@ -5,7 +5,7 @@ use mathlib.Core.List.{List}
 use Prim.Native.Nat.{ℕ, _+_, _-_, _*_, _≤_, _<_}
 use lib.ListN.{length, take, drop}
 use Rattle.widths.specs.Inner.Widths.{movesSize, moveSize}
-use Rattle.quantifiers.specs.Inner.Lists.{countBelow}
+use Rattle.quantifiers.specs.Quantifiers.{countBelow}
 use Rattle.level.specs.Inner.Moves.{Moves, moveFrom, movesIn}
 use Rattle.level.specs.Inner.Terms.{MoveOf}
 use Rattle.level.specs.Inner.Chosen.{chosenIn, ruleAt, MovesOf, MovePut}
