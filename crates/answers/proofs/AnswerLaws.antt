@@ -2,19 +2,14 @@
 use mathlib.Core.Path.{_≡_, refl, ap, _∙_}
 use mathlib.Core.Bool.{true, false}
 use mathlib.Core.List.{List, [], _∷_, _++_}
-use mathlib.Core.Logic.{dite}
-use Prim.Native.Nat.{ℕ, zero, suc, _+_, _*_, _/_, _%_, _≤_, _<_}
-use native.Mathlib.Decide.{decLt}
+use Prim.Native.Nat.{ℕ, suc, _+_, _*_, _/_, _%_, _≤_, _<_}
 use native.Mathlib.Numerals.{add-one}
 use native.Mathlib.Omega.{arith}
-use lib.Dec.{eqb}
 use lib.ListN.{length, length-append, drop, getD, drop-of-length-le}
 use lib.Seq.{drop-cons}
-use borrow.Author.Tests.{eqb-true}
 use Rattle.sets.specs.Sets.{member}
-use Rattle.lines.specs.Digits.{digit, character, frameOf}
-use Rattle.quantifiers.specs.Quantifiers.{allBelow}
-use Rattle.quantifiers.proofs.BoolLaws.{and-both}
+use Rattle.lines.specs.Digits.{character, frameOf}
+use Rattle.lines.proofs.TableLaws.{digit-back}
 use Rattle.answers.specs.Answers.{hex, hexLine, size, total}
 
 -- ---------------------------------------------------------------- the digits of bytes
@@ -47,19 +42,6 @@ five-bytes (op ∷ role ∷ s ∷ a ∷ v ∷ []) h = refl
 five-bytes (op ∷ role ∷ s ∷ a ∷ v ∷ x ∷ rest) h = absurd (omega arith)
 
 -- ---------------------------------------------------------------- digits read back
-
-back-below : (n : ℕ) → allBelow (λ (d : ℕ). eqb (digit (character d)) d) n ≡ true → (d : ℕ) → d < n → digit (character d) ≡ d
-unfolding allBelow
-back-below zero t d h = omega arith
-back-below (suc n) t d h =
-    let both = and-both _ _ t in
-    dite (decLt d n) (λ (m : d < n). back-below n (both .0) d m)
-    (λ (m : d < n → ⊥). let e : d ≡ n = omega arith in rw e (eqb-true _ n (both .1)))
-
--- A digit's character has the digit's value: computed for the sixteen.
-pub digit-back : (d : ℕ) → d < 16 → digit (character d) ≡ d
-unfolding allBelow digit character
-digit-back d h = back-below 16 refl d h
 
 -- Reading the digits of bytes back gives the bytes.
 pub read-back : (bs : List ℕ) → ((i : ℕ) → getD bs i 0 < 256) → frameOf (hex bs) ≡ bs

@@ -55,7 +55,7 @@ fn plan(book: &[u8]) {
 
 fn judge(book: &[u8]) {
     let mut text = [0u8; 64];
-    answers::put_reading(frames::read(book), &mut text);
+    readings::put_reading(frames::read(book), &mut text);
     let end = lines::line_end(&text, 0);
     io::write_all(STDOUT_FILENO, &text[..end]);
     io::write_all(STDOUT_FILENO, b" ");

@@ -15,7 +15,7 @@ use Rattle.lines.specs.Digits.{byteAt, frameOf, malformed}
 use Rattle.lines.specs.Lines.{Line, ended, lines}
 use Rattle.lines.proofs.DigitLaws.{well-long}
 use Rattle.lines.proofs.LineLaws.{line-ended, line-unended}
-use Rattle.lines.specs.declared.Frame.the-variants.{Malformed as NoFrame, Bytes, Long}
+use Rattle.reader.specs.declared.Frame.the-variants.{Malformed as NoFrame, Bytes, Long}
 use Rattle.reader.specs.declared.Read.{Read}
 use Rattle.reader.specs.Inner.Reading.{lineEnd, lineOf, FrameRead}
 use Rattle.reader.proofs.ReadLaws.{read-bytes, read-long, read-malformed}

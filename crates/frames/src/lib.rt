@@ -373,14 +373,14 @@ fn read_lines(book: &[u8]) -> Reading
         let read = reader::read_frame(book, cursor, &digits, &mut frame);
         let decoded = read.frame;
         let n = match decoded {
-            lines::Frame::Malformed => {
+            reader::Frame::Malformed => {
                 return turned_back(Refusal::BadLine(gate::Fault::Malformed, cursor.line));
             }
-            lines::Frame::Long(n) => {
+            reader::Frame::Long(n) => {
                 let fault = gate::long_fault(known, &frame, n);
                 return turned_back(Refusal::BadLine(fault, cursor.line));
             }
-            lines::Frame::Bytes(n) => n,
+            reader::Frame::Bytes(n) => n,
         };
         let x = &frame[..n];
         let verdict = gate::judge_frame(known, x);

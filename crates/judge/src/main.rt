@@ -13,7 +13,7 @@ fn answer(text: &mut [u8], n: usize) -> usize
     ensures { λ end. ⌜ (end ≤ length (now (text .exit))) × (take end (now (text .exit)) ≡ answerLine (bookOf (take n (now (text .entry))))) ⌝ }
 {
     let reading = frames::read(&text[..n]);
-    answers::put_reading(reading, text)
+    readings::put_reading(reading, text)
 }
 
 // The buffer holds one character more than a book may have, so that refusal 1 shows.

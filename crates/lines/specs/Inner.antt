@@ -1,3 +1,2 @@
-pub mod Decoding
+pub mod Tables
 pub mod Cursors
-pub mod Front

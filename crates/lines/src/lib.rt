@@ -1,13 +1,11 @@
-// A book's characters: the digits of Base 16, the bytes that a line's digits write, and where a line ends.
+// A book's characters: the digits of Base 16, the bytes of a frame, and where a line ends.
 ghost use mathlib.Core.Path.{_≡_};
-ghost use Prim.Native.Nat.{_+_, _*_, _<_, _≤_};
+ghost use Prim.Native.Nat.{_+_, _<_, _≤_};
 ghost use lib.ListN.{length, drop};
-ghost use Rattle.lines.specs.Digits.{digit, character, isDigit, byteAt};
-ghost use Rattle.quantifiers.specs.Quantifiers.{all};
-ghost use Rattle.lines.specs.Inner.Decoding.{Decoded};
+ghost use Rattle.lines.specs.Digits.{digit, byteAt};
 ghost use Rattle.lines.specs.Lines.{toEnd};
-ghost use Rattle.lines.specs.Inner.Cursors.{opening, following};
-ghost use Rattle.lines.specs.Inner.Front.{Tabled, firstLine, Begun, isEnd};
+ghost use Rattle.lines.specs.Inner.Tables.{Tabled, Encodings};
+ghost use Rattle.lines.specs.Inner.Cursors.{opening, following, isEnd};
 
 // A place in a book: the character at which a line starts, and the line's number.
 pub struct Cursor {
@@ -15,7 +13,8 @@ pub struct Cursor {
     pub line: usize,
 }
 
-// The value of a digit's character; 16 for any other. RFC 4648, Table 5, upper case alone.
+// The value of a digit's character, one case for each of the sixteen of RFC 4648, Table 5; 16 for any other character. No other place in
+// the code knows a digit's value: reading and writing go through this function, or through the tables that are filled by it.
 pub fn digit_of(c: u8) -> u8
     ensures { λ r. ⌜ r ≡ digit c ⌝ }
 {
@@ -40,112 +39,7 @@ pub fn digit_of(c: u8) -> u8
     }
 }
 
-// The same table the other way: the character of each value.
-const ALPHABET: [u8; 16] = [
-    48,
-    49,
-    50,
-    51,
-    52,
-    53,
-    54,
-    55,
-    56,
-    57,
-    65,
-    66,
-    67,
-    68,
-    69,
-    70,
-];
-
-// The character of a digit.
-pub fn character_of(d: u8) -> u8
-    requires { ⌜ d < 16 ⌝ }
-    ensures { λ r. ⌜ r ≡ character d ⌝ }
-{
-    let i = d as usize;
-    ALPHABET[i]
-}
-
-// What an ended line writes: nothing, by refusal 2; a frame of so many bytes; or one of over 64, of which only the first 64 are kept.
-pub enum Frame {
-    Malformed,
-    Bytes(usize),
-    Long(usize),
-}
-
-// Writes the line's frame to the front of `frame`, unless the line is empty, has an odd number of digits, or another character.
-fn decode_short(x: &[u8], frame: &mut [u8]) -> Frame
-    requires { ⌜ (length (now x) ≤ 65536) × (length (now x) ≤ 2 * length (now frame)) ⌝ }
-    ensures { λ r. ⌜ Decoded (now (x .entry)) r (now (frame .entry)) (now (frame .exit)) ⌝ }
-{
-    if x.len() == 0 {
-        return Frame::Malformed;
-    }
-    if x.len() % 2 == 1 {
-        return Frame::Malformed;
-    }
-    let mut k: usize = 0;
-    while 2 * k < x.len() {
-        let high = digit_of(x[2 * k]);
-        let low = digit_of(x[2 * k + 1]);
-        if high >= 16 {
-            return Frame::Malformed;
-        }
-        if low >= 16 {
-            return Frame::Malformed;
-        }
-        frame[k] = high * 16 + low;
-        k += 1;
-    }
-    Frame::Bytes(k)
-}
-
-// Whether all characters are digits.
-fn are_digits(x: &[u8]) -> bool
-    ensures { λ r. ⌜ r ≡ all isDigit (now (x .entry)) ⌝ }
-{
-    let mut i: usize = 0;
-    while i < x.len() {
-        let d = digit_of(x[i]);
-        if d >= 16 {
-            return false;
-        }
-        i += 1;
-    }
-    true
-}
-
-// Of a line of over 128 characters only the first 64 bytes are written: no good frame is as long, and they tell which refusal is due.
-fn decode_long(x: &[u8], frame: &mut [u8]) -> Frame
-    requires { ⌜ (128 < length (now x)) × (length (now frame) ≡ 64) ⌝ }
-    ensures { λ r. ⌜ Decoded (now (x .entry)) r (now (frame .entry)) (now (frame .exit)) ⌝ }
-{
-    if x.len() % 2 == 1 {
-        return Frame::Malformed;
-    }
-    if !are_digits(x) {
-        return Frame::Malformed;
-    }
-    let front = &x[..128];
-    decode_short(front, frame);
-    Frame::Long(x.len() / 2)
-}
-
-// Writes the line's frame, or the first 64 bytes of a longer one, to a buffer of 64 bytes, unless the line is malformed.
-pub fn decode(x: &[u8], frame: &mut [u8]) -> Frame
-    requires { ⌜ length (now frame) ≡ 64 ⌝ }
-    ensures { λ r. ⌜ Decoded (now (x .entry)) r (now (frame .entry)) (now (frame .exit)) ⌝ }
-{
-    if 128 < x.len() {
-        return decode_long(x, frame);
-    }
-    decode_short(x, frame)
-}
-
-// The values of all characters as a table, so that a character's value is one look-up.
+// The value of every character as a table, so that reading a digit is one look-up: filled by the sixteen cases.
 pub fn fill_digits(table: &mut [u8; 256])
     requires { ⌜ length (now table) ≡ 256 ⌝ }
     ensures { λ _. ⌜ Tabled (now (table .exit)) ⌝ }
@@ -157,43 +51,20 @@ pub fn fill_digits(table: &mut [u8; 256])
     }
 }
 
-// A character as a place in the table.
-fn wide(c: u8) -> usize
-    ensures { λ r. ⌜ (r ≡ c) × (r < 256) ⌝ }
+// The character of every value as a table, so that writing a digit is one look-up: each character that is a digit, from the first to the
+// last, stands at the value that the sixteen cases give it.
+pub fn fill_characters(table: &mut [u8; 16])
+    requires { ⌜ length (now table) ≡ 16 ⌝ }
+    ensures { λ _. ⌜ Encodings (now (table .exit)) ⌝ }
 {
-    c as usize
-}
-
-// The smaller of two numbers.
-fn least(a: usize, b: usize) -> usize
-    ensures { λ r. ⌜ (r ≤ a) × (r ≤ b) ⌝ }
-{
-    if a < b {
-        return a;
-    }
-    b
-}
-
-// Writes the bytes of the first line of `x` to the front of `frame`, until a character is no digit or 64 are written. Returns how many.
-pub fn decode_front(x: &[u8], digits: &[u8], frame: &mut [u8]) -> usize
-    requires { ⌜ Tabled (now digits) × (64 ≤ length (now frame)) ⌝ }
-    ensures { λ k. ⌜ Begun (firstLine (now (x .entry))) (now (frame .entry)) k (now (frame .exit)) ⌝ }
-{
-    let most = least(x.len() / 2, 64);
-    let mut k: usize = 0;
-    while k < most {
-        let high = digits[wide(x[2 * k])];
-        let low = digits[wide(x[2 * k + 1])];
-        if 16 <= high {
-            return k;
+    let mut c: u8 = b'0';
+    while c <= b'F' {
+        let v = digit_of(c) as usize;
+        if v < 16 {
+            table[v] = c;
         }
-        if 16 <= low {
-            return k;
-        }
-        frame[k] = high * 16 + low;
-        k += 1;
+        c += 1;
     }
-    k
 }
 
 // Whether 0A stands at place n of `x`, behind a character at least.

@@ -7,7 +7,8 @@ use Prim.Native.Nat.{ℕ, _*_, _≤_, _<_}
 use native.Mathlib.Decide.{decLt}
 use native.Mathlib.Omega.{arith}
 use lib.ListN.{length, getD, length-append}
-use Rattle.lines.specs.Digits.{character}
+use Rattle.lines.specs.Digits.{digit, character}
+use Rattle.lines.proofs.TableLaws.{digit-back}
 use Rattle.frames.specs.Book.{Contents, Answer, refused, accepted, bookOf}
 use Rattle.frames.proofs.BookLaws.{book-accepted}
 use Rattle.replay.specs.Chains.{fives}
@@ -92,8 +93,11 @@ tried-put {book} {before} {out} {text} {after} {end} answer promise not-short w 
 
 -- The second character tells 80 from 81.
 no-way-other : (n : ℕ) (below : List ℕ) → hexLine noWayBytes ≡ hexLine (countBytes n) ++ below → ⊥
-unfolding hexLine hex noWayBytes countBytes character
-no-way-other n below e = let z : _≡_ {A = ℕ} 48 49 = ap (λ (l : List ℕ). getD l 1 0) e in omega arith
+unfolding hexLine hex noWayBytes countBytes
+no-way-other n below e =
+    let same : character 0 ≡ character 1 = ap (λ (l : List ℕ). getD l 1 0) e in
+    let z : _≡_ {A = ℕ} 0 1 = sym (digit-back 0 (omega arith)) ∙ ap digit same ∙ digit-back 1 (omega arith) in
+    omega arith
 
 -- "a sorter's query gets no way exactly when no finite list of requests [..] leads [..] to a ledger that meets the query"
 module _ {book text : List ℕ} (p : Printed book text) (b : Contents) (read : bookOf book ≡ accepted b) where

@@ -9,13 +9,14 @@ use native.Mathlib.Omega.{arith}
 use lib.ListN.{length, take, drop, length-drop}
 use lib.Seq.{take-all}
 use Rattle.lines.specs.Digits.{malformed}
-use Rattle.lines.specs.Inner.Decoding.{InFront, FrontOnly, Decoded}
+use Rattle.reader.specs.Inner.Decoding.{InFront, FrontOnly, Decoded}
 use Rattle.lines.specs.Lines.{toEnd}
-use Rattle.lines.specs.Inner.Front.{firstLine, Begun, isEnd}
+use Rattle.reader.specs.Inner.Front.{firstLine, Begun}
+use Rattle.lines.specs.Inner.Cursors.{isEnd}
 use Rattle.lines.specs.declared.Cursor.{Cursor}
-use Rattle.lines.specs.declared.Frame.{Frame}
-use Rattle.lines.specs.declared.Frame.the-variants.{Malformed, Bytes, Long}
-use Rattle.lines.proofs.FrameLaws.{decoded-frame, decoded-long, decoded-malformed, front-ends, front-written}
+use Rattle.reader.specs.declared.Frame.{Frame}
+use Rattle.reader.specs.declared.Frame.the-variants.{Malformed, Bytes, Long}
+use Rattle.reader.proofs.DecodingLaws.{decoded-frame, decoded-long, decoded-malformed, front-ends, front-written}
 use Rattle.lines.proofs.LineLaws.{end-at}
 use Rattle.reader.specs.declared.Line.{Line}
 use Rattle.reader.specs.declared.Read.{Read}

@@ -1,1 +1,3 @@
+pub mod Decoding
+pub mod Front
 pub mod Reading

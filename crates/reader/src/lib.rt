@@ -1,20 +1,139 @@
 // The frame reader: a book with its current position, and the frame that the line there writes.
 ghost use mathlib.Core.Path.{_≡_};
-ghost use Prim.Native.Nat.{_+_, _≤_};
+ghost use Prim.Native.Nat.{_+_, _*_, _<_, _≤_};
 ghost use lib.ListN.{length};
-ghost use Rattle.lines.specs.Inner.Front.{Tabled};
+ghost use Rattle.quantifiers.specs.Quantifiers.{all};
+ghost use Rattle.lines.specs.Digits.{isDigit};
+ghost use Rattle.lines.specs.Inner.Tables.{Tabled};
+ghost use Rattle.reader.specs.Inner.Decoding.{Decoded};
+ghost use Rattle.reader.specs.Inner.Front.{firstLine, Begun};
 ghost use Rattle.reader.specs.Inner.Reading.{LineRead, FrameRead};
 use lines::Cursor;
 
+// What an ended line writes: nothing, by refusal 2; a frame of so many bytes; or one of over 64, of which only the first 64 are kept.
+pub enum Frame {
+    Malformed,
+    Bytes(usize),
+    Long(usize),
+}
+
+// Writes the line's frame to the front of `frame`, unless the line is empty, has an odd number of digits, or another character.
+fn decode_short(x: &[u8], frame: &mut [u8]) -> Frame
+    requires { ⌜ (length (now x) ≤ 65536) × (length (now x) ≤ 2 * length (now frame)) ⌝ }
+    ensures { λ r. ⌜ Decoded (now (x .entry)) r (now (frame .entry)) (now (frame .exit)) ⌝ }
+{
+    if x.len() == 0 {
+        return Frame::Malformed;
+    }
+    if x.len() % 2 == 1 {
+        return Frame::Malformed;
+    }
+    let mut k: usize = 0;
+    while 2 * k < x.len() {
+        let high = lines::digit_of(x[2 * k]);
+        let low = lines::digit_of(x[2 * k + 1]);
+        if high >= 16 {
+            return Frame::Malformed;
+        }
+        if low >= 16 {
+            return Frame::Malformed;
+        }
+        frame[k] = high * 16 + low;
+        k += 1;
+    }
+    Frame::Bytes(k)
+}
+
+// Whether all characters are digits.
+fn are_digits(x: &[u8]) -> bool
+    ensures { λ r. ⌜ r ≡ all isDigit (now (x .entry)) ⌝ }
+{
+    let mut i: usize = 0;
+    while i < x.len() {
+        let d = lines::digit_of(x[i]);
+        if d >= 16 {
+            return false;
+        }
+        i += 1;
+    }
+    true
+}
+
+// Of a line of over 128 characters only the first 64 bytes are written: no good frame is as long, and they tell which refusal is due.
+fn decode_long(x: &[u8], frame: &mut [u8]) -> Frame
+    requires { ⌜ (128 < length (now x)) × (length (now frame) ≡ 64) ⌝ }
+    ensures { λ r. ⌜ Decoded (now (x .entry)) r (now (frame .entry)) (now (frame .exit)) ⌝ }
+{
+    if x.len() % 2 == 1 {
+        return Frame::Malformed;
+    }
+    if !are_digits(x) {
+        return Frame::Malformed;
+    }
+    let front = &x[..128];
+    decode_short(front, frame);
+    Frame::Long(x.len() / 2)
+}
+
+// Writes the line's frame, or the first 64 bytes of a longer one, to a buffer of 64 bytes, unless the line is malformed.
+fn decode(x: &[u8], frame: &mut [u8]) -> Frame
+    requires { ⌜ length (now frame) ≡ 64 ⌝ }
+    ensures { λ r. ⌜ Decoded (now (x .entry)) r (now (frame .entry)) (now (frame .exit)) ⌝ }
+{
+    if 128 < x.len() {
+        return decode_long(x, frame);
+    }
+    decode_short(x, frame)
+}
+
+// A character as a place in the table.
+fn wide(c: u8) -> usize
+    ensures { λ r. ⌜ (r ≡ c) × (r < 256) ⌝ }
+{
+    c as usize
+}
+
+// The smaller of two numbers.
+fn least(a: usize, b: usize) -> usize
+    ensures { λ r. ⌜ (r ≤ a) × (r ≤ b) ⌝ }
+{
+    if a < b {
+        return a;
+    }
+    b
+}
+
+// Writes the bytes of the first line of `x` to the front of `frame`, until a character is no digit or 64 are written. Returns how many.
+fn decode_front(x: &[u8], digits: &[u8], frame: &mut [u8]) -> usize
+    requires { ⌜ Tabled (now digits) × (64 ≤ length (now frame)) ⌝ }
+    ensures { λ k. ⌜ Begun (firstLine (now (x .entry))) (now (frame .entry)) k (now (frame .exit)) ⌝ }
+{
+    let most = least(x.len() / 2, 64);
+    let mut k: usize = 0;
+    while k < most {
+        let high = digits[wide(x[2 * k])];
+        let low = digits[wide(x[2 * k + 1])];
+        if 16 <= high {
+            return k;
+        }
+        if 16 <= low {
+            return k;
+        }
+        frame[k] = high * 16 + low;
+        k += 1;
+    }
+    k
+}
+
 // What a line gives: its frame, and the place of its end.
 pub struct Line {
-    pub frame: lines::Frame,
+    pub frame: Frame,
     pub end: usize,
 }
 
 // What is read at a cursor: the frame of the line there, and the cursor of the line behind it.
 pub struct Read {
-    pub frame: lines::Frame,
+    pub frame: Frame,
     pub next: Cursor,
 }
 
@@ -26,12 +145,12 @@ fn any_line_at(book: &[u8], at: usize, frame: &mut [u8]) -> Line
     let end = lines::line_end(book, at);
     if book.len() <= end {
         return Line {
-            frame: lines::Frame::Malformed,
+            frame: Frame::Malformed,
             end,
         };
     }
     let x = &book[at..end];
-    let decoded = lines::decode(x, frame);
+    let decoded = decode(x, frame);
     Line {
         frame: decoded,
         end,
@@ -45,11 +164,11 @@ fn line_at<'a>(book: &'a [u8], at: usize, digits: &'a [u8], frame: &mut [u8]) ->
     ensures { λ l. ⌜ LineRead (now (book .entry)) at (now (frame .entry)) l (now (frame .exit)) ⌝ }
 {
     let x = &book[at..];
-    let k = lines::decode_front(x, digits, frame);
+    let k = decode_front(x, digits, frame);
     let n = 2 * k;
     if lines::is_end(x, n) {
         return Line {
-            frame: lines::Frame::Bytes(k),
+            frame: Frame::Bytes(k),
             end: at + n,
         };
     }

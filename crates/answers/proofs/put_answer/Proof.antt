@@ -11,23 +11,29 @@ use Rattle.answers.proofs.put_answer.Statement.{statement}
 use Rattle.answers.proofs.put_answer.Tie as tie
 
 -- The places that the answers name, each from a later one: the start, the three arms of the match, and within the last two what is put.
-abbrev entry : tie.After-slice-known → tie.Start
-entry c = c .before .before
+abbrev entry : tie.After-fill-characters → tie.Start
+entry c = c .before .before .before .before
 
 abbrev refused-arm : tie.After-refusal-number → tie.After-answer2
 refused-arm c = c .before .before
 
 abbrev no-way-arm : tie.After-text → tie.After-enum-told
-no-way-arm c = c .before .before .before .before
+no-way-arm c = c .before .before .before .before .before
 
 abbrev plan-arm : tie.After-slice-known3 → tie.After-answer
-plan-arm c = c .before .before .before .before .before .before .before .before
+plan-arm c = c .before .before .before .before .before .before .before .before .before
 
 abbrev after-refusal-line : tie.After-text4 → tie.After-refusal-line
-after-refusal-line c = c .before .before .before
+after-refusal-line c = c .before .before .before .before
+
+abbrev after-low-byte : tie.After-put-line2 → tie.After-low-byte
+after-low-byte c = c .before .before .before .before
 
 abbrev after-put-line2 : tie.After-put-requests-arg2 → tie.After-put-line2
-after-put-line2 c = c .before .before .before .before
+after-put-line2 c = c .before .before .before .before .before
+
+fill-characters-requires : tie.Need-fill-characters-requires
+fill-characters-requires c κs = search needs
 
 enum-told : tie.Need-enum-told
 enum-told c = search needs
@@ -69,12 +75,14 @@ slice-aggregate-put-requests c =
 put-requests-requires : tie.Need-put-requests-requires
 unfolding hexLine hex
 put-requests-requires c κs =
-    let arm = plan-arm (c .before .before) in
+    let arm = plan-arm (c .before .before .before) in
     let start = entry (arm .before .before) in
     let answer = arm .answer .given in
     let room = start .pre .requests (answer .0 .0) (answer .1) in
-    let below = room-behind 7 (11 * answer .0 .0) (after-put-line2 c .put-line2 .ensures) refl (room .1) in
-    omega (arith, below, room .0, length-take (5 * answer .0 .0) (start .args .plan .now))
+    let below = room-behind 7 (11 * answer .0 .0) (after-put-line2 c .put-line2 .ensures) refl (room .1) in (
+      arm .before .before .fill-characters .ensures,
+      omega (arith, below, room .0, length-take (5 * answer .0 .0) (start .args .plan .now)),
+    )
 
 enum-known-answer-2 : tie.Need-enum-known-answer-2
 enum-known-answer-2 c = search needs
@@ -104,7 +112,7 @@ returns-2 : tie.Need-returns-2
 returns-2 c =
     let at-requests = c .before .before in
     let at-line = after-put-line2 (at-requests .before) in
-    let at-low = at-line .before .before .before in
+    let at-low = after-low-byte at-line in
     let at-high = at-low .before in
     let arm = at-high .before .before in
     let plan = entry (arm .before .before) .args .plan .now in
@@ -129,6 +137,7 @@ pub put-answer-spec : {M : Type 1} → statement M
 put-answer-spec =
     tie.close
     (tie.spec
+    fill-characters-requires
     enum-told
     slice-aggregate-put-line
     put-line-requires

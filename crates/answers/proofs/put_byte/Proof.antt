@@ -1,4 +1,5 @@
--- `answers::put_byte` meets its contract: two characters, the digits of b. Assumes nothing.
+-- `answers::put_byte` meets its contract: two characters, the table's of the two digits of b. Assumes nothing.
+use Prim.Native.Nat.{_/_, _%_}
 use native.Mathlib.Omega.{arith}
 use lib.ListN.{length-set}
 use borrow.Author.Needs.{needs}
@@ -6,40 +7,50 @@ use Rattle.answers.proofs.WrittenLaws.{written-digits}
 use Rattle.answers.proofs.put_byte.Statement.{statement}
 use Rattle.answers.proofs.put_byte.Tie as tie
 
-character-of-requires : tie.Need-character-of-requires
-character-of-requires c κs = search needs
+cast-high : tie.Need-cast-high
+cast-high c = search needs
 
-character-of-requires-2 : tie.Need-character-of-requires-2
-character-of-requires-2 c κs = search needs
+cast-low : tie.Need-cast-low
+cast-low c = search needs
+
+element-copy-out-text : tie.Need-element-copy-out-text
+element-copy-out-text c = omega arith
 
 slice-write-text : tie.Need-slice-write-text
-slice-write-text c = search needs
+slice-write-text c = omega (arith, c .before .pre .1)
+
+element-copy-out-text-2 : tie.Need-element-copy-out-text-2
+element-copy-out-text-2 c = omega arith
 
 add-text : tie.Need-add-text
-add-text c = search needs
+add-text c = omega (arith, c .before .before .pre .1)
 
 slice-write-text-2 : tie.Need-slice-write-text-2
-slice-write-text-2 c = simp length-set (omega arith)
+slice-write-text-2 c = simp length-set (omega (arith, c .before .before .pre .1))
 
 add-result : tie.Need-add-result
-add-result c = search needs
+add-result c = omega (arith, c .before .before .pre .1)
 
 same-length : tie.Need-same-length
 same-length c = search needs
 
 returns : tie.Need-returns
 returns c =
-    let start = c .before .before .before in
-    let text = start .args .text .now in
-    written-digits text (start .args .at) (start .args .b) (start .pre) (c .before .character-of .ensures) (c .character-of2 .ensures)
+    let start = c .before .before in
+    let b = start .args .b in
+    let characters = start .pre .0 in
+    written-digits (start .args .text .now) (start .args .at) b (start .pre .1) (characters .entry (b / 16) (omega arith))
+    (characters .entry (b % 16) (omega arith))
 
 pub put-byte-spec : {M : Type 1} → statement M
 put-byte-spec =
     tie.close
     (tie.spec
-    character-of-requires
-    character-of-requires-2
+    cast-high
+    cast-low
+    element-copy-out-text
     slice-write-text
+    element-copy-out-text-2
     add-text
     slice-write-text-2
     add-result

@@ -8,10 +8,10 @@ use Rattle.answers.proofs.put_bytes.Statement.{statement}
 use Rattle.answers.proofs.put_bytes.Tie as tie
 
 abbrev Inv-loop : tie.InvT-loop
-Inv-loop bytes text₀ at end₀ k₀ text end k = Putting text₀ at bytes k text end
+Inv-loop bytes characters text₀ at end₀ k₀ text end k = Putting text₀ at bytes k text end
 
 abbrev μ-loop : tie.MeasureT-loop
-μ-loop bytes text₀ at end₀ k₀ text end k = length bytes - k
+μ-loop bytes characters text₀ at end₀ k₀ text end k = length bytes - k
 
 -- The places that the answers name, each seen from a later one.
 abbrev entry : tie.In-loop Inv-loop μ-loop → tie.Start Inv-loop μ-loop
@@ -31,7 +31,7 @@ put-byte-requires c κs =
     let in-loop = c .before .before in
     let start = entry in-loop in
     let so-far = in-loop .before .loop .inv in
-    omega (arith, so-far .place, so-far .written .size, in-loop .loop-test .taken, start .pre)
+    (start .pre .0, omega (arith, so-far .place, so-far .written .size, in-loop .loop-test .taken, start .pre .1))
 
 add-k : tie.Need-add-k Inv-loop μ-loop
 add-k c = omega arith

@@ -15,12 +15,12 @@ put-bytes-requires c κs = search needs
 slice-write-text : tie.Need-slice-write-text
 slice-write-text c =
     let start = entry (c .before) in
-    line-room (start .args .bytes .now) (c .before .before .put-bytes .ensures) (start .pre)
+    line-room (start .args .bytes .now) (c .before .before .put-bytes .ensures) (start .pre .1)
 
 add-result : tie.Need-add-result
 add-result c =
     let start = entry (c .before) in
-    omega (arith, line-room (start .args .bytes .now) (c .before .before .put-bytes .ensures) (start .pre))
+    omega (arith, line-room (start .args .bytes .now) (c .before .before .put-bytes .ensures) (start .pre .1))
 
 same-length : tie.Need-same-length
 same-length c = search needs
@@ -28,7 +28,7 @@ same-length c = search needs
 returns : tie.Need-returns
 returns c =
     let start = entry (c .before) in
-    line-written (start .args .bytes .now) (c .before .before .put-bytes .ensures) (start .pre)
+    line-written (start .args .bytes .now) (c .before .before .put-bytes .ensures) (start .pre .1)
 
 pub put-line-spec : {M : Type 1} → statement M
 put-line-spec =

@@ -9,10 +9,10 @@ use Rattle.answers.proofs.put_requests.Statement.{statement}
 use Rattle.answers.proofs.put_requests.Tie as tie
 
 abbrev Inv-loop : tie.InvT-loop
-Inv-loop plan text₀ at end₀ from₀ text end from = Listing text₀ at plan from text end
+Inv-loop plan characters text₀ at end₀ from₀ text end from = Listing text₀ at plan from text end
 
 abbrev μ-loop : tie.MeasureT-loop
-μ-loop plan text₀ at end₀ from₀ text end from = length plan - from
+μ-loop plan characters text₀ at end₀ from₀ text end from = length plan - from
 
 -- The places that the answers name, each seen from a later one.
 abbrev entry : tie.In-loop Inv-loop μ-loop → tie.Start Inv-loop μ-loop
@@ -25,7 +25,7 @@ loop-holds : tie.Need-loop-holds Inv-loop μ-loop
 loop-holds c = let start = c .before .before in list-none (start .args .text .now) (start .args .at) (start .args .plan .now)
 
 add-loop : tie.Need-add-loop Inv-loop μ-loop
-add-loop c = omega (arith, c .loop .inv .within, c .before .before .before .pre)
+add-loop c = omega (arith, c .loop .inv .within, c .before .before .before .pre .1)
 
 add-next : tie.Need-add-next Inv-loop μ-loop
 add-next c = omega (arith, c .loop-test .taken)
@@ -47,16 +47,18 @@ put-line-requires c κs =
     let from = at-loop .from in
     let plan = start .args .plan .now in
     let five : from + 5 - from ≡ 5 = omega arith in
-    let long = length-take (from + 5 - from) (drop from plan) in
-    omega (
-      arith,
-      at-loop .inv .place,
-      at-loop .inv .written .size,
-      in-loop .loop-test .taken,
-      start .pre,
-      five,
-      long,
-      length-drop from plan,
+    let long = length-take (from + 5 - from) (drop from plan) in (
+      start .pre .0,
+      omega (
+        arith,
+        at-loop .inv .place,
+        at-loop .inv .written .size,
+        in-loop .loop-test .taken,
+        start .pre .1,
+        five,
+        long,
+        length-drop from plan,
+      ),
     )
 
 loop-less : tie.Need-loop-less Inv-loop μ-loop

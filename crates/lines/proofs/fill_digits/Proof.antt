@@ -2,7 +2,7 @@
 use native.Mathlib.Omega.{arith}
 use borrow.Author.Needs.{needs}
 use Prim.Native.Nat.{_-_}
-use Rattle.lines.proofs.DigitLaws.{Filled, fill-none, fill-more, fill-all}
+use Rattle.lines.proofs.FillLaws.{Filled, fill-none, fill-more, fill-all}
 use Rattle.lines.proofs.fill_digits.Statement.{statement}
 use Rattle.lines.proofs.fill_digits.Tie as tie
 

@@ -45,7 +45,7 @@ use denote.Triple.Table.{entered, cited}
 use denote.Triple.Walked.{says, needs, Stays, stay-dropped, gave-slice, walkOf, Walks, ends-at, walked, goes-dropped, goes-gave-slice, walk-meets}
 use Rattle.walks.proofs.Walk.{frees-all}
 use Rattle.walks.proofs.Last.{returned-last}
-use Rattle.lines.specs.Inner.Front.{Tabled}
+use Rattle.lines.specs.Inner.Tables.{Tabled}
 use Rattle.reader.specs.Inner.Reading.{LineRead}
 use Rattle.reader.specs.declared.Reader.{Reader}
 use Rattle.reader.specs.declared.Line.{Line}

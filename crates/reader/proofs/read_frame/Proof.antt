@@ -51,9 +51,9 @@ use denote.Triple.Walked.{says, needs, Stays, stay-dropped, gave-slice, walkOf, 
 use Rattle.walks.proofs.Walk.{returned, frees-all}
 use Rattle.walks.proofs.Last.{returned-last}
 use Rattle.lines.specs.declared.Cursor.{Cursor}
-use Rattle.lines.specs.Inner.Front.{Tabled}
+use Rattle.lines.specs.Inner.Tables.{Tabled}
 use Rattle.lines.specs.Inner.Cursors.{following}
-use Rattle.lines.specs.declared.Frame.{Frame}
+use Rattle.reader.specs.declared.Frame.{Frame}
 use Rattle.lines.proofs.LineLaws.{line-within}
 use Rattle.lines.proofs.Cursor as K
 use Rattle.lines.proofs.Cursor.Laws as K′

@@ -3,11 +3,11 @@ use mathlib.Core.Path.{_≡_}
 use Prim.Native.Nat.{ℕ, _+_, _-_, _≤_, _<_}
 use mathlib.Core.List.{List}
 use lib.ListN.{length, take, drop}
-use Rattle.lines.specs.Inner.Decoding.{Decoded}
+use Rattle.reader.specs.Inner.Decoding.{Decoded}
 use Rattle.lines.specs.Lines.{toEnd}
 use Rattle.lines.specs.Inner.Cursors.{following}
 use Rattle.lines.specs.declared.Cursor.{Cursor}
-use Rattle.lines.specs.declared.Frame.the-variants.{Malformed}
+use Rattle.reader.specs.declared.Frame.the-variants.{Malformed}
 use Rattle.reader.specs.declared.Line.{Line}
 use Rattle.reader.specs.declared.Read.{Read}
 

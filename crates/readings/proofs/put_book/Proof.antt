@@ -1,15 +1,15 @@
--- `answers::put_book` meets its contract: the parts of the line, one behind the other. Assumes nothing.
+-- `readings::put_book` meets its contract: the parts of the line, one behind the other. Assumes nothing.
 use mathlib.Core.Path.{refl, _∙_}
 use native.Mathlib.Omega.{arith}
 use Prim.Native.Nat.{_+_, _≤_}
 use lib.ListN.{length, length-set}
 use Rattle.frames.specs.Book.{contentsOf}
 use Rattle.answers.specs.Answers.{hex, count}
 use Rattle.answers.proofs.WrittenLaws.{written-more, room-behind}
 use Rattle.answers.proofs.ReadingLaws.{book-written}
 use borrow.Author.Needs.{needs}
-use Rattle.answers.proofs.put_book.Statement.{statement}
-use Rattle.answers.proofs.put_book.Tie as tie
+use Rattle.readings.proofs.put_book.Statement.{statement}
+use Rattle.readings.proofs.put_book.Tie as tie
 
 -- The places that the answers name, each from a later one: the facts are counted, the start, then the sizes, the edges, the rules and
 -- the facts are written.
@@ -32,7 +32,7 @@ abbrev after-facts : tie.After-put-line-arg2 → tie.After-put-count3
 after-facts c = c .before .before .before .before
 
 -- The sizes and the counts are 25 characters: there is room for the four behind them.
-counted-room : (c : tie.After-put-count3) → c .put-count3 .result + 4 ≤ length (c .put-count3 .last .1 .0)
+counted-room : (c : tie.After-put-count3) → c .put-count3 .result + 4 ≤ length (c .put-count3 .last .1 .1 .0)
 unfolding hex count
 counted-room c =
     let at-rules = after-rules c in
@@ -40,7 +40,7 @@ counted-room c =
     let at-sizes = after-sizes at-edges in
     let edged = written-more (at-sizes .put-bytes .ensures) (at-edges .put-count .ensures) in
     let counted = written-more (written-more edged (at-rules .put-count2 .ensures)) (c .put-count3 .ensures) in
-    room-behind 25 4 counted refl (omega (arith, start at-sizes .pre))
+    room-behind 25 4 counted refl (omega (arith, start at-sizes .pre .1))
 
 edge-count-requires : tie.Need-edge-count-requires
 edge-count-requires c κs = search needs
@@ -57,8 +57,9 @@ put-bytes-requires c κs = search needs
 put-count-requires : tie.Need-put-count-requires
 unfolding hex
 put-count-requires c κs =
-    let sized = c .before .before .before .put-bytes .ensures in
-    room-behind 10 5 sized refl (omega (arith, start (c .before .before .before) .pre))
+    let at-sizes = c .before .before .before in
+    let at-start = start at-sizes in
+    (at-start .pre .0, room-behind 10 5 (at-sizes .put-bytes .ensures) refl (omega (arith, at-start .pre .1)))
 
 put-count-requires-2 : tie.Need-put-count-requires-2
 unfolding hex count
@@ -66,7 +67,7 @@ put-count-requires-2 c κs =
     let at-sizes = after-sizes (c .before .before .before) in
     let sized = at-sizes .put-bytes .ensures in
     let edged = written-more sized (c .before .before .before .put-count .ensures) in
-    room-behind 15 5 edged refl (omega (arith, start at-sizes .pre))
+    (start at-sizes .pre .0, room-behind 15 5 edged refl (omega (arith, start at-sizes .pre .1)))
 
 put-count-requires-3 : tie.Need-put-count-requires-3
 unfolding hex count
@@ -76,7 +77,7 @@ put-count-requires-3 c κs =
     let sized = at-sizes .put-bytes .ensures in
     let edged = written-more sized (at-edges .put-count .ensures) in
     let ruled = written-more edged (c .before .before .before .put-count2 .ensures) in
-    room-behind 20 5 ruled refl (omega (arith, start at-sizes .pre))
+    (start at-sizes .pre .0, room-behind 20 5 ruled refl (omega (arith, start at-sizes .pre .1)))
 
 slice-write-text : tie.Need-slice-write-text
 slice-write-text c = omega (arith, counted-room (c .before .before))
@@ -88,7 +89,10 @@ slice-aggregate-put-line : tie.Need-slice-aggregate-put-line
 slice-aggregate-put-line c = search needs
 
 put-line-requires : tie.Need-put-line-requires
-put-line-requires c κs = simp length-set (omega (arith, counted-room (after-facts c)))
+put-line-requires c κs =
+    let at-facts = after-facts c in
+    let at-sizes = after-sizes (after-edges (after-rules at-facts)) in
+    (start at-sizes .pre .0, simp length-set (omega (arith, counted-room at-facts)))
 
 same-length : tie.Need-same-length
 same-length c =
@@ -100,7 +104,7 @@ same-length c =
     let ruled = at-rules .put-count2 .ensures in
     let counted = at-facts .put-count3 .ensures in
     let whole = written-more (written-more (written-more sized edged) ruled) counted in
-    c .before .before .put-line .ensures .size ∙ length-set (at-facts .put-count3 .last .1 .0) _ 32 ∙ whole .size
+    c .before .before .put-line .ensures .size ∙ length-set (at-facts .put-count3 .last .1 .1 .0) _ 32 ∙ whole .size
 
 returns : tie.Need-returns
 unfolding contentsOf

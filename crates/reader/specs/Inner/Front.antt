@@ -1,18 +1,11 @@
 -- What the contracts of reading a line in one pass say. No promise of the paper needs these: they say how far the code has come.
-use Prim.Native.Nat.{ℕ, _*_, _≤_, _<_}
+use Prim.Native.Nat.{ℕ, _*_, _≤_}
 use mathlib.Core.Path.{_≡_}
-use mathlib.Core.Bool.{Bool, _&&_}
 use mathlib.Core.List.{List, _++_}
-use lib.ListN.{length, take, drop, getD}
-use lib.Dec.{eqb, ltb}
-use Rattle.lines.specs.Digits.{digit, isDigit, frameOf}
+use lib.ListN.{length, take, drop}
 use Rattle.quantifiers.specs.Quantifiers.{all}
+use Rattle.lines.specs.Digits.{isDigit, frameOf}
 use Rattle.lines.specs.Lines.{toEnd}
-
--- A table of the values of all 256 characters: entry c is the value of character c.
-pub record Tabled (table : List ℕ) : Type 0 where
-  pub size : length table ≡ 256
-  pub entry : (c : ℕ) → c < 256 → getD table c 0 ≡ digit c
 
 -- The characters before the first 0A.
 abbrev pub firstLine : List ℕ → List ℕ
@@ -26,7 +19,3 @@ pub record Begun (x before : List ℕ) (k : ℕ) (now : List ℕ) : Type 0 where
   pub size : length now ≡ length before
   pub left : take k now ++ frameOf (drop (2 * k) x) ≡ frameOf x
   pub judged : all isDigit x ≡ all isDigit (drop (2 * k) x)
-
--- Whether 0A stands at place n, behind a character at least: an empty line is no frame.
-unfoldable pub isEnd : List ℕ → ℕ → Bool
-isEnd x n = ltb 0 n && (ltb n (length x) && eqb (getD x n 0) 10)

@@ -1,14 +1,14 @@
--- `answers::size_of` meets its contract. The invariant: n is how many numbers below v are members, at most v. The measure is
+-- `readings::size_of` meets its contract. The invariant: n is how many numbers below v are members, at most v. The measure is
 -- what is left of the numbers below w. Assumes nothing.
 use mathlib.Core.Path.{_≡_, refl, ap, sym, _∙_}
 use mathlib.Core.Logic.{⊎-elim}
 use Prim.Native.Nat.{_≤_, _-_}
 use native.Mathlib.Omega.{arith}
 use Rattle.answers.specs.Answers.{size}
 use borrow.Author.Needs.{needs}
 use Rattle.answers.proofs.AnswerLaws.{size-in, size-out}
-use Rattle.answers.proofs.size_of.Statement.{statement}
-use Rattle.answers.proofs.size_of.Tie as tie
+use Rattle.readings.proofs.size_of.Statement.{statement}
+use Rattle.readings.proofs.size_of.Tie as tie
 
 abbrev Inv-loop : tie.InvT-loop
 Inv-loop x w n₀ v₀ n v = (v ≤ w) × ((n ≡ size x v) × (n ≤ v))

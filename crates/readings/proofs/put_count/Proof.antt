@@ -1,11 +1,11 @@
--- `answers::put_count` meets its contract: a blank, and behind it the two bytes of n. Assumes nothing.
+-- `readings::put_count` meets its contract: a blank, and behind it the two bytes of n. Assumes nothing.
 use mathlib.Core.Path.{_∙_}
 use native.Mathlib.Omega.{arith}
 use lib.ListN.{length-set}
 use Rattle.answers.proofs.WrittenLaws.{count-written}
 use borrow.Author.Needs.{needs}
-use Rattle.answers.proofs.put_count.Statement.{statement}
-use Rattle.answers.proofs.put_count.Tie as tie
+use Rattle.readings.proofs.put_count.Statement.{statement}
+use Rattle.readings.proofs.put_count.Tie as tie
 
 -- The places that the answers name, each seen from a later one.
 abbrev entry : tie.After-put-bytes-arg2 → tie.Start
@@ -32,7 +32,7 @@ slice-aggregate-put-bytes c = search needs
 put-bytes-requires : tie.Need-put-bytes-requires
 put-bytes-requires c κs =
     let start = entry c in
-    omega (arith, length-set (start .args .text .now) (start .args .at) 32, start .pre)
+    (start .pre .0, omega (arith, length-set (start .args .text .now) (start .args .at) 32, start .pre .1))
 
 same-length : tie.Need-same-length
 same-length c =
@@ -43,7 +43,7 @@ returns : tie.Need-returns
 returns c =
     let at-low-byte = after-low-byte (c .before .before .before) in
     let start = entry (c .before .before .before) in
-    count-written (start .args .text .now) (start .args .at) (start .args .n) (omega (arith, start .pre))
+    count-written (start .args .text .now) (start .args .at) (start .args .n) (omega (arith, start .pre .1))
     (at-low-byte .before .high-byte .ensures) (at-low-byte .low-byte .ensures) (c .before .before .put-bytes .ensures)
 
 pub put-count-spec : {M : Type 1} → statement M

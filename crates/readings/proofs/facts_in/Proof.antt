@@ -1,14 +1,14 @@
--- `answers::facts_in` meets its contract. The invariant: n and what the bytes from i on have are the whole. The measure is the bytes left.
+-- `readings::facts_in` meets its contract. The invariant: n and what the bytes from i on have are the whole. The measure is the bytes left.
 -- Assumes nothing.
 use mathlib.Core.Path.{_≡_}
 use Prim.Native.Nat.{_+_, _*_, _≤_, _-_}
 use native.Mathlib.Omega.{arith}
 use lib.ListN.{drop, length}
 use Rattle.answers.specs.Answers.{total}
 use borrow.Author.Needs.{needs}
 use Rattle.answers.proofs.AnswerLaws.{total-step, total-end}
-use Rattle.answers.proofs.facts_in.Statement.{statement}
-use Rattle.answers.proofs.facts_in.Tie as tie
+use Rattle.readings.proofs.facts_in.Statement.{statement}
+use Rattle.readings.proofs.facts_in.Tie as tie
 
 abbrev Inv-loop : tie.InvT-loop
 Inv-loop ledger n₀ i₀ n i = (i ≤ 1792) × ((n ≤ 8 * i) × (total 8 ledger ≡ n + total 8 (drop i ledger)))

@@ -4,9 +4,9 @@ use mathlib.Core.Path.{_≡_}
 use mathlib.Core.Bool.{true, false}
 use mathlib.Core.List.{List}
 use lib.ListN.{length, take}
-use Rattle.lines.specs.declared.Frame.{Frame}
-use Rattle.lines.specs.declared.Frame.the-variants.{Malformed, Bytes, Long}
+use Rattle.reader.specs.declared.Frame.{Frame}
+use Rattle.reader.specs.declared.Frame.the-variants.{Malformed, Bytes, Long}
 use Rattle.lines.specs.Digits.{malformed, frameOf}
 
 -- The line's frame of n bytes stands in the buffer's front.
 pub record InFront (x : List ℕ) (n : ℕ) (buffer : List ℕ) : Type 0 where

@@ -1,14 +1,14 @@
--- `answers::edge_count` meets its contract. The invariant: n and what the sets from i on have are the whole. The measure is the sets left.
+-- `readings::edge_count` meets its contract. The invariant: n and what the sets from i on have are the whole. The measure is the sets left.
 -- Assumes nothing.
 use mathlib.Core.Path.{_≡_}
 use Prim.Native.Nat.{_+_, _*_, _≤_, _-_}
 use native.Mathlib.Omega.{arith}
 use lib.ListN.{length, drop}
 use Rattle.answers.specs.Answers.{total}
 use borrow.Author.Needs.{needs}
 use Rattle.answers.proofs.AnswerLaws.{total-step, total-end}
-use Rattle.answers.proofs.edge_count.Statement.{statement}
-use Rattle.answers.proofs.edge_count.Tie as tie
+use Rattle.readings.proofs.edge_count.Statement.{statement}
+use Rattle.readings.proofs.edge_count.Tie as tie
 
 abbrev Inv-loop : tie.InvT-loop
 Inv-loop juniors n₀ i₀ n i = (i ≤ 32) × ((n ≤ 32 * i) × (total 32 juniors ≡ n + total 32 (drop i juniors)))

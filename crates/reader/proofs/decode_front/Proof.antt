@@ -1,12 +1,12 @@
--- `lines::decode_front` meets its contract. The invariant `Begun` says that k bytes of the first line are written; two digits more
+-- `reader::decode_front` meets its contract. The invariant `Begun` says that k bytes of the first line are written; two digits more
 -- are a byte more (`front-more`). The measure is how many of the most that are looked at are left. Assumes nothing.
 use native.Mathlib.Omega.{arith}
 use borrow.Author.Needs.{needs}
 use Prim.Native.Nat.{_-_}
-use Rattle.lines.specs.Inner.Front.{firstLine, Begun}
-use Rattle.lines.proofs.FrameLaws.{begun-none, front-more}
-use Rattle.lines.proofs.decode_front.Statement.{statement}
-use Rattle.lines.proofs.decode_front.Tie as tie
+use Rattle.reader.specs.Inner.Front.{firstLine, Begun}
+use Rattle.reader.proofs.DecodingLaws.{begun-none, front-more}
+use Rattle.reader.proofs.decode_front.Statement.{statement}
+use Rattle.reader.proofs.decode_front.Tie as tie
 
 abbrev Inv-loop : tie.InvT-loop
 Inv-loop x digits frame₀ most k₀ frame k = Begun (firstLine x) frame₀ k frame

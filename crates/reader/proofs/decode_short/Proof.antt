@@ -1,14 +1,14 @@
--- `lines::decode_short` meets its contract. The invariant `Decoding` says that k bytes of the frame are written and that the characters
+-- `reader::decode_short` meets its contract. The invariant `Decoding` says that k bytes of the frame are written and that the characters
 -- from 2 × k on decide the rest; the measure is what is left of the line. Assumes nothing.
 use mathlib.Core.Path.{refl, sym}
 use Prim.Native.Nat.{_-_}
 use native.Mathlib.Omega.{arith}
 use lib.ListN.{length}
 use Rattle.lines.proofs.DigitLaws.{malformed-empty, malformed-odd}
-use Rattle.lines.proofs.FrameLaws.{Decoding, decode-none, decode-high, decode-low, decode-more, decode-all}
+use Rattle.reader.proofs.DecodingLaws.{Decoding, decode-none, decode-high, decode-low, decode-more, decode-all}
 use borrow.Author.Needs.{needs}
-use Rattle.lines.proofs.decode_short.Statement.{statement}
-use Rattle.lines.proofs.decode_short.Tie as tie
+use Rattle.reader.proofs.decode_short.Statement.{statement}
+use Rattle.reader.proofs.decode_short.Tie as tie
 
 abbrev Inv-loop : tie.InvT-loop
 Inv-loop x frame₀ k₀ frame k = Decoding x frame₀ k frame

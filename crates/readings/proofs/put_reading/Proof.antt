@@ -1,18 +1,24 @@
--- `answers::put_reading` meets its contract: one case for each outcome of reading. Assumes nothing.
+-- `readings::put_reading` meets its contract: one case for each outcome of reading. Assumes nothing.
 use Rattle.answers.proofs.ReadingLaws.{refused-answered, accepted-answered}
 use borrow.Author.Needs.{needs}
-use Rattle.answers.proofs.put_reading.Statement.{statement}
-use Rattle.answers.proofs.put_reading.Tie as tie
+use Rattle.readings.proofs.put_reading.Statement.{statement}
+use Rattle.readings.proofs.put_reading.Tie as tie
 
 -- The places that the answers name, each seen from a later one.
 abbrev start : tie.After-outcome → tie.Start
-start c = c .before .before .before
+start c = c .before .before .before .before .before
 
 abbrev accepted-arm : tie.After-text2 → tie.After-enum-told
-accepted-arm c = c .before .before .before .before
+accepted-arm c = c .before .before .before .before .before
+
+abbrev accepted-start : tie.After-enum-told → tie.Start
+accepted-start c = c .before .before .before .before .before
 
 abbrev after-refusal-line : tie.After-text → tie.After-refusal-line
-after-refusal-line c = c .before .before .before
+after-refusal-line c = c .before .before .before .before
+
+fill-characters-requires : tie.Need-fill-characters-requires
+fill-characters-requires c κs = search needs
 
 enum-known-outcome : tie.Need-enum-known-outcome
 enum-known-outcome c = search needs
@@ -49,13 +55,14 @@ same-length-2 c = search needs
 returns-2 : tie.Need-returns-2
 returns-2 c =
     let arm = accepted-arm (c .before) in
-    accepted-answered (arm .before .before .before .args .r) (arm .enum-told .given .1)
+    accepted-answered (accepted-start arm .args .r) (arm .enum-told .given .1)
     (c .before .before .put-book .ensures)
 
 pub put-reading-spec : {M : Type 1} → statement M
 put-reading-spec =
     tie.close
     (tie.spec
+    fill-characters-requires
     enum-known-outcome
     refusal-number-requires
     refusal-line-requires

@@ -1,4 +1,4 @@
--- `lines::decode_long` meets its contract: an odd line and one with another character are malformed; of any other the first 128
+-- `reader::decode_long` meets its contract: an odd line and one with another character are malformed; of any other the first 128
 -- digits are decoded, which are the first 64 bytes of its frame (`long-written`). Assumes nothing.
 use mathlib.Core.Path.{refl, ap, sym, _∙_}
 use mathlib.Core.Bool.{not}
@@ -6,10 +6,10 @@ use native.Mathlib.Omega.{arith}
 use lib.Seq.{length-take-le}
 use borrow.Author.Tests.{not-true, not-false}
 use borrow.Author.Needs.{needs}
 use Rattle.lines.proofs.DigitLaws.{malformed-odd, malformed-even}
-use Rattle.lines.proofs.FrameLaws.{long-written}
-use Rattle.lines.proofs.decode_long.Statement.{statement}
-use Rattle.lines.proofs.decode_long.Tie as tie
+use Rattle.reader.proofs.DecodingLaws.{long-written}
+use Rattle.reader.proofs.decode_long.Statement.{statement}
+use Rattle.reader.proofs.decode_long.Tie as tie
 
 -- The start, seen from the test of the digits.
 abbrev entry : tie.After-are-digits → tie.Start
