@@ -1,5 +1,5 @@
 //! docs/BOOK.md, the page for who writes a book: each book, each changed line and each call that stands there is run,
-//! and the answer beside it is the one that is given.
+//! and the answer beside it is the one that is given; each digit of its table has the value beside it.
 
 use std::collections::BTreeSet;
 use std::fs;
@@ -11,6 +11,7 @@ use bixorgun::{Judgement, Person, Refusal, LEDGER_SIZE, REQUEST_SIZE, VIEW_SIZE}
 mod printed;
 use printed::printed;
 
+const DIGITS: &str = "| Value | Encoding | Value | Encoding | Value | Encoding | Value | Encoding |";
 const VARIANTS: &str = "| Line | becomes | Answer | Says |";
 const REFUSALS: &str = "| No. | Line | becomes | Answer | What is wrong, and what to do |";
 const EXPLAINED: &str = "| Line | Its bytes | They say |";
@@ -257,6 +258,25 @@ fn each_changed_line_has_its_answer() {
     assert!(variants.len() >= 5, "{} variants", variants.len());
     let refused = refused_lines(&page);
     assert!(refused.len() >= 26, "{} refused lines", refused.len());
+}
+
+/// The table of digits has the sixteen values, and each digit is read with its value: as the last digit of the query's
+/// roles it is the set of those roles that may use their rules.
+#[test]
+fn each_digit_has_its_value() {
+    let page = page();
+    let rows = rows(&page, DIGITS);
+    let pairs = rows.iter().flat_map(|row| row.chunks(2));
+    let mut digits: Vec<(usize, &str)> = pairs.map(|pair| (number(pair[0]), codes(pair[1])[0])).collect();
+    digits.sort_unstable();
+    assert!(digits.iter().map(|&(value, _)| value).eq(0..16));
+    for (value, digit) in digits {
+        for role in 0..4 {
+            let book = format!("0101000101\n03010{role}000000\n050100000{digit}01000001\n");
+            let way = if value >> role & 1 == 1 { format!("810001\n010{role}000000\n") } else { "80\n".to_owned() };
+            assert_eq!(printed(book.as_bytes()), way, "digit {digit}, role {role}");
+        }
+    }
 }
 
 /// What editors do to a text without being asked is on the page, each time as refusal 2.

@@ -87,7 +87,7 @@ fn c_says_the_same_of_each_stored_book() {
         fs::read_dir(&data).expect("the stored books").map(|entry| entry.expect("a name").path()).collect();
     books.retain(|path| path.extension().is_some_and(|end| end == "book"));
     books.sort();
-    assert!(books.len() >= 58, "{} books", books.len());
+    assert!(books.len() >= 59, "{} books", books.len());
     for path in books {
         let book = fs::read_to_string(&path).expect("a stored book");
         let ran = Command::new(program()).arg(&path).output().expect("the example runs");

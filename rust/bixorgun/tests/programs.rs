@@ -70,7 +70,7 @@ fn compare(name: &str, book: &[u8]) {
 #[test]
 fn plan_prints_what_the_library_answers_to_each_stored_book() {
     let books = stored();
-    assert!(books.len() >= 330, "{} books", books.len());
+    assert!(books.len() >= 343, "{} books", books.len());
     for (name, book) in &books {
         compare(name, book);
     }
