@@ -230,30 +230,27 @@ fn values_of_digits_in_the_roles() {
     }
 }
 
-/// Every value may be added and none deleted, so the plan adds those of the set that mode 02 wants, and no others.
-#[test]
-fn values_of_digits_in_a_set() {
-    let rules: String = (0..16).map(|v| format!("03010000{}00\n", two(v))).collect();
-    for (wanted, set) in (0..=255).flat_map(|byte| sets(2, byte)) {
-        let text = format!("0101000110\n{rules}05020000010100{wanted}00000000\n");
-        let mut plan = planned(&text).expect("a way");
+/// In these books each member of a set may be added and none deleted, so the plan adds those of the set that mode 02
+/// wants, and no others.
+fn adds_what_is_wanted(bytes: u32, book: impl Fn(&str) -> String, request: impl Fn(u8) -> [u8; REQUEST_SIZE]) {
+    for (wanted, set) in (0..=255).flat_map(|byte| sets(bytes, byte)) {
+        let mut plan = planned(&book(&wanted)).expect("a way");
         plan.sort_unstable();
-        let members = (0..16).filter(|v| set >> v & 1 == 1);
-        assert!(members.map(|v| [1, 0, 0, 0, v]).eq(plan), "set {wanted}");
+        let members = (0..32).filter(|member| set >> member & 1 == 1);
+        assert!(members.map(&request).eq(plan), "{wanted} is wanted");
     }
 }
 
-/// The same of the crews that mode 02 wants.
+#[test]
+fn values_of_digits_in_a_set() {
+    let rules: String = (0..16).map(|v| format!("03010000{}00\n", two(v))).collect();
+    adds_what_is_wanted(2, |set| format!("0101000110\n{rules}05020000010100{set}00000000\n"), |v| [1, 0, 0, 0, v]);
+}
+
 #[test]
 fn values_of_digits_in_the_crews() {
     let rules: String = (0..32).map(|c| format!("030500{}0000\n", two(c))).collect();
-    for (wanted, set) in (0..=255).flat_map(|byte| sets(4, byte)) {
-        let text = format!("0101200101\n{rules}050200000100{wanted}\n");
-        let mut plan = planned(&text).expect("a way");
-        plan.sort_unstable();
-        let members = (0..32).filter(|c| set >> c & 1 == 1);
-        assert!(members.map(|c| [5, 0, 0, c, 0]).eq(plan), "crews {wanted}");
-    }
+    adds_what_is_wanted(4, |crews| format!("0101200101\n{rules}050200000100{crews}\n"), |c| [5, 0, 0, c, 0]);
 }
 
 /// Fields of one byte: each takes the values of its range, and 5 falls on all others.

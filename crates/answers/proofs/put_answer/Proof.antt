@@ -20,14 +20,14 @@ refused-arm c = c .before .before
 abbrev no-way-arm : tie.After-text → tie.After-enum-told
 no-way-arm c = c .before .before .before .before .before
 
+abbrev after-low-byte : tie.After-put-line2 → tie.After-low-byte
+after-low-byte c = c .before .before .before .before
+
 abbrev plan-arm : tie.After-slice-known3 → tie.After-answer
-plan-arm c = c .before .before .before .before .before .before .before .before .before
+plan-arm c = after-low-byte (c .before .before) .before .before .before
 
 abbrev after-refusal-line : tie.After-text4 → tie.After-refusal-line
 after-refusal-line c = c .before .before .before .before
-
-abbrev after-low-byte : tie.After-put-line2 → tie.After-low-byte
-after-low-byte c = c .before .before .before .before
 
 abbrev after-put-line2 : tie.After-put-requests-arg2 → tie.After-put-line2
 after-put-line2 c = c .before .before .before .before .before
