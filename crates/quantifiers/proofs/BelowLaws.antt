@@ -1,14 +1,14 @@
--- Tests over the numbers below a bound: some one passes, all pass, how many do.
+-- Tests over the numbers below a bound: some one passes, all pass, how many do; and sums over them.
 use mathlib.Core.Path.{_≡_, refl, ap, sym, _∙_}
 use mathlib.Core.Logic.{dite, ⊎-elim}
 use mathlib.Core.Bool.{Bool, true, false, _&&_, _||_, or-true, false≢true}
-use Prim.Native.Nat.{ℕ, zero, suc, _+_, _≤_, _<_}
+use Prim.Native.Nat.{ℕ, zero, suc, _+_, _*_, _≤_, _<_}
 use native.Mathlib.Decide.{ℕ-discrete, decLt}
 use native.Mathlib.Numerals.{add-one}
 use native.Mathlib.Omega.{arith}
 use lib.Dec.{leb}
 use borrow.Author.Tests.{leb-true, le-leb}
-use Rattle.quantifiers.specs.Quantifiers.{allBelow, anyBelow, anyFrom, oneIf, countBelow}
+use Rattle.quantifiers.specs.Quantifiers.{allBelow, anyBelow, anyFrom, oneIf, countBelow, sumBelow}
 use Rattle.quantifiers.proofs.BoolLaws.{and-both, and-from, and-or, or-cases, or-swap, not-on, bool-eq, by-test}
 
 -- ---------------------------------------------------------------- some number below n
@@ -268,3 +268,21 @@ pub count-four : (p q r s : ℕ → Bool) (n : ℕ) → ((i : ℕ) → oneIf (p 
 unfolding countBelow
 count-four p q r s zero h = omega arith
 count-four p q r s (suc n) h = omega (arith, count-four p q r s n h, h n)
+
+-- ---------------------------------------------------------------- the sum below n
+
+-- No number is below 0.
+pub sum-none : (f : ℕ → ℕ) → 0 ≡ sumBelow f 0
+unfolding sumBelow
+sum-none f = refl
+
+-- One number more.
+pub sum-more : (f : ℕ → ℕ) (j s t : ℕ) → s ≡ sumBelow f j → t ≡ f j → s + t ≡ sumBelow f (j + 1)
+unfolding sumBelow
+sum-more f j s t e g = rw (add-one, e, g) refl
+
+-- Where each is at most m, the sum is at most m times as many.
+pub sum-most : (f : ℕ → ℕ) (m n : ℕ) → ((i : ℕ) → i < n → f i ≤ m) → sumBelow f n ≤ n * m
+unfolding sumBelow
+sum-most f m zero h = omega arith
+sum-most f m (suc n) h = omega (arith, h n (omega arith), sum-most f m n (λ i l. h i (omega arith)))

@@ -1,4 +1,4 @@
--- All or some one, of a list and of the numbers below a bound; the first of a list; how many numbers below a bound.
+-- All or some one, of a list and of the numbers below a bound; the first of a list; how many numbers below a bound; sums.
 use Prim.Native.Nat.{ℕ, zero, suc, _+_}
 use mathlib.Core.Bool.{Bool, true, false, cond, _&&_, _||_}
 use mathlib.Core.List.{List, [], _∷_}
@@ -42,3 +42,8 @@ oneIf false = 0
 unfoldable pub countBelow : (ℕ → Bool) → ℕ → ℕ
 countBelow p zero = 0
 countBelow p (suc n) = countBelow p n + oneIf (p n)
+
+-- The sum of what the numbers below n give.
+unfoldable pub sumBelow : (ℕ → ℕ) → ℕ → ℕ
+sumBelow f zero = 0
+sumBelow f (suc n) = sumBelow f n + f n
