@@ -7,13 +7,13 @@ use Rattle.frames.specs.Book.{Contents, contentsOf, toldBy, refusalNumber, refu
 use Rattle.frames.specs.declared.Refusal.{Refusal}
 use Rattle.frames.specs.declared.Outcome.the-variants.{Accepted, Refused}
 use Rattle.frames.specs.declared.Reading.{Reading}
-use Rattle.answers.specs.Answers.{hex, hexLine, refusedBytes, total, count, bookLine, answerLine}
+use Rattle.answers.specs.Answers.{hex, hexLine, refusedBytes, total, count, sizesBytes, bookLine, answerLine}
 use Rattle.answers.specs.Inner.Written.{Written}
 use Rattle.answers.proofs.WrittenLaws.{written-char, written-as, written-more}
 
 -- The sizes, the three counts, a blank and q, one behind the other.
 pub book-written : (b : Contents) {before sized edged ruled counted after : List ℕ} {i j k l end edges facts : ℕ}
-    → Written before 0 (hex (1 ∷ b .sizes .persons ∷ b .sizes .crews ∷ b .sizes .attrs ∷ b .sizes .values ∷ [])) sized i
+    → Written before 0 (hex (sizesBytes (b .sizes))) sized i
     → edges ≡ total 32 (b .juniors) → Written sized i (count edges) edged j
     → Written edged j (count (b .count)) ruled k
     → facts ≡ total 8 (b .facts) → Written ruled k (count facts) counted l

@@ -4,6 +4,8 @@ use mathlib.Core.Bool.{cond}
 use mathlib.Core.List.{List, [], _∷_, _++_}
 use Rattle.lines.specs.Digits.{character}
 use Rattle.sets.specs.Sets.{member}
+use Rattle.sizes.specs.Sizes.{valuesOf}
+use Rattle.sizes.specs.declared.Sizes.{Sizes}
 use Rattle.frames.specs.Book.{Contents, Answer, refused, accepted, refusalNumber, refusalLine}
 use Rattle.frames.specs.declared.Refusal.{Refusal}
 use Rattle.replay.specs.Chains.{fives}
@@ -56,10 +58,16 @@ total w (x ∷ xs) = size x w + total w xs
 unfoldable pub count : ℕ → List ℕ
 count n = 32 ∷ hex (pair n)
 
+-- "01 P G A, then one count [..] for each attribute": of all eight, 0 for one that the book has not.
+abbrev pub sizesBytes : Sizes → List ℕ
+sizesBytes z =
+    1 ∷ z .persons ∷ z .crews ∷ z .attrs
+    ∷ valuesOf z 0 ∷ valuesOf z 1 ∷ valuesOf z 2 ∷ valuesOf z 3 ∷ valuesOf z 4 ∷ valuesOf z 5 ∷ valuesOf z 6 ∷ valuesOf z 7 ∷ []
+
 -- The line of an accepted book where it is only judged: 01 and the sizes; how many edges, rules and starting facts it has; q.
 unfoldable pub bookLine : Contents → List ℕ
 bookLine b =
-    hex (1 ∷ b .sizes .persons ∷ b .sizes .crews ∷ b .sizes .attrs ∷ b .sizes .values ∷ [])
+    hex (sizesBytes (b .sizes))
     ++ count (total 32 (b .juniors)) ++ count (b .count) ++ count (total 8 (b .facts))
     ++ 32 ∷ hexLine (b .query .q ∷ [])
 

@@ -8,7 +8,8 @@ use Rattle.sets.specs.Sets.{bit, member, put, within, subset, memberAt, putAt, 
 use Rattle.facts.specs.Facts.{fits, setAt, setWidth, memberOf, holds, putFact, noFacts}
 use Rattle.lines.specs.Digits.{digit, isDigit, malformed, frameOf, byteAt}
 use Rattle.lines.specs.Lines.{extend, lines}
-use Rattle.gate.specs.Gate.{valuesOf, pairAt, quadAt, misplaced, lengthOf, mislengthed, sizesVerdict, edgeVerdict, ruleGood, foreign, ruleVerdict, factVerdict}
+use Rattle.gate.specs.Gate.{pairAt, quadAt, misplaced, lengthOf, mislengthed, sizesVerdict, edgeVerdict, ruleGood, foreign, ruleVerdict, factVerdict}
+use Rattle.sizes.specs.Sizes.{valuesOf, sizesGood, countsOf, sizesOf}
 use Rattle.gate.specs.Gate.{queryGood, queryVerdict, fieldsVerdict, verdict, lineVerdict}
 use Rattle.quantifiers.specs.Quantifiers.{allBelow, anyBelow, all, any}
 use Rattle.frames.specs.Book.{termAt, termsOf, ruleOf, juniorsAfter, factOf, factsAfter, rulesAfter, wantAt, wantsOf, queryOf, queryAfter, knownAfter, nothing}
@@ -31,7 +32,7 @@ unfolding table d1 d2 d3 d4 d5 d6 d7 d8 d9 d10-senior d10-junior d11 d12 codes w
     test passesOn passes isReaches showsIn doneIn sameBytes among named namedBelow allNamed candidates join stepped spread reached stays closed unmet shut
     bit member put within subset memberAt putAt numberAt fits setAt setWidth memberOf holds putFact noFacts
     digit isDigit malformed frameOf byteAt extend lines
-    allBelow valuesOf pairAt quadAt misplaced lengthOf mislengthed sizesVerdict edgeVerdict
+    allBelow valuesOf sizesGood countsOf sizesOf pairAt quadAt misplaced lengthOf mislengthed sizesVerdict edgeVerdict
     ruleGood foreign ruleVerdict factVerdict queryGood queryVerdict fieldsVerdict verdict lineVerdict
     termAt termsOf ruleOf juniorsAfter factOf factsAfter rulesAfter wantAt wantsOf queryOf queryAfter knownAfter nothing enter walk bookOf
     isJunior anyBelow downWithin downward crewHolds personIn personHolds aimed requestOf fieldsGood wellFormed

@@ -10,7 +10,7 @@ use lib.ListN.{length}
 use borrow.Author.Tests.{eqb-true, eqb-false, ltb-true, ne-eqb, not-true}
 use Rattle.facts.specs.Facts.{ledgerSize, holds}
 use Rattle.quantifiers.proofs.BoolLaws.{and-both}
-use Rattle.gate.specs.Gate.{isPerson}
+use Rattle.sizes.specs.Sizes.{isPerson, factCount}
 use Rattle.frames.specs.declared.Refusal.{Refusal}
 use Rattle.frames.specs.Book.{Contents, Answer, refused, accepted, bookOf, refusalNumber, refusalLine}
 use Rattle.requests.specs.Requests.{requestOf, wellFormed}
@@ -23,7 +23,6 @@ use Rattle.ledger.specs.Ledger.{noPlace, atTerm, allowed, openIn, openReply, re
 use Rattle.ledger.specs.Show.{showIn, showView}
 use Rattle.replay.specs.Replay as replay
 use Rattle.replay.specs.Replay.{replayIn, replayed}
-use Rattle.planner.specs.Count.{factCount}
 use Rattle.planner.specs.Answer.{said, AnsweredFor}
 use Rattle.cases.specs.Text.{five}
 use Rattle.cases.specs.Refusals.{Trial, on-book, buffer-of, ledger-of, asked, asked-for, shown-to, list-of, RefusalRow, Refuses, Turned, refusing, PlanRefuses}

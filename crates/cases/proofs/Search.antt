@@ -15,8 +15,8 @@ use Rattle.sets.specs.Sets.{member}
 use Rattle.facts.specs.Facts.{holds}
 use Rattle.facts.specs.declared.Fact.the-variants.{Holds, CrewHolds, Member}
 use Rattle.quantifiers.proofs.BoolLaws.{and-both}
-use Rattle.gate.specs.declared.Sizes.{Sizes}
-use Rattle.gate.specs.Gate.{between, isPerson, isCrew, isValue, isCrewField}
+use Rattle.sizes.specs.declared.Sizes.{Sizes}
+use Rattle.sizes.specs.Sizes.{between, isPerson, isCrew, isValue, isCrewField}
 use Rattle.frames.specs.declared.Rule.{Rule}
 use Rattle.frames.specs.Book.{Contents}
 use Rattle.frames.specs.Inner.Fits.{inSizes}

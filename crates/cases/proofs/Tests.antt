@@ -10,7 +10,7 @@ use borrow.Author.Tests.{eqb-true, lt-ltb, not-true}
 use Rattle.facts.specs.Facts.{holds, noFacts}
 use Rattle.facts.proofs.FactLaws.{none-length}
 use Rattle.quantifiers.proofs.BoolLaws.{and-both}
-use Rattle.gate.specs.Gate.{isPerson}
+use Rattle.sizes.specs.Sizes.{isPerson}
 use Rattle.frames.specs.Book.{Contents, Answer, refused, accepted, bookOf}
 use Rattle.frames.specs.Inner.Fits.{Admitted}
 use Rattle.quantifiers.specs.Inner.Lists.{Each}

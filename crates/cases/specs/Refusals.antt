@@ -1,5 +1,5 @@
--- The table of refusals, with the paper's number, line and example of each. Paper 01, "Turned back at the gate"; 15 by paper 02. What a
--- row means is said by the product's own definitions on the book's characters; no number is taken from them.
+-- The table of refusals, with the paper's number, line and example of each. Paper 01, "Turned back at the gate"; 15, and each attribute's
+-- own range, by paper 02. What a row means is said by the product's own definitions on the book's characters; no number is taken from them.
 use mathlib.Core.Path.{_≡_}
 use mathlib.Core.List.{List, [], _∷_, _++_}
 use Prim.Native.Nat.{ℕ}
@@ -117,6 +117,14 @@ goodBook = written (goodFirst ∷ goodRule ∷ goodLast ∷ [])
 abbrev pub unmetBook : List ℕ
 unmetBook = written (goodFirst ∷ goodRule ∷ goodRule ∷ "030101000102010000010001" ∷ "030101000101010001" ∷ "0401000000" ∷ goodLast ∷ [])
 
+-- A first line of two attributes, the one of 2 values, the other of 3: value 2 is one of the second attribute's alone.
+abbrev pub ownRanges : String
+ownRanges = "010101020203"
+
+-- A book that is good but for the line below such a first line.
+abbrev pub belowOwn : String → List ℕ
+belowOwn x = written (ownRanges ∷ x ∷ goodLast ∷ [])
+
 -- "Each returns its number, and 1-9 a line (1 for refusal 1: line 0)". Above each row its "when", then its example; where the "when" has
 -- several cases, one more example for each.
 unfoldable pub refusals : List RefusalRow
@@ -137,11 +145,23 @@ refusals =
     ∷ refusalRow 3 2 (written (goodFirst ∷ [])) on-book
     -- "any length but the one that the kind, with its n or q, gives": `0200`
     ∷ refusalRow 4 2 (belowFirst "0200") on-book
+    -- Paper 02, "Refusal 4 judges frame 01 by its A": one count for two attributes, nine attributes of which one count is missing
+    ∷ refusalRow 4 1 (written ("0101010202" ∷ goodLast ∷ [])) on-book
+    ∷ refusalRow 4 1 (written ("010101090202020202020202" ∷ goodLast ∷ [])) on-book
     -- "a field outside its range, n over 8, q over 8, a set bit outside the sizes": `0100010102`
     ∷ refusalRow 5 1 (written ("0100010102" ∷ goodLast ∷ [])) on-book
     ∷ refusalRow 5 2 (belowFirst "030100000009010000010000010000010000010000010000010000010000010000") on-book
     ∷ refusalRow 5 2 (written (goodFirst ∷ "050100FFFF09000001000001000001000001000001000001000001000001000001" ∷ [])) on-book
     ∷ refusalRow 5 2 (written (goodFirst ∷ "050100FFFF01000004" ∷ [])) on-book
+    -- Paper 02, "one count of 1-16 for each attribute": no attribute, nine of them, a count of 17
+    ∷ refusalRow 5 1 (written ("01010100" ∷ goodLast ∷ [])) on-book
+    ∷ refusalRow 5 1 (written ("01010109020202020202020202" ∷ goodLast ∷ [])) on-book
+    ∷ refusalRow 5 1 (written ("010101020211" ∷ goodLast ∷ [])) on-book
+    -- Paper 02, "All value fields, query sets [..] are bounded by their own attribute's count": a rule, a term, a fact, a set
+    ∷ refusalRow 5 2 (belowOwn "030100000200") on-book
+    ∷ refusalRow 5 2 (belowOwn "030100010201010002") on-book
+    ∷ refusalRow 5 2 (belowOwn "0401000002") on-book
+    ∷ refusalRow 5 2 (written (ownRanges ∷ "050100FFFF01000004" ∷ [])) on-book
     -- "j not smaller than s": `020000`, "G at least 1"
     ∷ refusalRow 6 2 (belowFirst "020000") on-book
     -- "term 03 or 04 in ops 01-04": `030100000001030000`, "G at least 1"
@@ -153,11 +173,14 @@ refusals =
     ∷ refusalRow 9 2 (written (goodFirst ∷ "050100FFFF02000001000001" ∷ [])) on-book
     -- "plan buffer under 10 × F": "39 bytes at F = 4"
     ∷ refusalRow 10 0 (written ("0101000104" ∷ goodLast ∷ [])) (buffer-of 39)
+    -- Paper 02, "F becomes (1 + G) × the sum of the counts, plus G": 2 × (2 + 3) + 1
+    ∷ refusalRow 10 0 (belowOwn goodRule) (buffer-of 109)
     -- "ledger not 1,792 bytes or a bit outside the sizes": "1,791 bytes"
     ∷ refusalRow 11 0 goodBook (ledger-of 1791)
     -- "request not five bytes or field out of range": "op `07`"
     ∷ refusalRow 12 0 goodBook (asked "0700000000")
     ∷ refusalRow 12 0 goodBook (asked "01000000")
+    ∷ refusalRow 12 0 (belowOwn goodRule) (asked "0100000002")
     -- "no such person to show": person 1
     ∷ refusalRow 12 0 goodBook (shown-to 1)
     -- "not permitted": "a role without rules"

@@ -26,6 +26,7 @@ use Rattle.gate.specs.declared.Fault.the-variants.{Malformed, Misplaced}
 use Rattle.gate.specs.declared.Verdict.the-variants.{Good, Bad}
 use Rattle.gate.specs.Inner.Long.{longFault}
 use Rattle.gate.proofs.LongLaws.{long-bad}
+use Rattle.sizes.specs.Sizes.{sizesOf}
 use Rattle.gate.proofs.PassedLaws.{sizes-passed, edge-passed, rule-passed}
 use Rattle.frames.specs.declared.Rule.{Rule}
 use Rattle.frames.specs.declared.Query.{Query}
@@ -65,7 +66,7 @@ unfolding knownAfter
 crews-kept k x e h = by-kind (eqb (byteAt x 0) 1) refl
   where
     by-kind : (b : Bool) → eqb (byteAt x 0) 1 ≡ b
-        → (cond b (record { persons = byteAt x 1; crews = byteAt x 2; attrs = byteAt x 3; values = byteAt x 4 }) (k .sizes)) .crews ≤ 32
+        → (cond b (sizesOf x) (k .sizes)) .crews ≤ 32
     by-kind true i = sizes-passed k x e (eqb-true _ 1 i) .crews-most
     by-kind false i = h
 

@@ -54,7 +54,7 @@ pub struct Query {
 
 // An accepted book. Of crew s, juniors[s] is the set of its direct juniors; facts is the ledger of starting facts.
 pub struct Book {
-    pub sizes: gate::Sizes,
+    pub sizes: sizes::Sizes,
     pub juniors: [u32; 32],
     pub rules: Rules,
     pub facts: [u8; LEDGER_SIZE],
@@ -149,16 +149,7 @@ fn known_after(k: gate::Known, x: &[u8]) -> gate::Known
 {
     let kind = lines::byte_at(x, 0);
     if kind == 1 {
-        let persons = lines::byte_at(x, 1);
-        let crews = lines::byte_at(x, 2);
-        let attrs = lines::byte_at(x, 3);
-        let values = lines::byte_at(x, 4);
-        let sizes = gate::Sizes {
-            persons,
-            crews,
-            attrs,
-            values,
-        };
+        let sizes = sizes::sizes_of(x);
         return gate::Known {
             headed: true,
             asked: k.asked,
@@ -324,11 +315,11 @@ fn turned_back(r: Refusal) -> Reading
         count: 0,
         rules: [rule; 512],
     };
-    let sizes = gate::Sizes {
+    let sizes = sizes::Sizes {
         persons: 0,
         crews: 0,
         attrs: 0,
-        values: 0,
+        counts: [0; 8],
     };
     let query = no_query();
     let book = Book {
@@ -352,11 +343,11 @@ fn read_lines(book: &[u8]) -> Reading
     let mut known = gate::Known {
         headed: false,
         asked: false,
-        sizes: gate::Sizes {
+        sizes: sizes::Sizes {
             persons: 0,
             crews: 0,
             attrs: 0,
-            values: 0,
+            counts: [0; 8],
         },
         count: 0,
     };

@@ -8,8 +8,9 @@ use native.Mathlib.Omega.{arith}
 use lib.Dec.{eqb}
 use borrow.Author.Tests.{eqb-true}
 use Rattle.quantifiers.proofs.BoolLaws.{or-either, not-on}
-use Rattle.gate.specs.Gate.{between, asksValue, asksCrew}
-use Rattle.gate.proofs.PassedLaws.{between-true}
+use Rattle.gate.specs.Gate.{asksValue, asksCrew}
+use Rattle.sizes.specs.Sizes.{between}
+use Rattle.sizes.proofs.SizeLaws.{between-true}
 
 -- 01, 02 and 05 ask for a value.
 pub value-kinds : (k : ℕ) → asksValue k ≡ true → (k ≡ 1) ⊎ ((k ≡ 2) ⊎ (k ≡ 5))

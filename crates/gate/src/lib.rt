@@ -2,19 +2,13 @@
 ghost use mathlib.Core.Path.{_≡_};
 ghost use mathlib.Core.Bool.{_&&_};
 ghost use Prim.Native.Nat.{_+_, _-_, _*_, _<_};
-ghost use Rattle.gate.specs.Gate.{faultNumber, between, valuesOf, isCrew, isValue, isCrewField, pairAt, quadAt, misplaced, lengthOf};
-ghost use Rattle.gate.specs.Gate.{mislengthed, sizesGood, sizesVerdict, edgeVerdict, headGood, asksValue, termGood, termGoodAt, ruleGood, valueTermAt, foreign};
+ghost use Rattle.gate.specs.Gate.{faultNumber, pairAt, quadAt, misplaced};
+ghost use Rattle.gate.specs.Gate.{mislengthed, sizesVerdict, edgeVerdict, headGood, asksValue, termGood, termGoodAt, ruleGood, valueTermAt, foreign};
 ghost use Rattle.gate.specs.Gate.{ruleVerdict, factGood, factVerdict, wantGoodAt, crewsGood, queryGood, risesAt, queryVerdict, fieldsVerdict, verdict};
 ghost use Rattle.quantifiers.specs.Quantifiers.{allBelow};
+ghost use Rattle.sizes.specs.Sizes.{isCrew};
 ghost use Rattle.gate.specs.Inner.Long.{dueLength, longFault};
-
-// How many persons, crews, attributes, and values of each attribute.
-pub struct Sizes {
-    pub persons: u8,
-    pub crews: u8,
-    pub attrs: u8,
-    pub values: u8,
-}
+use sizes::Sizes;
 
 // What the lines so far tell: whether the sizes stand, whether the query stands, the sizes, and how many rules.
 pub struct Known {
@@ -57,34 +51,6 @@ pub fn fault_number(f: Fault) -> u8
     }
 }
 
-// How many values attribute a has.
-pub fn values_of(z: Sizes, a: u8) -> u8
-    ensures { λ r. ⌜ r ≡ valuesOf z a ⌝ }
-{
-    z.values
-}
-
-fn is_between(lo: u8, hi: u8, n: u8) -> bool
-    ensures { λ r. ⌜ r ≡ between lo hi n ⌝ }
-{
-    (lo <= n) & (n <= hi)
-}
-
-// Whether v is a value of attribute a.
-pub fn is_value(z: Sizes, a: u8, v: u8) -> bool
-    ensures { λ r. ⌜ r ≡ isValue z a v ⌝ }
-{
-    let n = values_of(z, a);
-    (a < z.attrs) & (v < n)
-}
-
-// Whether a is a crew and v is 00.
-pub fn is_crew_field(z: Sizes, a: u8, v: u8) -> bool
-    ensures { λ r. ⌜ r ≡ isCrewField z a v ⌝ }
-{
-    (a < z.crews) & (v == 0)
-}
-
 // The set that two bytes of a frame write.
 pub fn pair_at(x: &[u8], i: usize) -> u32
     requires { ⌜ i < 65000 ⌝ }
@@ -111,44 +77,38 @@ fn is_misplaced(k: Known, kind: u8) -> bool
     ensures { λ r. ⌜ r ≡ misplaced k kind ⌝ }
 {
     if k.headed {
-        let known = is_between(2, 5, kind);
+        let known = sizes::is_between(2, 5, kind);
         return k.asked | !known;
     }
     !(kind == 1)
 }
 
-// The length in bytes that a kind, with its mode and its n or q, gives.
-fn length_of(kind: u8, mode: u8, n: u8) -> usize
-    ensures { λ r. ⌜ r ≡ lengthOf kind mode n ⌝ }
+// The length that a frame's first bytes give: by its kind, with the A, the n or q and the mode as written, each read where it counts.
+fn due_length(x: &[u8]) -> usize
+    ensures { λ r. ⌜ r ≡ dueLength (now (x .entry)) ⌝ }
 {
+    let kind = lines::byte_at(x, 0);
     if kind == 1 {
-        return 5;
+        let attrs = lines::byte_at(x, 3);
+        return 4 + (attrs as usize);
     }
     if kind == 2 {
         return 3;
     }
-    let m = n as usize;
     if kind == 3 {
-        return 6 + 3 * m;
+        let n = lines::byte_at(x, 5);
+        return 6 + 3 * (n as usize);
     }
     if kind == 4 {
         return 5;
     }
+    let q = lines::byte_at(x, 5);
+    let mode = lines::byte_at(x, 1);
+    let named = 6 + 3 * (q as usize);
     if mode == 2 {
-        return 6 + 3 * m + 4;
+        return named + 4;
     }
-    6 + 3 * m + 0
-}
-
-// The length that a frame's first bytes give.
-fn due_length(x: &[u8]) -> usize
-    ensures { λ r. ⌜ r ≡ dueLength (now (x .entry)) ⌝ }
-{
-    length_of(
-        lines::byte_at(x, 0),
-        lines::byte_at(x, 1),
-        lines::byte_at(x, 5),
-    )
+    named + 0
 }
 
 fn is_mislengthed(x: &[u8]) -> bool
@@ -158,23 +118,10 @@ fn is_mislengthed(x: &[u8]) -> bool
     x.len() != n
 }
 
-fn are_sizes(p: u8, g: u8, a: u8, v: u8) -> bool
-    ensures { λ r. ⌜ r ≡ sizesGood p g a v ⌝ }
-{
-    let persons = is_between(1, 64, p);
-    let attrs = is_between(1, 8, a);
-    let values = is_between(1, 16, v);
-    persons & (g <= 32) & attrs & values
-}
-
 fn sizes_verdict(x: &[u8]) -> Verdict
     ensures { λ r. ⌜ r ≡ sizesVerdict (now (x .entry)) ⌝ }
 {
-    let p = lines::byte_at(x, 1);
-    let g = lines::byte_at(x, 2);
-    let a = lines::byte_at(x, 3);
-    let v = lines::byte_at(x, 4);
-    if are_sizes(p, g, a, v) {
+    if sizes::are_sizes(x) {
         return Verdict::Good;
     }
     Verdict::Bad(Fault::Outside)
@@ -203,10 +150,10 @@ fn edge_verdict(z: Sizes, x: &[u8]) -> Verdict
 fn is_head(z: Sizes, op: u8, role: u8, a: u8, v: u8, n: u8) -> bool
     ensures { λ r. ⌜ r ≡ headGood z op role a v n ⌝ }
 {
-    let holds = is_between(1, 4, op);
-    let joins = is_between(5, 6, op);
-    let value = is_value(z, a, v);
-    let crew = is_crew_field(z, a, v);
+    let holds = sizes::is_between(1, 4, op);
+    let joins = sizes::is_between(5, 6, op);
+    let value = sizes::is_value(z, a, v);
+    let crew = sizes::is_crew_field(z, a, v);
     ((holds & value) | (joins & crew)) & (role <= 15) & (n <= 8)
 }
 
@@ -214,16 +161,16 @@ fn is_head(z: Sizes, op: u8, role: u8, a: u8, v: u8, n: u8) -> bool
 fn asks_value(kind: u8) -> bool
     ensures { λ r. ⌜ r ≡ asksValue kind ⌝ }
 {
-    is_between(1, 2, kind) | (kind == 5)
+    sizes::is_between(1, 2, kind) | (kind == 5)
 }
 
 fn is_term(z: Sizes, kind: u8, a: u8, v: u8) -> bool
     ensures { λ r. ⌜ r ≡ termGood z kind a v ⌝ }
 {
     let holds = asks_value(kind);
-    let joins = is_between(3, 4, kind);
-    let value = is_value(z, a, v);
-    let crew = is_crew_field(z, a, v);
+    let joins = sizes::is_between(3, 4, kind);
+    let value = sizes::is_value(z, a, v);
+    let crew = sizes::is_crew_field(z, a, v);
     (holds & value) | (joins & crew)
 }
 
@@ -305,8 +252,8 @@ fn rule_verdict(k: Known, x: &[u8]) -> Verdict
 fn is_fact(z: Sizes, k: u8, s: u8, a: u8, v: u8) -> bool
     ensures { λ r. ⌜ r ≡ factGood z k s a v ⌝ }
 {
-    let value = is_value(z, a, v);
-    let crew = is_crew_field(z, a, v);
+    let value = sizes::is_value(z, a, v);
+    let crew = sizes::is_crew_field(z, a, v);
     ((k == 1) & (s < z.persons) & value)
         | ((k == 2) & (s < z.crews) & value)
         | ((k == 3) & (s < z.persons) & crew)
@@ -331,7 +278,7 @@ fn is_want_at(z: Sizes, x: &[u8], j: usize) -> bool
 {
     let a = lines::byte_at(x, 6 + 3 * j);
     let set = pair_at(x, 7 + 3 * j);
-    let n = values_of(z, a);
+    let n = sizes::values_of(z, a);
     let inside = sets::is_within(set, n);
     (a < z.attrs) & inside
 }
@@ -367,7 +314,7 @@ fn is_query(z: Sizes, x: &[u8]) -> bool
     let crews = are_listed_crews(z, x);
     let mode = lines::byte_at(x, 1);
     let person = lines::byte_at(x, 2);
-    let known = is_between(1, 2, mode);
+    let known = sizes::is_between(1, 2, mode);
     known & (person < z.persons) & (q <= 8) & wants & crews
 }
 
@@ -434,7 +381,7 @@ pub fn judge_frame(k: Known, x: &[u8]) -> Verdict
 }
 
 // The lowest refusal of a frame of n bytes, over 64, by its first 64 alone: it is misplaced, or has another length than its kind's, or has
-// it by an n or q over 8.
+// it by an A, n or q over 8.
 pub fn long_fault(k: Known, x: &[u8], n: usize) -> Fault
     ensures { λ r. ⌜ r ≡ longFault k (now (x .entry)) n ⌝ }
 {

@@ -4,7 +4,7 @@ ghost use Prim.Native.Nat.{_≤_, _<_};
 ghost use lib.ListN.{length};
 ghost use Rattle.facts.specs.Facts.{ledgerSize, holds, putFact};
 ghost use Rattle.requests.specs.Requests.{adds};
-ghost use Rattle.gate.specs.Inner.Ranges.{InRange};
+ghost use Rattle.sizes.specs.Inner.Ranges.{InRange};
 ghost use Rattle.frames.specs.Book.{listed, contentsOf};
 ghost use Rattle.frames.specs.Inner.Fits.{Admitted};
 ghost use Rattle.denials.specs.Denials.{whyNot};
@@ -165,14 +165,14 @@ fn values_below(ledger: &[u8], juniors: &[u32], p: Person, a: Attr, n: u8) -> u3
 }
 
 // The set of the values of attribute a that the person effectively holds; 0 for an absent attribute.
-pub fn value_set(z: gate::Sizes, ledger: &[u8], juniors: &[u32], p: Person, a: u8) -> u32
+pub fn value_set(z: sizes::Sizes, ledger: &[u8], juniors: &[u32], p: Person, a: u8) -> u32
     requires { ⌜ InRange z × (length (now juniors) ≡ 32) ⌝ }
     ensures { λ r. ⌜ r ≡ valueSet z (now (juniors .entry)) (holds (now (ledger .entry))) p a ⌝ }
 {
     if z.attrs <= a {
         return 0;
     }
-    let n = gate::values_of(z, a);
+    let n = sizes::values_of(z, a);
     values_below(ledger, juniors, p, Attr(a), n)
 }
 
@@ -192,7 +192,7 @@ fn crews_below(ledger: &[u8], juniors: &[u32], p: Person, n: u8) -> u32
 }
 
 // The eight effective sets.
-fn value_sets(z: gate::Sizes, ledger: &[u8], juniors: &[u32], p: Person) -> [u32; 8]
+fn value_sets(z: sizes::Sizes, ledger: &[u8], juniors: &[u32], p: Person) -> [u32; 8]
     requires { ⌜ InRange z × (length (now juniors) ≡ 32) ⌝ }
     ensures { λ r. ⌜ r ≡ valueSets z (now (juniors .entry)) (holds (now (ledger .entry))) p ⌝ }
 {

@@ -6,12 +6,13 @@ use native.Mathlib.Omega.{arith}
 use lib.Dec.{eqb, ltb, leb}
 use lib.ListN.{length, getD}
 use borrow.Author.Tests.{ltb-true, lt-ltb, le-ltb}
-use Rattle.gate.specs.Gate.{between, valuesOf, isCrew, isAttr, isValue, isCrewField, headGood, asksValue, asksCrew, termGood}
+use Rattle.gate.specs.Gate.{headGood, asksValue, asksCrew, termGood}
+use Rattle.sizes.specs.Sizes.{between, isCrew, isValue, isCrewField}
 use Rattle.gate.proofs.TermKindLaws.{crew-not-value}
-use Rattle.gate.specs.Inner.Ranges.{InRange}
+use Rattle.sizes.specs.Inner.Ranges.{InRange}
 use Rattle.quantifiers.specs.Quantifiers.{allBelow}
-use Rattle.gate.specs.declared.Sizes.{Sizes}
-use Rattle.gate.proofs.PassedLaws.{between-true}
+use Rattle.sizes.specs.declared.Sizes.{Sizes}
+use Rattle.sizes.proofs.SizeLaws.{between-true, value-bounds}
 use Rattle.quantifiers.proofs.BoolLaws.{and-both, or-either}
 use Rattle.quantifiers.proofs.BelowLaws.{all-at}
 use Rattle.quantifiers.proofs.ListLaws.{each-at}
@@ -26,13 +27,6 @@ use Rattle.level.specs.Inner.Terms.{TermInRange, GoodRule}
 use Rattle.level.specs.Inner.Chosen.{ruleAt, GoodRules}
 
 module _ (z : Sizes) (sized : InRange z) where
-  -- A value of an accepted book is one of 16 of one of 8 attributes.
-  value-in : (a v : ℕ) → isValue z a v ≡ true → (a < 8) × (v < 16)
-  unfolding valuesOf
-  value-in a v e =
-      let both = and-both (isAttr z a) (ltb v (valuesOf z a)) e in
-      (omega (arith, ltb-true a (z .attrs) (both .0), sized .attrs-most), omega (arith, ltb-true v (valuesOf z a) (both .1), sized .values-most))
-
   -- A crew of an accepted book is one of 32.
   crew-in : (a v : ℕ) → isCrewField z a v ≡ true → a < 32
   crew-in a v e = omega (arith, ltb-true a (z .crews) (and-both (isCrew z a) (eqb v 0) e .0), sized .crews-most)
@@ -48,7 +42,7 @@ module _ (z : Sizes) (sized : InRange z) where
       (λ x.
       let both = and-both (between 1 4 op) (isValue z a v) x in
       let low : op < 5 = omega (arith, between-true 1 4 op (both .0)) in
-      rw (lt-ltb op 5 low) (omega (arith, value-in a v (both .1))))
+      rw (lt-ltb op 5 low) (omega (arith, value-bounds z a v sized (both .1))))
       (λ x.
       let both = and-both (between 5 6 op) (isCrewField z a v) x in
       rw (le-ltb op 5 (omega (arith, between-true 5 6 op (both .0)))) (omega (arith, crew-in a v (both .1))))
@@ -62,7 +56,7 @@ module _ (z : Sizes) (sized : InRange z) where
       or-either value crew e
       (λ x.
       let both = and-both (asksValue kind) (isValue z (t .a) (t .v)) x in
-      record { value = λ _. value-in (t .a) (t .v) (both .1); crew = λ no. absurd (true≢false (sym (both .0) ∙ no)) })
+      record { value = λ _. value-bounds z (t .a) (t .v) sized (both .1); crew = λ no. absurd (true≢false (sym (both .0) ∙ no)) })
       (λ x.
       let both = and-both (asksCrew kind) (isCrewField z (t .a) (t .v)) x in
       record { value = λ is. absurd (true≢false (sym is ∙ crew-not-value kind (both .0))); crew = λ _. crew-in (t .a) (t .v) (both .1) })

@@ -13,10 +13,10 @@ use Rattle.frames.specs.Book.{Contents, Answer, refused, accepted, bookOf}
 use Rattle.frames.proofs.BookLaws.{book-accepted}
 use Rattle.replay.specs.Chains.{fives}
 use Rattle.planner.specs.declared.Planned.{Planned}
-use Rattle.planner.specs.Count.{factCount}
+use Rattle.sizes.specs.Sizes.{factCount}
 use Rattle.planner.specs.Promise.{NoWay}
 use Rattle.planner.specs.Answer.{Said, said80, said81, said8F, said, front, Decided, AnsweredFor, PlanPromise}
-use Rattle.planner.proofs.AnswerLaws.{facts-few}
+use Rattle.sizes.proofs.SizeLaws.{facts-few}
 use Rattle.planner.proofs.PromiseLaws.{never-both}
 use Rattle.answers.specs.Answers.{hex, hexLine, noWayBytes, countBytes, refusedBytes, requestLines, answerText}
 use Rattle.answers.specs.Inner.Written.{Written}

@@ -5,7 +5,7 @@ use mathlib.Core.List.{List, _++_}
 use Prim.Native.Nat.{ℕ, _*_, _≤_}
 use lib.ListN.{length}
 use Rattle.frames.specs.Book.{Contents, Answer, refused, accepted, bookOf}
-use Rattle.planner.specs.Count.{factCount}
+use Rattle.sizes.specs.Sizes.{factCount}
 use Rattle.planner.specs.Promise.{NoWay, Works}
 use Rattle.answers.specs.Answers.{hexLine, noWayBytes, countBytes, refusalBytes, requestLines}
 

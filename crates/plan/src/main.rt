@@ -75,15 +75,33 @@ fn size_at(book: &[u8], at: usize) -> usize
     16 * high + low
 }
 
-// How many facts the sizes in the book's first line give, where they stand there: F.
+// The sum of the counts in the book's first line, where it has so many of them.
+fn values_asked(book: &[u8], attrs: usize) -> usize
+    requires { ⌜ (attrs ≤ 8) × (24 ≤ length (now book)) ⌝ }
+    ensures { λ r. ⌜ r ≤ 34680 ⌝ }
+{
+    let mut n: usize = 0;
+    let mut a: usize = 0;
+    while a < attrs {
+        n += size_at(book, 8 + 2 * a);
+        a += 1;
+    }
+    n
+}
+
+// How many facts the sizes in the book's first line give, where they stand there: F. No book is shorter than 24 characters, no first line
+// longer.
 fn facts_asked(book: &[u8]) -> usize {
-    if book.len() < 10 {
+    if book.len() < 24 {
         return 0;
     }
     let crews = size_at(book, 4);
     let attrs = size_at(book, 6);
-    let values = size_at(book, 8);
-    (1 + crews) * attrs * values + crews
+    if 8 < attrs {
+        return 0;
+    }
+    let values = values_asked(book, attrs);
+    (1 + crews) * values + crews
 }
 
 // With a small buffer for the plan. 0 where that is too short, and where the book fills the text, so that more of it may follow.

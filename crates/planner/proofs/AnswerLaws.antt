@@ -7,8 +7,6 @@ use native.Mathlib.Omega.{arith}
 use lib.ListN.{length, take, drop, length-map, length-append, length-drop}
 use lib.Seq.{take-append-seam, drop-append-seam, drop-append-add, drop-drop}
 use Rattle.facts.specs.Facts.{holds}
-use Rattle.gate.specs.declared.Sizes.{Sizes}
-use Rattle.gate.specs.Inner.Ranges.{InRange}
 use Rattle.frames.specs.Book.{Contents, refused, accepted, bookOf}
 use Rattle.frames.specs.declared.Refusal as frames
 use Rattle.frames.specs.Inner.Fits.{Admitted}
@@ -24,7 +22,7 @@ use Rattle.drafts.specs.Inner.Drafts.{carried, flat}
 use Rattle.drafts.proofs.DraftLaws.{run-carried, flat-append, fives-flat, length-flat}
 use Rattle.search.specs.Inner.Drive.{starts, drafted}
 use Rattle.search.specs.Inner.Scan.{NoRun, BestWritten}
-use Rattle.planner.specs.Count.{factCount}
+use Rattle.sizes.specs.Sizes.{factCount}
 use Rattle.planner.specs.Promise.{NoWay, Works}
 use Rattle.planner.specs.declared.Planned.{Planned}
 use Rattle.planner.specs.declared.Planned.the-variants.{Refused}
@@ -33,24 +31,6 @@ use Rattle.planner.specs.Answer.{front, Said, said80, said81, said8F, sa
 use Rattle.planner.specs.Inner.Found.{PlanFound, PlanReply, planReply, given}
 use Rattle.planner.proofs.CountLaws.{plan-few}
 use Rattle.planner.proofs.PromiseLaws.{lastLedger, no-run-no-way, best-no-way, best-leads, best-works}
-
--- ---------------------------------------------------------------- the bound F
-
-mul-le : (x y c : ℕ) → y ≤ c → x * y ≤ x * c
-mul-le zero y c h = omega arith
-mul-le (suc x) y c h = omega (arith, mul-le x y c h)
-
-module _ (z : Sizes) (range : InRange z) where
-  -- The products of F stay small.
-  pub cells-few : (1 + z .crews) * z .attrs ≤ 264
-  cells-few = omega (arith, mul-le (1 + z .crews) (z .attrs) 8 (range .attrs-most), range .crews-most)
-
-  pub values-few : (1 + z .crews) * z .attrs * z .values ≤ 4224
-  values-few = omega (arith, mul-le ((1 + z .crews) * z .attrs) (z .values) 16 (range .values-most), cells-few)
-
-  pub facts-few : factCount z ≤ 4256
-  unfolding factCount
-  facts-few = omega (arith, values-few, range .crews-most)
 
 -- ---------------------------------------------------------------- the requests written
 

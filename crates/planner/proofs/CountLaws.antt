@@ -5,29 +5,28 @@ use mathlib.Core.Bool.{Bool, true, false, _&&_, and-true, true≢false}
 use mathlib.Core.List.{List, [], _∷_, _++_, map}
 use Prim.Native.Nat.{ℕ, zero, suc, _+_, _-_, _*_, _/_, _%_, _≤_, _<_}
 use native.Mathlib.Decide.{decLt}
-use native.Mathlib.Nat.{mul-assoc}
 use native.Mathlib.Omega.{arith}
 use lib.Dec.{ltb}
 use lib.ListN.{length}
 use borrow.Author.Tests.{ltb-true}
 use Rattle.facts.specs.declared.Fact.{Fact}
 use Rattle.facts.specs.declared.Fact.the-variants.{Holds, CrewHolds, Member}
-use Rattle.gate.specs.Gate.{isPerson, isCrew, isAttr, isValue, valuesOf}
+use Rattle.sizes.specs.Sizes.{valuesOf, isPerson, isCrew, isValue, valueCount, factCount}
+use Rattle.sizes.proofs.SizeLaws.{value-in, facts-are}
 use Rattle.quantifiers.proofs.BoolLaws.{and-both}
 use Rattle.frames.specs.Book.{Contents}
 use Rattle.frames.specs.Inner.Fits.{inSizes, Admitted}
 use Rattle.requests.proofs.RequestLaws.{well-formed-fact}
 use Rattle.theory.specs.Inner.Facts.{State, _⊆_, update}
-use Rattle.quantifiers.specs.Quantifiers.{oneIf, countBelow}
+use Rattle.quantifiers.specs.Quantifiers.{oneIf, countBelow, sumBelow}
 use Rattle.theory.proofs.FactLaws.{update-same, update-other, at, count-update}
-use Rattle.quantifiers.proofs.BelowLaws.{count-le, count-mono}
+use Rattle.quantifiers.proofs.BelowLaws.{count-le, count-mono, sum-most}
 use Rattle.theory.specs.Inner.Plan.{Ask, Req, req, apply, end, Runs, World, Lawful, Step, Plan}
 use Rattle.reach.specs.Inner.Tracked.{personLevel, tracked, numberOf, factAt, isNumber, track, bytesOf, asked, May}
 use Rattle.reach.specs.Inner.Goal.{bad}
 use Rattle.reach.proofs.TrackLaws.{tracked-value, tracked-crew, tracked-member, fact-tracked, track-at}
 use Rattle.reach.specs.Inner.Depot.{depot}
 use Rattle.reach.proofs.DepotLaws.{depot-lawful}
-use Rattle.planner.specs.Count.{factCount}
 
 -- ---------------------------------------------------------------- counting
 
@@ -54,9 +53,9 @@ cap S m n le h =
     let z = few (λ i. S (m + i)) 0 (n - m) (λ i l t. absurd (omega (arith, h (m + i) (omega arith) t))) in
     omega (arith, ap (countBelow S) e, count-split S m (n - m), z)
 
--- Blocks of one width, none of which counts more than a bound.
-blocks : (S : State) (w m n : ℕ) → ((k : ℕ) → k < n → countBelow (λ i. S (w * k + i)) w ≤ m) → countBelow S (w * n) ≤ n * m
-unfolding countBelow
+-- Blocks of one width, each with a bound of its own.
+blocks : (S : State) (w : ℕ) (m : ℕ → ℕ) (n : ℕ) → ((k : ℕ) → k < n → countBelow (λ i. S (w * k + i)) w ≤ m k) → countBelow S (w * n) ≤ sumBelow m n
+unfolding countBelow sumBelow
 blocks S w m zero h = let e : w * 0 ≡ 0 = omega arith in omega (arith, ap (countBelow S) e)
 blocks S w m (suc n) h =
     let e : w * suc n ≡ w * n + w = omega arith in
@@ -118,24 +117,19 @@ module _ (b : Contents) where
   record Shape (g : ℕ) : Type 0 where
     low : g / 160 ≤ b .sizes .crews
     attr : g % 160 < 128 → g % 160 < 16 * b .sizes .attrs
-    value : g % 160 < 128 → g % 160 % 16 < b .sizes .values
+    value : g % 160 < 128 → g % 160 % 16 < valuesOf (b .sizes) (g % 160 / 16)
     crew : 128 ≤ g % 160 → (g / 160 ≡ b .sizes .crews) × (g % 160 < 128 + b .sizes .crews)
 
-  value-in : (a v : ℕ) → isValue (b .sizes) a v ≡ true → (a < b .sizes .attrs) × (v < b .sizes .values)
-  unfolding valuesOf
-  value-in a v e =
-      let both = and-both (isAttr (b .sizes) a) (ltb v (valuesOf (b .sizes) a)) e in
-      (ltb-true a (b .sizes .attrs) (both .0), ltb-true v (b .sizes .values) (both .1))
-
-  shape-value : (k a v : ℕ) → k ≤ b .sizes .crews → a < 8 → v < 16 → a < b .sizes .attrs → v < b .sizes .values → Shape (160 * k + (16 * a + v))
+  shape-value : (k a v : ℕ) → k ≤ b .sizes .crews → a < 8 → v < 16 → a < b .sizes .attrs → v < valuesOf (b .sizes) a → Shape (160 * k + (16 * a + v))
   shape-value k a v l m n i j =
       let g : (160 * k + (16 * a + v)) / 160 ≡ k = omega arith in
       let f : (160 * k + (16 * a + v)) % 160 ≡ 16 * a + v = omega arith in
       let d : (16 * a + v) % 16 ≡ v = omega arith in
+      let e : (16 * a + v) / 16 ≡ a = omega arith in
       record {
         low = rw g l;
         attr = λ _. rw f (omega arith);
-        value = λ _. rw (f, d) j;
+        value = λ _. rw (f, d, e) j;
         crew = λ h. absurd (omega (arith, f));
       }
 
@@ -143,11 +137,11 @@ module _ (b : Contents) where
   unfolding numberOf inSizes
   shape-fact (Holds p a v) t e =
       let s = tracked-value b p a v t in
-      let i = value-in (a .0) v (and-both (isPerson (b .sizes) (p .0)) (isValue (b .sizes) (a .0) v) e .1) in
+      let i = value-in (b .sizes) (a .0) v (and-both (isPerson (b .sizes) (p .0)) (isValue (b .sizes) (a .0) v) e .1) in
       shape-value (personLevel b) (a .0) v (omega arith) (s .1 .0) (s .1 .1) (i .0) (i .1)
   shape-fact (CrewHolds c a v) t e =
       let s = tracked-crew b c a v t in
-      let i = value-in (a .0) v (and-both (isCrew (b .sizes) (c .0)) (isValue (b .sizes) (a .0) v) e .1) in
+      let i = value-in (b .sizes) (a .0) v (and-both (isCrew (b .sizes) (c .0)) (isValue (b .sizes) (a .0) v) e .1) in
       shape-value (c .0) (a .0) v (omega (arith, s .0)) (s .1 .0) (s .1 .1) (i .0) (i .1)
   shape-fact (Member p c) t e =
       let s = tracked-member b p c t in
@@ -175,20 +169,23 @@ module _ (b : Contents) where
 
   module _ (ok : Admitted b) where
     -- The values of a level.
-    level-values : (k : ℕ) → countBelow (λ i. inside (160 * k + i)) 128 ≤ b .sizes .attrs * b .sizes .values
+    level-values : (k : ℕ) → countBelow (λ i. inside (160 * k + i)) 128 ≤ valueCount (b .sizes)
     level-values k =
         let top = cap (λ i. inside (160 * k + i)) (16 * b .sizes .attrs) 128 (omega (arith, ok .sized .attrs-most))
         (λ i l t. let f : (160 * k + i) % 160 ≡ i = omega arith in omega (arith, f, shape (160 * k + i) t .attr (omega (arith, f)))) in
-        let rows = blocks (λ i. inside (160 * k + i)) 16 (b .sizes .values) (b .sizes .attrs)
-        (λ a l. few (λ i. inside (160 * k + (16 * a + i))) (b .sizes .values) 16
+        let rows = blocks (λ i. inside (160 * k + i)) 16 (valuesOf (b .sizes)) (b .sizes .attrs)
+        (λ a l. few (λ i. inside (160 * k + (16 * a + i))) (valuesOf (b .sizes) a) 16
         (λ i m t.
         let f : (160 * k + (16 * a + i)) % 160 ≡ 16 * a + i = omega (arith, ok .sized .attrs-most) in
         let d : (16 * a + i) % 16 ≡ i = omega arith in
-        omega (arith, ap (λ x. x % 16) f, d, shape (160 * k + (16 * a + i)) t .value (omega (arith, f, ok .sized .attrs-most))))) in
+        let e : (16 * a + i) / 16 ≡ a = omega arith in
+        let own : (160 * k + (16 * a + i)) % 160 % 16 < valuesOf (b .sizes) ((160 * k + (16 * a + i)) % 160 / 16) =
+        shape (160 * k + (16 * a + i)) t .value (omega (arith, f, ok .sized .attrs-most)) in
+        rw (f, d, e) at own)) in
         omega (arith, top, rows)
 
     -- A crew's level.
-    level-crew : (k : ℕ) → k < b .sizes .crews → countBelow (λ i. inside (160 * k + i)) 160 ≤ b .sizes .attrs * b .sizes .values
+    level-crew : (k : ℕ) → k < b .sizes .crews → countBelow (λ i. inside (160 * k + i)) 160 ≤ valueCount (b .sizes)
     level-crew k l =
         let top = cap (λ i. inside (160 * k + i)) 128 160 (omega arith)
         (λ i m t.
@@ -198,7 +195,7 @@ module _ (b : Contents) where
         omega (arith, top, level-values k)
 
     -- The person's level.
-    level-person : countBelow (λ i. inside (160 * b .sizes .crews + i)) 160 ≤ b .sizes .attrs * b .sizes .values + b .sizes .crews
+    level-person : countBelow (λ i. inside (160 * b .sizes .crews + i)) 160 ≤ valueCount (b .sizes) + b .sizes .crews
     level-person =
         let k = b .sizes .crews in
         let members = few (λ i. inside (160 * k + (128 + i))) k 32
@@ -209,12 +206,14 @@ module _ (b : Contents) where
 
     -- The tracked facts within the sizes are no more than the paper's count.
     pub inside-few : countBelow inside 5280 ≤ factCount (b .sizes)
-    unfolding factCount
     inside-few =
         let k = b .sizes .crews in
+        let n = valueCount (b .sizes) in
         let top = cap inside (160 * k + 160) 5280 (omega (arith, ok .sized .crews-most)) (λ g l t. omega (arith, shape g t .low)) in
-        let crews = blocks inside 160 (b .sizes .attrs * b .sizes .values) k level-crew in
-        omega (arith, top, count-split inside (160 * k) 160, crews, level-person, mul-assoc (1 + k) (b .sizes .attrs) (b .sizes .values))
+        let crews = blocks inside 160 (λ _. n) k level-crew in
+        let whole : countBelow inside 5280 ≤ (1 + k) * n + k =
+        omega (arith, top, count-split inside (160 * k) 160, crews, sum-most (λ _. n) n k (λ i l. omega arith), level-person) in
+        rw (facts-are (b .sizes)) whole
 
     in-depot : (S : State) (on : Bool) (q : Ask) → depot b .May S (req on q) → inside (q .fact) ≡ true
     in-depot S on q m = inside-may S on q m

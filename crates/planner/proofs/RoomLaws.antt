@@ -11,7 +11,7 @@ use Rattle.frames.specs.Book.{Contents, Answer, refused, accepted, bookOf}
 use Rattle.replay.proofs.ReplayLaws.{fives-short}
 use Rattle.planner.specs.declared.Planned.{Planned}
 use Rattle.planner.specs.declared.Planned.the-variants.{Plan}
-use Rattle.planner.specs.Count.{factCount}
+use Rattle.sizes.specs.Sizes.{factCount}
 use Rattle.planner.specs.Answer.{front, Said, said80, said81, said8F, said, PlanGiven, Decided, Answered, AnsweredFor, PlanPromise}
 use Rattle.planner.specs.Promise as promise
 use Rattle.planner.proofs.PromiseLaws.{never-both}

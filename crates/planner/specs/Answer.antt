@@ -12,7 +12,7 @@ use Rattle.planner.specs.declared.Planned.{Planned}
 use Rattle.planner.specs.declared.Planned.the-variants.{NoWay, Plan, Refused}
 use Rattle.planner.specs.declared.Refusal.{Refusal}
 use Rattle.planner.specs.declared.Refusal.the-variants.{BadBook, ShortBuffer}
-use Rattle.planner.specs.Count.{factCount}
+use Rattle.sizes.specs.Sizes.{factCount}
 use Rattle.planner.specs.Promise as promise
 
 -- The table's number of each refusal, and its line.

@@ -1,4 +1,3 @@
-pub mod Count
 pub mod Promise
 pub mod Answer
 pub mod Inner

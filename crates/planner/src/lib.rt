@@ -6,16 +6,13 @@ ghost use Rattle.frames.specs.Book.{contentsOf};
 ghost use Rattle.frames.specs.Inner.Fits.{Admitted};
 ghost use mathlib.Core.List.{_++_};
 ghost use Rattle.facts.specs.Facts.{holds};
-ghost use Rattle.gate.specs.Inner.Ranges.{InRange};
 ghost use Rattle.replay.specs.Met.{met};
 ghost use Rattle.drafts.specs.Inner.Drafts.{carried, flat};
-ghost use Rattle.planner.specs.Count.{factCount};
 ghost use Rattle.planner.specs.Answer.{refusalNumber, refusalLine, said, Answered, PlanPromise};
 ghost use Rattle.planner.specs.Inner.Found.{PlanFound, planReply, given};
 ghost use Rattle.search.specs.Inner.Drive.{drafted};
 ghost use Rattle.widths.specs.Inner.Widths.{depotSize, draftSize};
 use frames::Book;
-use gate::Sizes;
 use level::LevelOutcome;
 use widths::DEPOT_SIZE;
 use widths::DRAFT_SIZE;
@@ -51,17 +48,6 @@ pub fn refusal_line(r: Refusal) -> usize
         Refusal::BadBook(b) => frames::refusal_line(b),
         Refusal::ShortBuffer => 0,
     }
-}
-
-// How many facts a plan may be about: F.
-fn fact_count(z: Sizes) -> usize
-    requires { ⌜ InRange z ⌝ }
-    ensures { λ n. ⌜ n ≡ factCount z ⌝ }
-{
-    let crews = z.crews as usize;
-    let attrs = z.attrs as usize;
-    let values = z.values as usize;
-    (1 + crews) * attrs * values + crews
 }
 
 // Whether the requests of two buffers, carried out from the starting facts, end with a ledger that meets the query.
@@ -131,7 +117,7 @@ fn plan_in(b: Book, out: &mut [u8]) -> Planned
     ensures { λ r. ⌜ Answered (contentsOf b) (now (out .entry)) (said r) (now (out .exit)) ⌝ }
 {
     let z = b.sizes;
-    let f = fact_count(z);
+    let f = sizes::fact_count(z);
     if out.len() < 10 * f {
         return Planned::Refused(Refusal::ShortBuffer);
     }

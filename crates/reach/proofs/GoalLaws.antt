@@ -16,7 +16,7 @@ use Rattle.facts.specs.declared.Crew.{Crew}
 use Rattle.facts.specs.declared.Person.{Person}
 use Rattle.facts.specs.declared.Fact.{Fact}
 use Rattle.facts.specs.declared.Fact.the-variants.{Holds, CrewHolds, Member}
-use Rattle.gate.specs.Gate.{isPerson, isCrew, isAttr, isValue, valuesOf}
+use Rattle.sizes.specs.Sizes.{isPerson, isCrew, isAttr, isValue, valuesOf}
 use Rattle.inherit.specs.Inheritance.{isJunior, Falling, Below, here, down, downward, crewHolds, personHolds, Subset}
 use Rattle.inherit.proofs.InheritanceLaws.{junior-member, reached, reaches, crew-holds-direct, crew-holds-junior, crew-holds-cases, person-holds-cases}
 use Rattle.inherit.proofs.InheritanceLaws.{person-holds-direct, person-holds-from}
@@ -147,8 +147,7 @@ module _ (b : Contents) (ok : Admitted b) where
   falling = record { lower = λ s j e. ok .edges s j (sym (junior-member (b .juniors) s j) ∙ e) .0 }
 
   values-most : (a : ℕ) → valuesOf (b .sizes) a ≤ 32
-  unfolding valuesOf
-  values-most a = omega (arith, ok .sized .values-most)
+  values-most a = omega (arith, ok .sized .values-most a)
 
   -- Each named attribute is one of the book's, with its set within that attribute's values.
   wants-fit : all (λ w. isAttr (b .sizes) (w .attr .0) && within (w .set) (valuesOf (b .sizes) (w .attr .0))) (wants b) ≡ true

@@ -15,10 +15,10 @@ use Rattle.facts.specs.declared.Fact.the-variants.{Holds, CrewHolds, Member}
 use Rattle.facts.proofs.FactLaws.{same-person}
 use Rattle.inherit.specs.Inheritance.{Subset}
 use Rattle.quantifiers.proofs.BoolLaws.{and-both, and-from}
-use Rattle.gate.specs.Gate.{isPerson, isCrew, isValue}
+use Rattle.sizes.specs.Sizes.{isPerson, isCrew, isValue}
 use Rattle.frames.specs.Book.{Contents}
 use Rattle.frames.specs.Inner.Fits.{inSizes, Admitted}
-use Rattle.requests.proofs.RequestLaws.{value-bounds}
+use Rattle.sizes.proofs.SizeLaws.{value-bounds}
 use Rattle.ledger.proofs.LedgerLaws.{SameOf}
 use Rattle.theory.specs.Inner.Facts.{State, _⊆_, update}
 use Rattle.theory.proofs.FactLaws.{update-same, update-other}

@@ -5,7 +5,7 @@ ghost use Prim.Native.Nat.{_+_, _≤_};
 ghost use lib.ListN.{length};
 ghost use Rattle.lines.specs.Inner.Tables.{Encodings};
 ghost use Rattle.frames.specs.Book.{contentsOf, toldBy};
-ghost use Rattle.answers.specs.Answers.{size, total, count, bookLine, answerLine};
+ghost use Rattle.answers.specs.Answers.{size, total, count, sizesBytes, bookLine, answerLine};
 ghost use Rattle.answers.specs.Inner.Written.{Written};
 use facts::LEDGER_SIZE;
 
@@ -69,9 +69,37 @@ fn put_count(n: usize, characters: &[u8; 16], text: &mut [u8], at: usize) -> usi
     answers::put_bytes(&[high, low], characters, text, digits)
 }
 
+// The bytes of the sizes, with the counts of all eight attributes.
+fn sizes_bytes(z: sizes::Sizes) -> [u8; 12]
+    ensures { λ r. ⌜ r ≡ sizesBytes z ⌝ }
+{
+    let c0 = sizes::values_of(z, 0);
+    let c1 = sizes::values_of(z, 1);
+    let c2 = sizes::values_of(z, 2);
+    let c3 = sizes::values_of(z, 3);
+    let c4 = sizes::values_of(z, 4);
+    let c5 = sizes::values_of(z, 5);
+    let c6 = sizes::values_of(z, 6);
+    let c7 = sizes::values_of(z, 7);
+    [
+        1,
+        z.persons,
+        z.crews,
+        z.attrs,
+        c0,
+        c1,
+        c2,
+        c3,
+        c4,
+        c5,
+        c6,
+        c7,
+    ]
+}
+
 // The line of an accepted book in the front of a lent text.
 fn put_book(b: frames::Book, characters: &[u8; 16], text: &mut [u8]) -> usize
-    requires { ⌜ Encodings (now characters) × (29 ≤ length (now text)) ⌝ }
+    requires { ⌜ Encodings (now characters) × (43 ≤ length (now text)) ⌝ }
     ensures { λ end. ⌜ Written (now (text .entry)) 0 (bookLine (contentsOf b)) (now (text .exit)) end ⌝ }
 {
     let juniors = b.juniors;
@@ -79,12 +107,8 @@ fn put_book(b: frames::Book, characters: &[u8; 16], text: &mut [u8]) -> usize
     let ledger = b.facts;
     let facts = facts_in(ledger);
     let z = b.sizes;
-    let sized = answers::put_bytes(
-        &[1, z.persons, z.crews, z.attrs, z.values],
-        characters,
-        text,
-        0,
-    );
+    let sizes = sizes_bytes(z);
+    let sized = answers::put_bytes(&sizes, characters, text, 0);
     let edged = put_count(edges, characters, text, sized);
     let ruled = put_count(b.rules.count, characters, text, edged);
     let counted = put_count(facts, characters, text, ruled);
@@ -95,7 +119,7 @@ fn put_book(b: frames::Book, characters: &[u8; 16], text: &mut [u8]) -> usize
 
 // The line that answers a book that is only judged, in the front of a lent text.
 pub fn put_reading(r: frames::Reading, text: &mut [u8]) -> usize
-    requires { ⌜ 29 ≤ length (now text) ⌝ }
+    requires { ⌜ 43 ≤ length (now text) ⌝ }
     ensures { λ end. ⌜ Written (now (text .entry)) 0 (answerLine (toldBy r .answer)) (now (text .exit)) end ⌝ }
 {
     let mut characters = [0u8; 16];

@@ -24,8 +24,8 @@ use frames::Book;
 use frames::Query;
 use frames::Rule;
 use frames::Rules;
-use gate::Sizes;
 use requests::Request;
+use sizes::Sizes;
 
 // What a list of requests comes to. Stops names the first request that does not go, counted from 1.
 pub enum Judgement {

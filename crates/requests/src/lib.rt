@@ -78,11 +78,11 @@ pub fn request_of(q: &[u8]) -> Request
 }
 
 // Whether a request's fields are in their ranges.
-fn are_fields(z: gate::Sizes, op: u8, role: u8, s: u8, a: u8, v: u8) -> bool
+fn are_fields(z: sizes::Sizes, op: u8, role: u8, s: u8, a: u8, v: u8) -> bool
     ensures { λ r. ⌜ r ≡ fieldsGood z op role s a v ⌝ }
 {
-    let value = gate::is_value(z, a, v);
-    let crew = gate::is_crew_field(z, a, v);
+    let value = sizes::is_value(z, a, v);
+    let crew = sizes::is_crew_field(z, a, v);
     let on_person = (1 <= op) & (op <= 2) & (s < z.persons) & value;
     let on_crew = (3 <= op) & (op <= 4) & (s < z.crews) & value;
     let joins = (5 <= op) & (op <= 6) & (s < z.persons) & crew;
@@ -90,7 +90,7 @@ fn are_fields(z: gate::Sizes, op: u8, role: u8, s: u8, a: u8, v: u8) -> bool
 }
 
 // Whether bytes are a well-formed request. Refusal 12 falls where they are not.
-pub fn is_request(z: gate::Sizes, q: &[u8]) -> bool
+pub fn is_request(z: sizes::Sizes, q: &[u8]) -> bool
     ensures { λ r. ⌜ r ≡ wellFormed z (now (q .entry)) ⌝ }
 {
     let op = field_at(q, 0);
@@ -103,17 +103,17 @@ pub fn is_request(z: gate::Sizes, q: &[u8]) -> bool
 }
 
 // How many values attribute a may hold in a ledger.
-fn room_of(z: gate::Sizes, a: u8) -> u8
+fn room_of(z: sizes::Sizes, a: u8) -> u8
     ensures { λ r. ⌜ r ≡ roomOf z a ⌝ }
 {
     if a < z.attrs {
-        return gate::values_of(z, a);
+        return sizes::values_of(z, a);
     }
     0
 }
 
 // Whether set i of the two-byte sets that begin at `start` is within the sizes; the book has so many `subjects`.
-fn is_value_set(z: gate::Sizes, ledger: &[u8], start: usize, subjects: u8, i: usize) -> bool
+fn is_value_set(z: sizes::Sizes, ledger: &[u8], start: usize, subjects: u8, i: usize) -> bool
     requires { ⌜ (i < 512) × (start + 2 * i + 2 ≤ length (now ledger)) ⌝ }
     ensures { λ r. ⌜ r ≡ valueSetGood z (now (ledger .entry)) start subjects i ⌝ }
 {
@@ -127,7 +127,7 @@ fn is_value_set(z: gate::Sizes, ledger: &[u8], start: usize, subjects: u8, i: us
 }
 
 // Whether the first `count` of those sets are within the sizes.
-fn are_value_sets(z: gate::Sizes, ledger: &[u8], start: usize, subjects: u8, count: usize) -> bool
+fn are_value_sets(z: sizes::Sizes, ledger: &[u8], start: usize, subjects: u8, count: usize) -> bool
     requires { ⌜ (count ≤ 512) × (start + 2 * count ≤ length (now ledger)) ⌝ }
     ensures { λ r. ⌜ r ≡ allBelow (valueSetGood z (now (ledger .entry)) start subjects) count ⌝ }
 {
@@ -141,7 +141,7 @@ fn are_value_sets(z: gate::Sizes, ledger: &[u8], start: usize, subjects: u8, cou
 }
 
 // Whether the crews of person p are within the sizes.
-fn is_member_set(z: gate::Sizes, ledger: &[u8], p: usize) -> bool
+fn is_member_set(z: sizes::Sizes, ledger: &[u8], p: usize) -> bool
     requires { ⌜ (p < 64) × (length (now ledger) ≡ ledgerSize) ⌝ }
     ensures { λ r. ⌜ r ≡ memberSetGood z (now (ledger .entry)) p ⌝ }
 {
@@ -154,7 +154,7 @@ fn is_member_set(z: gate::Sizes, ledger: &[u8], p: usize) -> bool
 }
 
 // Whether the crews of every person are.
-fn are_member_sets(z: gate::Sizes, ledger: &[u8]) -> bool
+fn are_member_sets(z: sizes::Sizes, ledger: &[u8]) -> bool
     requires { ⌜ length (now ledger) ≡ ledgerSize ⌝ }
     ensures { λ r. ⌜ r ≡ allBelow (memberSetGood z (now (ledger .entry))) 64 ⌝ }
 {
@@ -168,7 +168,7 @@ fn are_member_sets(z: gate::Sizes, ledger: &[u8]) -> bool
 }
 
 // Whether a ledger suits the sizes. Refusal 11 falls where it does not.
-pub fn is_suitable(z: gate::Sizes, ledger: &[u8]) -> bool
+pub fn is_suitable(z: sizes::Sizes, ledger: &[u8]) -> bool
     ensures { λ r. ⌜ r ≡ suitable z (now (ledger .entry)) ⌝ }
 {
     if ledger.len() != LEDGER_SIZE {

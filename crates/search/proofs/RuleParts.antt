@@ -6,11 +6,12 @@ use Prim.Native.Nat.{ℕ, _≤_, _<_}
 use native.Mathlib.Omega.{arith}
 use lib.Dec.{eqb, leb}
 use borrow.Author.Tests.{leb-true, ltb-true, eqb-true}
-use Rattle.gate.specs.declared.Sizes.{Sizes}
-use Rattle.gate.specs.Gate.{between, isCrew, isValue, isCrewField, headGood, asksValue, asksCrew}
-use Rattle.gate.specs.Inner.Ranges.{InRange}
+use Rattle.sizes.specs.declared.Sizes.{Sizes}
+use Rattle.gate.specs.Gate.{headGood, asksValue, asksCrew}
+use Rattle.sizes.specs.Sizes.{between, isCrew, isValue, isCrewField}
+use Rattle.sizes.specs.Inner.Ranges.{InRange}
 use Rattle.quantifiers.specs.Quantifiers.{allBelow}
-use Rattle.gate.proofs.PassedLaws.{between-true}
+use Rattle.sizes.proofs.SizeLaws.{between-true}
 use Rattle.quantifiers.proofs.BoolLaws.{and-both, or-cases}
 use Rattle.quantifiers.proofs.BelowLaws.{all-at}
 use Rattle.frames.specs.declared.Rule.{Rule}

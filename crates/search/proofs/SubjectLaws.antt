@@ -16,7 +16,8 @@ use Rattle.frames.specs.declared.Rules.{Rules}
 use Rattle.frames.specs.Book.{Contents, listed, noTerm}
 use Rattle.frames.specs.Inner.Fits.{termOf, Admitted}
 use Rattle.requests.specs.Requests.{aimed, fieldsGood}
-use Rattle.requests.proofs.RequestLaws.{value-bounds, aimed-value, aimed-crew, aimed-member, fields-on-person, fields-on-crew, fields-joins, fields-op}
+use Rattle.sizes.proofs.SizeLaws.{value-bounds}
+use Rattle.requests.proofs.RequestLaws.{aimed-value, aimed-crew, aimed-member, fields-on-person, fields-on-crew, fields-joins, fields-op}
 use Rattle.rules.specs.declared.Subject.the-variants.{User, Group}
 use Rattle.rules.specs.Rules.{subjectOf, termHolds}
 use Rattle.rules.proofs.RuleLaws.{subject-value, subject-crew, subject-member}

@@ -8,33 +8,15 @@ use Rattle.frames.proofs.known_after.Tie as tie
 byte-at-requires : tie.Need-byte-at-requires
 byte-at-requires c κs = search needs
 
-byte-at-requires-2 : tie.Need-byte-at-requires-2
-byte-at-requires-2 c κs = search needs
-
-byte-at-requires-3 : tie.Need-byte-at-requires-3
-byte-at-requires-3 c κs = search needs
-
-byte-at-requires-4 : tie.Need-byte-at-requires-4
-byte-at-requires-4 c κs = search needs
-
-byte-at-requires-5 : tie.Need-byte-at-requires-5
-byte-at-requires-5 c κs = search needs
+sizes-of-requires : tie.Need-sizes-of-requires
+sizes-of-requires c κs = search needs
 
 returns : tie.Need-returns
 unfolding knownAfter
-returns c =
-    let is-sizes = c .before .before .before .before in
-    rw (
-      ← is-sizes .before .byte-at .ensures,
-      ← c .before .before .before .byte-at2 .ensures,
-      ← c .before .before .byte-at3 .ensures,
-      ← c .before .byte-at4 .ensures,
-      ← c .byte-at5 .ensures,
-      is-sizes .if1 .taken,
-    )
+returns c = rw (← c .before .before .byte-at .ensures, ← c .sizes-of .ensures, c .before .if1 .taken)
 
-add-t11 : tie.Need-add-t11
-add-t11 c = search needs
+add-t7 : tie.Need-add-t7
+add-t7 c = search needs
 
 returns-2 : tie.Need-returns-2
 unfolding knownAfter
@@ -64,12 +46,9 @@ known-after-spec =
     tie.close
     (tie.spec
     byte-at-requires
-    byte-at-requires-2
-    byte-at-requires-3
-    byte-at-requires-4
-    byte-at-requires-5
+    sizes-of-requires
     returns
-    add-t11
+    add-t7
     returns-2
     returns-3
     returns-4)

@@ -9,9 +9,10 @@ use Rattle.sets.specs.Sets.{member, within}
 use Rattle.facts.specs.Facts.{holds, ledgerSize}
 use Rattle.facts.specs.declared.Fact.{Fact}
 use Rattle.facts.specs.declared.Fact.the-variants.{Holds, CrewHolds, Member}
-use Rattle.gate.specs.declared.Sizes.{Sizes}
-use Rattle.gate.specs.Gate.{between, isAttr, valuesOf, isPerson, isCrew, isValue, headGood, asksValue, termGood}
-use Rattle.gate.specs.Inner.Ranges.{InRange}
+use Rattle.sizes.specs.declared.Sizes.{Sizes}
+use Rattle.gate.specs.Gate.{headGood, asksValue, termGood}
+use Rattle.sizes.specs.Sizes.{between, isAttr, valuesOf, isPerson, isCrew, isValue}
+use Rattle.sizes.specs.Inner.Ranges.{InRange}
 use Rattle.quantifiers.specs.Quantifiers.{allBelow}
 use Rattle.frames.specs.declared.Term.{Term}
 use Rattle.frames.specs.declared.Rule.{Rule}

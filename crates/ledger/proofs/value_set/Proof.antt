@@ -1,6 +1,5 @@
 -- `ledger::value_set` meets its contract: an absent attribute has the empty set, any other the values that are effective. Assumes nothing.
 use borrow.Author.Tests.{le-ltb, lt-ltb}
-use Rattle.gate.specs.Gate.{valuesOf}
 use Rattle.ledger.specs.Show.{valueSet}
 use borrow.Author.Needs.{needs}
 use native.Mathlib.Omega.{arith}
@@ -15,10 +14,9 @@ values-of-requires : tie.Need-values-of-requires
 values-of-requires c κs = search needs
 
 values-below-requires : tie.Need-values-below-requires
-unfolding valuesOf
 values-below-requires c κs =
     let at-start = c .before .before .before .before .before in
-    (rw (c .values-of .ensures) (omega (arith, at-start .pre .0 .values-most)), at-start .pre .1)
+    (rw (c .values-of .ensures) (omega (arith, at-start .pre .0 .values-most (at-start .args .a))), at-start .pre .1)
 
 returns-2 : tie.Need-returns-2
 unfolding valueSet

@@ -2,7 +2,8 @@
 use mathlib.Core.Path.{_≡_, refl}
 use Prim.Native.Nat.{ℕ, _*_, _≤_, _<_}
 use Rattle.frames.specs.Book.{contentsOf}
-use Rattle.planner.proofs.AnswerLaws.{facts-few, given-decided, answered-short, answered-long}
+use Rattle.sizes.proofs.SizeLaws.{facts-few}
+use Rattle.planner.proofs.AnswerLaws.{given-decided, answered-short, answered-long}
 use borrow.Author.Needs.{needs}
 use native.Mathlib.Omega.{arith}
 use Rattle.planner.proofs.plan_in.Statement.{statement}

@@ -11,7 +11,7 @@ use Rattle.replay.specs.Met.{met}
 use Rattle.drafts.specs.Inner.Drafts.{carried, flat}
 use Rattle.search.specs.Inner.Drive.{drafted}
 use Rattle.search.specs.Inner.Scan.{BestWritten}
-use Rattle.planner.specs.Count.{factCount}
+use Rattle.sizes.specs.Sizes.{factCount}
 use Rattle.planner.specs.Promise.{NoWay}
 use Rattle.planner.specs.Answer.{Said, said80, said81}
 

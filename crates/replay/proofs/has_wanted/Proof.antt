@@ -9,7 +9,7 @@ use lib.ListN.{length, getD, take, drop}
 use borrow.Author.Tests.{not-true, not-false}
 use Rattle.sets.specs.Sets.{subset}
 use Rattle.facts.specs.Facts.{holds}
-use Rattle.gate.specs.declared.Sizes.{Sizes}
+use Rattle.sizes.specs.declared.Sizes.{Sizes}
 use Rattle.frames.specs.declared.Want.{Want}
 use Rattle.frames.specs.declared.Query.{Query}
 use Rattle.frames.specs.Book.{contentsOf}

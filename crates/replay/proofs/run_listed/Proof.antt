@@ -48,9 +48,9 @@ use Rattle.rule_list.proofs.ByValue as list
 use Rattle.walks.proofs.Walk.{frees-all}
 use Rattle.walks.proofs.Last.{returned-last}
 use Rattle.walks.proofs.Lent as lent
-use Rattle.gate.specs.declared.Sizes.{Sizes}
-use Rattle.gate.proofs.Sizes as Z
-use Rattle.gate.proofs.Sizes.Laws as Z′
+use Rattle.sizes.specs.declared.Sizes.{Sizes}
+use Rattle.sizes.proofs.Sizes as Z
+use Rattle.sizes.proofs.Sizes.Laws as Z′
 use Rattle.frames.specs.declared.Rule.{Rule}
 use Rattle.frames.specs.declared.Rules.{Rules}
 use Rattle.frames.specs.Book.{listed}

@@ -54,9 +54,9 @@ use denote.Triple.Walked.{says, needs, Stays, stay-dropped, stay-slice, walkOf, 
 use Rattle.walks.proofs.Walk.{returned, frees-all}
 use Rattle.walks.proofs.Again.{LentAgain}
 use Rattle.walks.proofs.Last.{returned-last, lends-at, back-at}
-use Rattle.gate.specs.declared.Sizes.{Sizes}
-use Rattle.gate.proofs.Sizes as Z
-use Rattle.gate.proofs.Sizes.Laws as Z′
+use Rattle.sizes.specs.declared.Sizes.{Sizes}
+use Rattle.sizes.proofs.Sizes as Z
+use Rattle.sizes.proofs.Sizes.Laws as Z′
 use Rattle.frames.specs.declared.Rule.{Rule}
 use Rattle.frames.specs.Book.{Contents}
 use Rattle.frames.specs.Inner.Fits.{Short}

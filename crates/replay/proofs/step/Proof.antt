@@ -49,9 +49,9 @@ use Rattle.walks.proofs.Walk.{returned, frees-all}
 use Rattle.walks.proofs.Last.{returned-last}
 use Rattle.walks.proofs.Shared.{LentShared, lends-shared, back-shared}
 use Rattle.facts.specs.Facts.{holds}
-use Rattle.gate.specs.declared.Sizes.{Sizes}
-use Rattle.gate.proofs.Sizes as Z
-use Rattle.gate.proofs.Sizes.Laws as Z′
+use Rattle.sizes.specs.declared.Sizes.{Sizes}
+use Rattle.sizes.proofs.Sizes as Z
+use Rattle.sizes.proofs.Sizes.Laws as Z′
 use Rattle.frames.specs.declared.Rule.{Rule}
 use Rattle.frames.specs.Inner.Fits.{Short}
 use Rattle.quantifiers.specs.Inner.Lists.{Each}

@@ -5,7 +5,7 @@ use mathlib.Core.Bool.{Bool, _&&_}
 use mathlib.Core.List.{List, []}
 use lib.ListN.{take, drop}
 use Rattle.sets.specs.Sets.{member}
-use Rattle.gate.specs.declared.Sizes.{Sizes}
+use Rattle.sizes.specs.declared.Sizes.{Sizes}
 use Rattle.frames.specs.declared.Rule.{Rule}
 use Rattle.frames.specs.Book.{Contents, noQuery}
 use Rattle.requests.specs.Requests.{requestOf, wellFormed}
