@@ -8,6 +8,9 @@
 //!
 //! A refused request's answer is compared whole: number, line, and the rule and term that 15 tells. Each run counts
 //! what 13 and 15 met, on whole books and ledgers and on such with one bit changed.
+//!
+//! Each attribute has its own count of values. Each run of drawn books counts those whose counts are not all the same, what
+//! became of them, and what was refused for a value that a neighbour has: another attribute of the same book.
 
 use std::env;
 use std::fs;
@@ -15,7 +18,7 @@ use std::path::PathBuf;
 use std::thread::panicking;
 
 use bixorgun::bytes::{self, Planned, Shown};
-use bixorgun::{Attr, Book, Judgement, Ledger, Person, Refusal, Request, LEDGER_SIZE, PLAN_MAX, VIEW_SIZE};
+use bixorgun::{plan_size, Attr, Book, Judgement, Ledger, Person, Refusal, Request, LEDGER_SIZE, PLAN_MAX, VIEW_SIZE};
 use reference::book::Sizes;
 use reference::gen::{self, Draft, Rng};
 use reference::plan::{closure, demand};
@@ -52,6 +55,7 @@ struct Counts {
     requests: usize,
     longest: usize,
     ladders: Ladders,
+    ranges: Ranges,
     /// Of requests as they were drawn, and of those where one bit of the ledger and of the book is another.
     matches: Matches,
     bent_ledgers: Matches,
@@ -219,17 +223,223 @@ impl Ladders {
     }
 }
 
-/// The fields a and v of the ladder terms of a line; none where it is no rule.
-fn ladder_terms(text: &[u8], line: usize) -> Vec<[u8; 2]> {
+/// The frame of a line; empty where it has none.
+fn frame(text: &[u8], line: usize) -> Vec<u8> {
     let digits = text.split(|&character| character == b'\n').nth(line.saturating_sub(1)).unwrap_or(&[]);
     let byte = |two: &[u8]| u8::from_str_radix(&String::from_utf8_lossy(two), 16).ok();
-    let frame: Option<Vec<u8>> = digits.chunks(2).map(byte).collect();
-    match frame.as_deref() {
-        Some(&[3, _, _, _, _, _, ref terms @ ..]) => {
+    digits.chunks(2).map(byte).collect::<Option<_>>().unwrap_or_default()
+}
+
+/// The fields a and v of the ladder terms of a line; none where it is no rule.
+fn ladder_terms(text: &[u8], line: usize) -> Vec<[u8; 2]> {
+    match frame(text, line)[..] {
+        [3, _, _, _, _, _, ref terms @ ..] => {
             terms.chunks_exact(3).filter(|term| term[0] == 5).map(|term| [term[1], term[2]]).collect()
         }
         _ => Vec::new(),
     }
+}
+
+const FIRST_LINES: [&str; 13] = [
+    "4, too short for its A",
+    "4, a count fewer",
+    "4, a count more",
+    "4, A raised alone",
+    "4, A lowered alone",
+    "4, over 64 bytes",
+    "4, and a field out of range",
+    "5, A = 0",
+    "5, A = 9",
+    "5, A = 255",
+    "5, over 64 bytes",
+    "5, a count of 0",
+    "5, a count over 16",
+];
+
+const PLACES: [&str; 7] = ["rule", "term 01", "term 02", "term 05", "person's fact", "crew's fact", "query's set"];
+
+/// What rests on each attribute's own count. A value is a neighbour's when its own attribute has it not, but another
+/// attribute of the book has: were the highest count that of all, nothing would be refused. The answers here are the
+/// reference's; the library's have been seen to be the same.
+#[derive(Default)]
+struct Ranges {
+    /// Accepted books of two attributes or more, and those of them whose counts differ: these alone count below.
+    several: usize,
+    differing: usize,
+    plans: usize,
+    no_ways: usize,
+    /// A buffer of 10 × F bytes that serves, and one of a byte less that is refused by 10.
+    whole_buffers: usize,
+    short_buffers: usize,
+    /// Books refused by 5 for a neighbour's value, by [`PLACES`].
+    places: [usize; PLACES.len()],
+    /// Requests refused by 12 for a neighbour's value, by op, 01 to 04.
+    requests: [usize; 4],
+    /// Ledgers refused by 11 for a neighbour's value of a person and of a crew, in request and in show.
+    in_request: [usize; 2],
+    in_show: [usize; 2],
+    /// Books refused on their first line, by [`FIRST_LINES`].
+    first_lines: [usize; FIRST_LINES.len()],
+}
+
+impl Ranges {
+    fn totals(&self) -> [(&'static str, usize); 5] {
+        [
+            ("books whose counts differ", self.differing),
+            ("plans", self.plans),
+            ("no ways", self.no_ways),
+            ("whole buffers", self.whole_buffers),
+            ("buffers refused by 10", self.short_buffers),
+        ]
+    }
+
+    fn refusals(&self) -> [(&'static str, &[usize]); 4] {
+        [
+            ("5 by places", &self.places),
+            ("12 by ops", &self.requests),
+            ("11 of persons and crews, request", &self.in_request),
+            ("11 of persons and crews, show", &self.in_show),
+        ]
+    }
+
+    fn print(&self) {
+        let totals = self.totals().map(|(name, times)| format!("{name}: {times}"));
+        println!("  own counts, books of several attributes: {}, {}", self.several, totals.join(", "));
+        let refusals = self.refusals().map(|(name, times)| format!("{name}: {times:?}"));
+        println!("  own counts, for a neighbour's value, {}; places: {}", refusals.join(", "), PLACES.join(", "));
+        let first: Vec<_> = FIRST_LINES.iter().zip(self.first_lines).map(|(name, n)| format!("{name}: {n}")).collect();
+        println!("  first lines, {}", first.join("; "));
+    }
+
+    /// The counts of most books differ, and everything was seen so often.
+    fn all_seen(&self, least: usize) {
+        assert!(3 * self.differing > 2 * self.several, "{} books of {}", self.differing, self.several);
+        for (name, times) in self.totals() {
+            assert!(times >= 10 * least, "own counts, {name}: {times}");
+        }
+        for (name, times) in self.refusals() {
+            assert!(times.iter().all(|&times| times >= least), "own counts, {name}: {times:?}");
+        }
+        for (name, times) in FIRST_LINES.iter().zip(self.first_lines) {
+            assert!(times >= least, "first lines, {name}: {times}");
+        }
+    }
+
+    fn accepted(&mut self, sizes: &Sizes) {
+        self.several += usize::from(sizes.attrs() > 1);
+        self.differing += usize::from(sizes.differ());
+    }
+
+    /// A refused book, by the line that is refused; `drawn` are its sizes before any damage.
+    fn refused(&mut self, text: &[u8], refusal: book::Refusal, drawn: &Sizes) {
+        let frame = frame(text, refusal.line);
+        if refusal.line == 1 {
+            let seen = first_line(&frame, refusal.number(), drawn);
+            self.first_lines.iter_mut().zip(seen).for_each(|(times, seen)| *times += usize::from(seen));
+        } else if refusal.number() == 5 {
+            let first = text.split_inclusive(|&character| character == b'\n').next().unwrap_or(&[]);
+            let sizes = book::read(&[first, b"050100000000\n"].concat()).expect("a good first line").sizes;
+            let wide = sizes.widened();
+            let wider = Draft { sizes: wide, frames: vec![gen::first_frame(&wide)] }.text();
+            let wider = book::read(&[&wider, &text[first.len()..]].concat());
+            if wider != Err(refusal) {
+                let seen = places(&frame, &sizes);
+                self.places.iter_mut().zip(seen).for_each(|(times, seen)| *times += usize::from(seen));
+            }
+        }
+    }
+
+    fn request(&mut self, sizes: &Sizes, ledger: &[u8], request: &[u8]) {
+        let wide = sizes.widened();
+        if let Some(seen) = neighbours_bits(sizes, ledger) {
+            self.in_request.iter_mut().zip(seen).for_each(|(times, seen)| *times += usize::from(seen));
+        } else if ledger::Ledger::from_bytes(sizes, ledger).is_some() {
+            let fits = |sizes| ledger::Request::from_bytes(sizes, request).is_some();
+            if !fits(sizes) && fits(&wide) {
+                self.requests[usize::from(request[0]) - 1] += 1;
+            }
+        }
+    }
+
+    fn show(&mut self, sizes: &Sizes, ledger: &[u8]) {
+        if let Some(seen) = neighbours_bits(sizes, ledger) {
+            self.in_show.iter_mut().zip(seen).for_each(|(times, seen)| *times += usize::from(seen));
+        }
+    }
+
+    fn plan(&mut self, sizes: &Sizes, length: usize, planned: Option<Planned>) {
+        if !sizes.differ() {
+            return;
+        }
+        let need = 10 * sizes.facts();
+        match planned {
+            Some(Planned::Plan(_)) => self.plans += 1,
+            Some(Planned::NoWay) => self.no_ways += 1,
+            None => self.short_buffers += usize::from(length == need - 1),
+        }
+        self.whole_buffers += usize::from(planned.is_some() && length == need);
+    }
+}
+
+/// Which of [`FIRST_LINES`] a refused first line is; none where it is no frame 01.
+fn first_line(frame: &[u8], number: u8, drawn: &Sizes) -> [bool; FIRST_LINES.len()] {
+    let (four, five) = (frame.first() == Some(&1) && number == 4, frame.first() == Some(&1) && number == 5);
+    let (attrs, counts) = (frame.get(3).copied(), frame.get(4..).unwrap_or(&[]));
+    let own = Some(drawn.attrs());
+    // The same number of counts as was drawn, with another A.
+    let alone = counts.len() == usize::from(drawn.attrs());
+    let persons = frame.get(1).is_some_and(|persons| !(1..=64).contains(persons));
+    let crews = frame.get(2).is_some_and(|&crews| crews > 32);
+    let bad = |count: &u8| !(1..=16).contains(count);
+    [
+        four && attrs.is_none(),
+        four && attrs == own && counts.len() + 1 == usize::from(drawn.attrs()),
+        four && attrs == own && counts.len() == usize::from(drawn.attrs()) + 1,
+        four && alone && attrs > own,
+        four && alone && attrs < own,
+        four && frame.len() > 64,
+        four && (persons || crews || counts.iter().any(bad)),
+        five && attrs == Some(0),
+        five && attrs == Some(9),
+        five && attrs == Some(255),
+        five && frame.len() > 64,
+        five && counts.contains(&0),
+        five && counts.iter().any(|&count| count > 16),
+    ]
+}
+
+/// In which of [`PLACES`] a frame has a neighbour's value.
+fn places(frame: &[u8], sizes: &Sizes) -> [bool; PLACES.len()] {
+    let wide = sizes.widened();
+    let neighbours = |a, v| sizes.pair(a, v).is_none() && wide.pair(a, v).is_some();
+    match *frame {
+        [3, op, _, a, v, _, ref terms @ ..] => {
+            let term = |kind| terms.chunks_exact(3).any(|term| term[0] == kind && neighbours(term[1], term[2]));
+            [(1..=4).contains(&op) && neighbours(a, v), term(1), term(2), term(5), false, false, false]
+        }
+        [4, k, _, a, v] => [false, false, false, false, k == 1 && neighbours(a, v), k == 2 && neighbours(a, v), false],
+        [5, _, _, _, _, q, ref rest @ ..] => {
+            let mut sets = rest.chunks_exact(3).take(q.into());
+            let outside = sets.any(|of| {
+                let (attr, set) = (book::Attr(of[0]), u16::from_be_bytes([of[1], of[2]]));
+                set & !sizes.all_values(attr) & wide.all_values(attr) != 0
+            });
+            [false, false, false, false, false, false, outside]
+        }
+        _ => [false; PLACES.len()],
+    }
+}
+
+/// Whether a ledger has neighbours' values of persons and of crews; nothing where it is good or bad for another reason.
+fn neighbours_bits(sizes: &Sizes, bytes: &[u8]) -> Option<[bool; 2]> {
+    let fits = |sizes| ledger::Ledger::from_bytes(sizes, bytes).is_some();
+    if fits(sizes) || !fits(&sizes.widened()) {
+        return None;
+    }
+    Some([&bytes[..1_024], &bytes[1_024..1_536]].map(|rows| {
+        let sets = (0..8).cycle().map(book::Attr).zip(rows.chunks_exact(2));
+        sets.map(|(attr, set)| u16::from_be_bytes([set[0], set[1]]) & !sizes.all_values(attr)).any(|rest| rest != 0)
+    }))
 }
 
 /// An accepted book with ladder terms, and the two that tell what rests on them. The answers here are the reference's;
@@ -501,7 +711,7 @@ impl Case {
     }
 
     /// Plans in a buffer of a length; both plans are then replayed by both, whole and damaged.
-    fn plan(&self, length: usize, rng: &mut Rng, counts: &mut Counts) {
+    fn plan(&self, length: usize, rng: &mut Rng, counts: &mut Counts) -> Option<Planned> {
         let before = filled(rng, length);
         let (mut here, mut there) = (before.clone(), before.clone());
         let answer = bytes::plan_into(&self.text, &mut here).map_err(ours);
@@ -532,6 +742,7 @@ impl Case {
             }
             differ => panic!("plan: {differ:?}"),
         }
+        answer.ok()
     }
 
     /// A plan with a request lost or doubled, a bit changed, and its end cut.
@@ -595,10 +806,33 @@ fn bend(
     }
 }
 
+/// An accepted book with a request and with ledgers that have a neighbour's value.
+fn neighbours(case: &Case, sizes: &Sizes, whole: &[u8], rng: &mut Rng, counts: &mut Counts) {
+    let (Some(request), Some(ledger)) = (gen::neighbours_request(rng, sizes), gen::neighbours_ledger(rng, sizes))
+    else {
+        return;
+    };
+    case.request(whole, &request, counts);
+    counts.ranges.request(sizes, whole, &request);
+    let good = gen::request(rng, sizes);
+    case.request(&ledger, &good, counts);
+    counts.ranges.request(sizes, &ledger, &good);
+    case.show(&ledger, rng.byte(0, sizes.persons - 1), VIEW_SIZE, rng, counts);
+    counts.ranges.show(sizes, &ledger);
+}
+
 /// All five operations on one book: what is lent is now good and now bad.
 fn operate(case: &Case, sizes: Sizes, rng: &mut Rng, counts: &mut Counts) {
     counts.books += 1;
-    let book = book::read(&case.text).map_err(|refusal| counts.ladders.refused(&case.text, refusal, sizes)).ok();
+    let book = book::read(&case.text);
+    match &book {
+        Ok(book) => counts.ranges.accepted(&book.sizes),
+        Err(refusal) => {
+            counts.ladders.refused(&case.text, *refusal, sizes);
+            counts.ranges.refused(&case.text, *refusal, &sizes);
+        }
+    }
+    let book = book.ok();
     let sizes = book.as_ref().map_or(sizes, |book| book.sizes);
     let twins = book.as_ref().and_then(|book| Twins::of(book, &mut counts.ladders));
 
@@ -624,6 +858,7 @@ fn operate(case: &Case, sizes: Sizes, rng: &mut Rng, counts: &mut Counts) {
         bytes = case.request(&before, &request, counts);
         if let Some(book) = &book {
             counts.matches.request(book, &before, &request);
+            counts.ranges.request(&sizes, &before, &request);
         }
         if let Some(twins) = &twins {
             twins.request(&before, &request, &mut counts.ladders);
@@ -632,11 +867,15 @@ fn operate(case: &Case, sizes: Sizes, rng: &mut Rng, counts: &mut Counts) {
     let person = if rng.percent(85) { rng.byte(0, sizes.persons - 1) } else { rng.pick(&[sizes.persons, 64, 255]) };
     let room = if rng.percent(80) { VIEW_SIZE + rng.below(4) } else { rng.below(VIEW_SIZE) };
     case.show(&bytes, person, room, rng, counts);
+    if book.is_some() && rng.percent(25) {
+        neighbours(case, &sizes, &bytes, rng, counts);
+    }
     if let Ok(whole) = <&[u8; LEDGER_SIZE]>::try_from(&bytes[..]) {
         (0..2).for_each(|_| bend(case, book.as_ref(), sizes, whole, rng, counts));
     }
 
     let need = 10 * sizes.facts();
+    assert_eq!(plan_size(sizes.crews.into(), sizes.pairs().count()), need);
     let length = match rng.below(10) {
         0 => need - 1,
         1 => rng.below(need),
@@ -644,7 +883,10 @@ fn operate(case: &Case, sizes: Sizes, rng: &mut Rng, counts: &mut Counts) {
         3 => PLAN_MAX,
         _ => need,
     };
-    case.plan(length, rng, counts);
+    let planned = case.plan(length, rng, counts);
+    if book.is_some() {
+        counts.ranges.plan(&sizes, length, planned);
+    }
     if let Some(twins) = twins.as_ref().filter(|_| length >= need) {
         twins.plan(&mut counts.ladders);
     }
@@ -667,7 +909,8 @@ fn shift() -> u64 {
     }
 }
 
-/// So many cases: most are good books, some are damaged by each of 1 to 9, some by noise.
+/// So many cases: most are good books, some are damaged by each of 1 to 9, some by noise, some by a neighbour's value and
+/// some in their first line.
 fn run(name: &'static str, first: u64, cases: u64, draw: impl Fn(&mut Rng) -> Draft) -> Counts {
     let mut counts = Counts::default();
     let first = first + shift();
@@ -676,16 +919,31 @@ fn run(name: &'static str, first: u64, cases: u64, draw: impl Fn(&mut Rng) -> Dr
         let draft = draw(&mut rng);
         let mut case = Case { run: name, seed, text: draft.text() };
         let kind = rng.below(100);
-        if kind < 18 {
-            let number = (kind % 9 + 1) as u8;
-            if let Some((text, line)) = gen::damaged_book(&mut rng, number, &draft) {
-                case.text = text;
-                assert_eq!(
-                    Book::new(&case.text).open().map_err(ours),
-                    Err(Turned { line: Some(line), ..Turned::lone(number) })
-                );
+        let (number, damaged) = match kind {
+            0..18 => {
+                let number = (kind % 9 + 1) as u8;
+                (number, gen::damaged_book(&mut rng, number, &draft))
             }
-        } else if kind < 30 {
+            18..25 => (5, gen::neighbours_book(&mut rng, &draft)),
+            25..31 => {
+                let (number, first) = if rng.percent(50) {
+                    (4, gen::bad_counts(&mut rng, &draft.sizes))
+                } else {
+                    (5, gen::bad_sizes(&mut rng, &draft.sizes))
+                };
+                let mut draft = draft.clone();
+                draft.frames[0] = first;
+                (number, Some((draft.text(), 1)))
+            }
+            _ => (0, None),
+        };
+        if let Some((text, line)) = damaged {
+            case.text = text;
+            assert_eq!(
+                Book::new(&case.text).open().map_err(ours),
+                Err(Turned { line: Some(line), ..Turned::lone(number) })
+            );
+        } else if kind >= 92 {
             gen::noise(&mut rng, &mut case.text);
         }
         operate(&case, draft.sizes, &mut rng, &mut counts);
@@ -693,8 +951,10 @@ fn run(name: &'static str, first: u64, cases: u64, draw: impl Fn(&mut Rng) -> Dr
     counts.print(name);
     counts.ladders.print();
     counts.print_matches();
+    counts.ranges.print();
     counts.all_seen();
     counts.matches.all_seen("requests", cases as usize / 200);
+    counts.ranges.all_seen(cases as usize / 1_000);
     counts
 }
 
@@ -749,7 +1009,7 @@ fn crowded() {
 
 #[test]
 fn large() {
-    let Counts { ladders, matches, .. } = run("large", 0x0B1C_5000_0000, 600, |rng| {
+    let Counts { ladders, matches, ranges, .. } = run("large", 0x0B1C_5000_0000, 600, |rng| {
         let mut draft = gen::large_book(rng);
         if rng.percent(50) {
             let book = book::read(&draft.text()).expect("a good book");
@@ -760,15 +1020,24 @@ fn large() {
     });
     assert!(ladders.plans_by > 0);
     assert!(matches.highest.0 > 256, "{:?}", matches.highest);
+    assert!(ranges.plans > 50 && ranges.no_ways > 30 && ranges.whole_buffers > 50 && ranges.short_buffers > 5);
+    for (name, times) in ranges.refusals() {
+        assert!(times.iter().sum::<usize>() > 15, "own counts, {name}: {times:?}");
+    }
 }
 
-/// A line of about 64 bytes or more, of any kind, by the length that its n or q gives or by another; some have a digit too
-/// many or another character.
+/// A line of about 64 bytes or more, of any kind, by the length that its n, q or A gives or by another; some have a digit
+/// too many or another character.
 fn long_line(rng: &mut Rng) -> Vec<u8> {
     let mut frame: Vec<u8> = (0..6).map(|_| rng.below(7) as u8).collect();
     frame[5] = 16 + rng.below(8) as u8;
     let crews = if frame[0] == 5 && frame[1] == 2 { 4 } else { 0 };
-    let due = 6 + 3 * usize::from(frame[5]) + crews;
+    let due = if frame[0] == 1 {
+        frame[3] = if rng.percent(80) { 56 + rng.below(10) } else { 66 + rng.below(190) } as u8;
+        4 + usize::from(frame[3])
+    } else {
+        6 + 3 * usize::from(frame[5]) + crews
+    };
     let length = if rng.percent(50) { due } else { 60 + rng.below(10) };
     frame.resize_with(length, || rng.below(4) as u8);
     let mut line: Vec<u8> = frame.iter().flat_map(|byte| format!("{byte:02X}").into_bytes()).collect();
@@ -791,15 +1060,25 @@ fn long_lines() {
     let first = 0x0B1C_7000_0000 + shift();
     for seed in first..first + 10_000 {
         let mut rng = Rng::new(seed);
-        let text = gen::small_book(&mut rng).text();
+        let draft = gen::small_book(&mut rng);
+        let (sizes, text) = (draft.sizes, draft.text());
         let mut lines: Vec<Vec<u8>> = text.split_inclusive(|&c| c == b'\n').map(<[u8]>::to_vec).collect();
-        lines.insert(rng.below(lines.len() + 1), long_line(&mut rng));
+        let long = long_line(&mut rng);
+        let first = long.starts_with(b"01") && rng.percent(80);
+        lines.insert(if first { 0 } else { rng.below(lines.len() + 1) }, long);
         let case = Case { run: "long lines", seed, text: lines.concat() };
         counts.books += 1;
+        if let Err(refusal) = book::read(&case.text) {
+            counts.ranges.refused(&case.text, refusal, &sizes);
+        }
         case.open(&filled(&mut rng, LEDGER_SIZE), &mut counts);
     }
     counts.print("long lines");
+    counts.ranges.print();
     assert!((2..=5).all(|number| counts.refusals[OPEN][number] > 100));
+    for (name, times) in FIRST_LINES.iter().zip(counts.ranges.first_lines).filter(|(name, _)| name.contains("64")) {
+        assert!(times > 100, "{name}: {times}");
+    }
 }
 
 /// The repository's stored books, good and bad.
@@ -820,6 +1099,7 @@ fn stored() {
     counts.print("stored");
     counts.ladders.print();
     counts.print_matches();
+    counts.ranges.print();
     counts.all_seen();
     counts.matches.all_seen("requests", 1);
     assert!(counts.books > 1_000);

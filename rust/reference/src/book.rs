@@ -15,7 +15,7 @@ pub const MOST_PERSONS: usize = 64;
 pub const MOST_CREWS: usize = 32;
 /// "attributes 1-8"
 pub const MOST_ATTRS: usize = 8;
-/// "values of each attribute 1-16"
+/// "one count of 1-16 for each attribute"
 pub const MOST_VALUES: usize = 16;
 /// "Roles 00-0F, n 0-8."
 pub const ROLES: u8 = 16;
@@ -59,20 +59,53 @@ number!(
     Role
 );
 
-/// "**01 P G A V**: persons 1-64, crews 0-32, attributes 1-8, values of each attribute 1-16. All are numbered from 0."
+/// "persons 1-64, crews 0-32, attributes 1-8" ... "All are numbered from 0."
+///
+/// "Frame 01 becomes P G A, then one count of 1-16 for each attribute."
 #[derive(Clone, Copy, Debug, PartialEq, Eq)]
 pub struct Sizes {
     /// P
     pub persons: u8,
     /// G
     pub crews: u8,
-    /// A
-    pub attrs: u8,
-    /// V
-    pub values: u8,
+    /// The count of each attribute, 0 for an absent one.
+    pub counts: [u8; MOST_ATTRS],
 }
 
 impl Sizes {
+    /// The sizes of a depot whose attributes have these counts, eight at most.
+    #[must_use]
+    pub fn new(persons: u8, crews: u8, own: &[u8]) -> Self {
+        let mut counts = [0; MOST_ATTRS];
+        counts[..own.len()].copy_from_slice(own);
+        Sizes { persons, crews, counts }
+    }
+
+    /// A
+    #[must_use]
+    pub fn attrs(&self) -> u8 {
+        self.counts.iter().filter(|&&count| count > 0).count() as u8
+    }
+
+    /// The count of an attribute's values, 0 for an absent one.
+    #[must_use]
+    pub fn values(&self, attr: Attr) -> u8 {
+        self.counts.get(attr.index()).copied().unwrap_or(0)
+    }
+
+    /// Whether two attributes have not the same count.
+    #[must_use]
+    pub fn differ(&self) -> bool {
+        self.counts[..self.attrs().into()].windows(2).any(|two| two[0] != two[1])
+    }
+
+    /// The same depot with the highest of the counts for every attribute.
+    #[must_use]
+    pub fn widened(&self) -> Self {
+        let highest = self.counts.into_iter().max().unwrap_or(0);
+        Sizes { counts: self.counts.map(|count| if count > 0 { highest } else { 0 }), ..*self }
+    }
+
     /// A person's number, when there is such a person.
     #[must_use]
     pub fn person(&self, number: u8) -> Option<Person> {
@@ -85,21 +118,28 @@ impl Sizes {
         (number < self.crews).then_some(Crew(number))
     }
 
-    /// An attribute and one of its values, when both are there.
+    /// An attribute and one of its values, when both are there: "All value fields, query sets and ledger bits are
+    /// bounded by their own attribute's count."
     #[must_use]
     pub fn pair(&self, attr: u8, value: u8) -> Option<(Attr, Value)> {
-        (attr < self.attrs && value < self.values).then_some((Attr(attr), Value(value)))
+        (value < self.values(Attr(attr))).then_some((Attr(attr), Value(value)))
     }
 
-    /// A value and all higher ones, rising.
-    pub fn and_higher(&self, value: Value) -> impl Iterator<Item = Value> {
-        (value.0..self.values).map(Value)
+    /// Every value of every attribute, rising.
+    pub fn pairs(&self) -> impl Iterator<Item = (Attr, Value)> {
+        let counts = (0..).map(Attr).zip(self.counts);
+        counts.flat_map(|(attr, count)| (0..count).map(move |value| (attr, Value(value))))
     }
 
-    /// Every value of an attribute: a set of sixteen bits.
+    /// A value of an attribute and all its higher ones, rising.
+    pub fn and_higher(&self, attr: Attr, value: Value) -> impl Iterator<Item = Value> {
+        (value.0..self.values(attr)).map(Value)
+    }
+
+    /// Every value of an attribute: a set of sixteen bits, empty for an absent one.
     #[must_use]
-    pub fn all_values(&self) -> u16 {
-        u16::MAX >> (16 - self.values)
+    pub fn all_values(&self, attr: Attr) -> u16 {
+        u16::MAX.checked_shr(16 - u32::from(self.values(attr))).unwrap_or(0)
     }
 
     /// Every crew: a set of 32 bits.
@@ -108,11 +148,12 @@ impl Sizes {
         u32::MAX.checked_shr(32 - u32::from(self.crews)).unwrap_or(0)
     }
 
-    /// "With F = (1 + G) × A × V + G"
+    /// "F becomes (1 + G) × the sum of the counts, plus G."
     #[must_use]
     pub fn facts(&self) -> usize {
         let crews = usize::from(self.crews);
-        (1 + crews) * usize::from(self.attrs) * usize::from(self.values) + crews
+        let sum: usize = self.counts.into_iter().map(usize::from).sum();
+        (1 + crews) * sum + crews
     }
 }
 
@@ -336,7 +377,7 @@ pub enum Fault {
     Characters = 2,
     /// "first frame not 01, a later 01, kind not 01-05, a frame after 05, book ends without 05 (line after the last)"
     Kind = 3,
-    /// "any length but the one that the kind, with its n or q, gives"
+    /// "any length but the one that the kind, with its n or q, gives"; "Refusal 4 judges frame 01 by its A"
     Length = 4,
     /// "a field outside its range, n over 8, q over 8, a set bit outside the sizes"
     Range = 5,
@@ -469,15 +510,19 @@ impl Reader {
     }
 }
 
+/// "Refusal 4 judges frame 01 by its A": by the A as written, in its range or not.
 fn sizes(frame: &[u8]) -> Result<Sizes, Fault> {
-    let &[_, persons, crews, attrs, values] = frame else {
+    let &[_, persons, crews, attrs, ref counts @ ..] = frame else {
         return Err(Fault::Length);
     };
+    if counts.len() != usize::from(attrs) {
+        return Err(Fault::Length);
+    }
     let good = (1..=MOST_PERSONS).contains(&persons.into())
         && usize::from(crews) <= MOST_CREWS
-        && (1..=MOST_ATTRS).contains(&attrs.into())
-        && (1..=MOST_VALUES).contains(&values.into());
-    good.then_some(Sizes { persons, crews, attrs, values }).ok_or(Fault::Range)
+        && (1..=MOST_ATTRS).contains(&counts.len())
+        && counts.iter().all(|&count| (1..=MOST_VALUES).contains(&count.into()));
+    good.then(|| Sizes::new(persons, crews, counts)).ok_or(Fault::Range)
 }
 
 fn edge(sizes: &Sizes, frame: &[u8]) -> Result<(Crew, Crew), Fault> {
@@ -550,7 +595,7 @@ fn query(sizes: &Sizes, frame: &[u8]) -> Result<Query, Fault> {
     let (sets, crews) = rest.split_at(3 * q);
     let named: Vec<(Attr, u16)> =
         sets.chunks_exact(3).map(|t| (Attr(t[0]), u16::from_be_bytes([t[1], t[2]]))).collect();
-    let outside = |&(attr, set): &(Attr, u16)| attr.0 >= sizes.attrs || set & !sizes.all_values() != 0;
+    let outside = |&(attr, set): &(Attr, u16)| attr.0 >= sizes.attrs() || set & !sizes.all_values(attr) != 0;
     if q > MOST_ATTRS || named.iter().any(outside) {
         return Err(Fault::Range);
     }
@@ -584,7 +629,7 @@ mod tests {
     #[test]
     fn the_example_book() {
         let book = read(EXAMPLE.as_bytes()).expect("accepted");
-        assert_eq!(book.sizes, Sizes { persons: 1, crews: 1, attrs: 1, values: 2 });
+        assert_eq!(book.sizes, Sizes { persons: 1, crews: 1, counts: [2, 0, 0, 0, 0, 0, 0, 0] });
         assert_eq!(book.sizes.facts(), 5);
         assert!(book.edges.is_empty());
         let add = Rule { role: Role(0), way: Way::Add, what: What::OfPerson(Attr(0), Value(1)), terms: vec![] };
@@ -662,13 +707,13 @@ mod tests {
                 .map(|book| book.rules[0].terms.clone())
                 .map_err(|refusal| (refusal.number(), refusal.line))
         };
-        // One crew, attributes 0 and 1, values 0, 1 and 2.
-        let head = "0101010203";
+        // One crew, three values of attribute 0 and five of attribute 1.
+        let head = "010101020305";
         for op in 1..=6 {
-            for (a, v) in [(0, 0), (0, 2), (1, 0), (1, 2)] {
+            for (a, v) in [(0, 0), (0, 2), (1, 0), (1, 2), (1, 4)] {
                 assert_eq!(lone(head, op, &[[5, a, v]]), Ok(vec![Term::Ladder(Attr(a), Value(v))]), "op {op}");
             }
-            for (a, v) in [(2, 0), (0, 3), (2, 3), (255, 0), (0, 255)] {
+            for (a, v) in [(2, 0), (0, 3), (0, 4), (1, 5), (2, 3), (255, 0), (0, 255)] {
                 assert_eq!(lone(head, op, &[[5, a, v]]), Err((5, 2)), "op {op}, {a} {v}");
             }
             for kind in (0..=255).filter(|kind| !(1..=5).contains(kind)) {
@@ -679,10 +724,10 @@ mod tests {
         }
         // No crew: a rule about crews may have the term too; there is none to assign to or to remove from.
         for op in 1..=4 {
-            assert_eq!(lone("0101000203", op, &[[5, 1, 2]]), Ok(vec![Term::Ladder(Attr(1), Value(2))]), "op {op}");
+            assert_eq!(lone("010100020303", op, &[[5, 1, 2]]), Ok(vec![Term::Ladder(Attr(1), Value(2))]), "op {op}");
         }
         for op in 5..=6 {
-            assert_eq!(lone("0101000203", op, &[[5, 1, 2]]), Err((5, 2)), "op {op}");
+            assert_eq!(lone("010100020303", op, &[[5, 1, 2]]), Err((5, 2)), "op {op}");
         }
     }
 
@@ -690,7 +735,7 @@ mod tests {
     #[test]
     fn ladder_terms_beside_others() {
         let (ladder, inside, under) = ([5, 1, 2], [3, 0, 0], [4, 0, 0]);
-        let line = |op, terms: &[[u8; 3]]| format!("0101010203\n{}050100000000\n", rule_line(op, terms));
+        let line = |op, terms: &[[u8; 3]]| format!("010101020303\n{}050100000000\n", rule_line(op, terms));
         for op in 1..=6 {
             for crew in [inside, under] {
                 for terms in [[ladder, crew], [crew, ladder]] {
@@ -710,7 +755,8 @@ mod tests {
 
     #[test]
     fn ladders_in_a_book() {
-        let text = format!("0101010203\n{}{}050100000000\n", rule_line(5, &[[5, 1, 2], [3, 0, 0]]), rule_line(1, &[]));
+        let text =
+            format!("010101020303\n{}{}050100000000\n", rule_line(5, &[[5, 1, 2], [3, 0, 0]]), rule_line(1, &[]));
         let book = read(text.as_bytes()).expect("accepted");
         assert!(book.has_ladder() && book.rules[0].has_ladder() && !book.rules[1].has_ladder());
         let of = |book: &Book| book.rules[0].terms.clone();
@@ -719,18 +765,157 @@ mod tests {
         assert_eq!(of(&book.ladders_cut()), [Term::EffectivelyHolds(Attr(1), Value(2)), inside]);
         assert_eq!(of(&book.ladders_dropped()), [inside]);
         assert!(!book.ladders_cut().has_ladder() && !book.ladders_dropped().has_ladder());
-        assert!(book.sizes.and_higher(Value(1)).eq([Value(1), Value(2)]));
     }
+
+    /// The shift has three values and the lane sixteen, as in the wish, and a third attribute has one.
+    const SHIFT_AND_LANE: Sizes = Sizes { persons: 64, crews: 2, counts: [3, 16, 1, 0, 0, 0, 0, 0] };
 
     #[test]
     fn sizes_give_sets() {
-        let sizes = |crews, values| Sizes { persons: 1, crews, attrs: 1, values };
-        assert_eq!(sizes(0, 1).all_crews(), 0);
-        assert_eq!(sizes(31, 1).all_crews(), u32::MAX >> 1);
-        assert_eq!(sizes(32, 1).all_crews(), u32::MAX);
-        assert_eq!(sizes(0, 1).all_values(), 1);
-        assert_eq!(sizes(0, 16).all_values(), u16::MAX);
-        assert_eq!(Sizes { persons: 64, crews: 32, attrs: 8, values: 16 }.facts(), 4_256);
+        let sizes = |crews| Sizes::new(1, crews, &[1]);
+        assert_eq!(sizes(0).all_crews(), 0);
+        assert_eq!(sizes(31).all_crews(), u32::MAX >> 1);
+        assert_eq!(sizes(32).all_crews(), u32::MAX);
+        let sizes = SHIFT_AND_LANE;
+        assert_eq!([0, 1, 2, 3, 7, 8, 255].map(|a| sizes.all_values(Attr(a))), [7, u16::MAX, 1, 0, 0, 0, 0]);
+        assert_eq!([0, 1, 2, 3, 7, 8, 255].map(|a| sizes.values(Attr(a))), [3, 16, 1, 0, 0, 0, 0]);
+        assert_eq!(sizes.pairs().count(), 20);
+        assert!(sizes.pairs().all(|(a, v)| sizes.pair(a.0, v.0) == Some((a, v))));
+        let inside = (0..=255).flat_map(|a| (0..=255).map(move |v| sizes.pair(a, v))).flatten();
+        assert!(inside.eq(sizes.pairs()));
+        assert!(sizes.and_higher(Attr(0), Value(1)).eq([1, 2].map(Value)));
+        assert!(sizes.and_higher(Attr(1), Value(1)).eq((1..16).map(Value)));
+        assert!(sizes.and_higher(Attr(2), Value(0)).eq([Value(0)]));
+    }
+
+    #[test]
+    fn sizes_beside_one_another() {
+        assert_eq!(SHIFT_AND_LANE.attrs(), 3);
+        assert!(SHIFT_AND_LANE.differ());
+        assert_eq!(SHIFT_AND_LANE.widened().counts, [16, 16, 16, 0, 0, 0, 0, 0]);
+        for counts in [&[4][..], &[4, 4], &[16; 8]] {
+            let sizes = Sizes::new(1, 0, counts);
+            assert!(!sizes.differ());
+            assert_eq!(sizes.widened(), sizes);
+        }
+        assert!(Sizes::new(1, 0, &[4, 4, 4, 4, 4, 4, 4, 3]).differ());
+    }
+
+    /// "F becomes (1 + G) × the sum of the counts, plus G."
+    #[test]
+    fn the_number_of_facts() {
+        assert_eq!(SHIFT_AND_LANE.facts(), 3 * 20 + 2);
+        assert_eq!(Sizes::new(64, 32, &[16; 8]).facts(), 4_256);
+        assert_eq!(Sizes::new(1, 0, &[1]).facts(), 1);
+        assert_eq!(Sizes::new(1, 0, &[3, 1]).facts(), 4);
+        assert_eq!(Sizes::new(64, 1, &[1, 2, 3, 4, 5, 6, 7, 8]).facts(), 2 * 36 + 1);
+    }
+
+    /// A frame 01 of one person and no crew: A, then counts.
+    fn first_line(attrs: u8, counts: &[u8]) -> String {
+        [&[1, 1, 0, attrs], counts].concat().iter().map(|byte| format!("{byte:02X}")).collect::<String>() + "\n"
+    }
+
+    /// "Refusal 4 judges frame 01 by its A": the length is 4 + A bytes for every A that can be written.
+    #[test]
+    fn the_length_of_the_first_line() {
+        for short in ["01\n", "0102\n", "010101\n", "01FF\n", "010000\n"] {
+            assert_eq!(refused(short), (4, 1), "{short}");
+        }
+        for attrs in 0..=u8::MAX {
+            let due = usize::from(attrs);
+            let whole = first_line(attrs, &vec![2; due]);
+            match attrs {
+                1..=8 => {
+                    let book = read(format!("{whole}050100000000\n").as_bytes()).expect("accepted");
+                    assert_eq!(book.sizes, Sizes::new(1, 0, &vec![2; due]));
+                }
+                _ => assert_eq!(refused(&whole), (5, 1), "A = {attrs}"),
+            }
+            for other in [0, 1, 7, 8, 9, due.saturating_sub(1), due + 1, due + 256] {
+                if other != due {
+                    assert_eq!(refused(&first_line(attrs, &vec![2; other])), (4, 1), "A = {attrs}, {other} counts");
+                }
+            }
+        }
+        // 4 comes before 5, whichever field is out of range.
+        assert_eq!(refused("01000001\n"), (4, 1));
+        assert_eq!(refused("010021010202\n"), (4, 1));
+        assert_eq!(refused("0101000200\n"), (4, 1));
+        assert_eq!(refused("01010002001102\n"), (4, 1));
+    }
+
+    /// "one count of 1-16 for each attribute"
+    #[test]
+    fn the_counts_of_the_first_line() {
+        for at in 0..8 {
+            for count in 0..=u8::MAX {
+                let mut counts = [2; 8];
+                counts[at] = count;
+                let text = format!("{}050100000000\n", first_line(8, &counts));
+                match count {
+                    1..=16 => assert_eq!(read(text.as_bytes()).map(|book| book.sizes.counts), Ok(counts)),
+                    _ => assert_eq!(refused(&text), (5, 1), "count {count} at {at}"),
+                }
+            }
+        }
+        // A count is read for its own attribute alone.
+        assert_eq!(refused("01010002100011\n"), (4, 1));
+        assert_eq!(refused("010100021000\n"), (5, 1));
+        assert_eq!(refused("010100020011\n"), (5, 1));
+        for (field, bad) in [(1, 0), (1, 65), (1, 255), (2, 33), (2, 255)] {
+            let mut frame = [1, 1, 1, 2, 3, 16];
+            frame[field] = bad;
+            let line: String = frame.iter().map(|byte| format!("{byte:02X}")).collect();
+            assert_eq!(refused(&format!("{line}\n")), (5, 1), "{line}");
+        }
+    }
+
+    /// "All value fields, query sets" ... "are bounded by their own attribute's count."
+    #[test]
+    fn every_field_by_its_own_count() {
+        let accepted = |frame: &[u8], query: &[u8]| {
+            let line = |bytes: &[u8]| bytes.iter().map(|byte| format!("{byte:02X}")).collect::<String>() + "\n";
+            let text = line(&[1, 2, 3, 3, 3, 16, 1]) + &line(frame) + &line(query);
+            match read(text.as_bytes()) {
+                Ok(_) => true,
+                Err(refusal) => {
+                    assert_eq!(refusal.number(), 5, "{text}");
+                    assert_eq!(refusal.line, if query.len() > 6 { 3 } else { 2 }, "{text}");
+                    false
+                }
+            }
+        };
+        let (edge, free) = ([2, 1, 0], [5, 1, 0, 0, 0, 0]);
+        for a in 0..=4 {
+            for v in (0..=17).chain([255]) {
+                let inside = [3, 16, 1].get(usize::from(a)).is_some_and(|&count| v < count);
+                for op in 1..=4 {
+                    assert_eq!(accepted(&[3, op, 0, a, v, 0], &free), inside, "op {op}, {a} {v}");
+                }
+                for (op, kind) in (1..=6).flat_map(|op| [1, 2, 5].map(|kind| (op, kind))) {
+                    let term = [3, op, 0, 0, 0, 2, kind, 1, 15, kind, a, v];
+                    assert_eq!(accepted(&term, &free), inside, "op {op}, kind {kind}, {a} {v}");
+                }
+                for k in 1..=2 {
+                    assert_eq!(accepted(&[4, k, 1, a, v], &free), inside, "k {k}, {a} {v}");
+                }
+                if v < 16 {
+                    let [high, low] = u16::to_be_bytes(1 << v);
+                    let query = [5, 1, 0, 0, 0, 1, a, high, low, 0, 0, 0, 0];
+                    assert_eq!(accepted(&edge, &query[..9]), inside, "mode 01, {a} {v}");
+                    let query = [&[5, 2], &query[2..]].concat();
+                    assert_eq!(accepted(&edge, &query), inside, "mode 02, {a} {v}");
+                }
+            }
+            for set in [[0, 0], [0, 1]] {
+                assert_eq!(accepted(&edge, &[&[5, 1, 0, 0, 0, 1, a], &set[..]].concat()), a < 3, "{a}, {set:?}");
+            }
+        }
+        // All values of each, beside one another.
+        assert!(accepted(&edge, &[5, 1, 0, 0, 0, 3, 0, 0, 7, 1, 255, 255, 2, 0, 1]));
+        assert!(!accepted(&edge, &[5, 1, 0, 0, 0, 3, 0, 0, 15, 1, 255, 255, 2, 0, 1]));
+        assert!(!accepted(&edge, &[5, 1, 0, 0, 0, 3, 0, 0, 7, 1, 255, 255, 2, 0, 3]));
     }
 
     #[test]

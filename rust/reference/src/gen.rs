@@ -3,7 +3,7 @@
 //! A damage is aimed at one number of the table; the expected line is given with it.
 
 use crate::book::{op, read, Attr, Book, Crew, Fact, Person, Role, Sizes, Term, Value, Way, What};
-use crate::book::{MOST_CHARACTERS, MOST_RULES, MOST_TERMS, ROLES};
+use crate::book::{MOST_ATTRS, MOST_CHARACTERS, MOST_CREWS, MOST_PERSONS, MOST_RULES, MOST_TERMS, MOST_VALUES, ROLES};
 use crate::ledger::{Depot, Ledger, Request, LEDGER_BYTES, REQUEST_BYTES};
 
 /// A small xorshift generator; the same seed gives the same numbers on every machine.
@@ -63,6 +63,13 @@ fn line(frame: &[u8]) -> Vec<u8> {
     digits.chain([b'\n']).collect()
 }
 
+/// "Frame 01 becomes P G A, then one count of 1-16 for each attribute."
+#[must_use]
+pub fn first_frame(sizes: &Sizes) -> Vec<u8> {
+    let attrs = sizes.attrs();
+    [&[1, sizes.persons, sizes.crews, attrs], &sizes.counts[..attrs.into()]].concat()
+}
+
 impl Draft {
     /// The book's characters.
     #[must_use]
@@ -102,13 +109,46 @@ pub struct Shape {
     pub roles: u8,
 }
 
+/// A count in `first..=last` for each attribute. Those of two attributes or more are seldom all the same: then one of
+/// them is drawn again three times in four.
+fn counts(rng: &mut Rng, attrs: u8, first: u8, last: u8) -> Vec<u8> {
+    let mut counts: Vec<u8> = (0..attrs).map(|_| rng.byte(first, last)).collect();
+    if counts.iter().all(|count| *count == counts[0]) && rng.percent(75) {
+        counts[rng.below(attrs.into())] = rng.byte(first, last);
+    }
+    counts
+}
+
+/// An attribute and a value that it has.
+fn pair(rng: &mut Rng, sizes: &Sizes) -> [u8; 2] {
+    let attr = rng.byte(0, sizes.attrs() - 1);
+    [attr, value(rng, sizes, attr)]
+}
+
+/// A value that an attribute has.
+fn value(rng: &mut Rng, sizes: &Sizes, attr: u8) -> u8 {
+    rng.byte(0, sizes.values(Attr(attr)) - 1)
+}
+
+/// An attribute and a value that it has not, but another attribute of the book has; nothing when all counts are the
+/// same.
+fn neighbours_pair(rng: &mut Rng, sizes: &Sizes) -> Option<[u8; 2]> {
+    if !sizes.differ() {
+        return None;
+    }
+    let highest = sizes.widened().values(Attr(0));
+    let narrow: Vec<u8> = (0..sizes.attrs()).filter(|&attr| sizes.values(Attr(attr)) < highest).collect();
+    let attr = rng.pick(&narrow);
+    Some([attr, rng.byte(sizes.values(Attr(attr)), highest - 1)])
+}
+
 /// A small depot, of at most twelve facts with all persons counted.
 pub fn small_book(rng: &mut Rng) -> Draft {
     loop {
-        let sizes =
-            Sizes { persons: rng.byte(1, 2), crews: rng.byte(0, 3), attrs: rng.byte(1, 2), values: rng.byte(1, 3) };
-        let (p, g) = (usize::from(sizes.persons), usize::from(sizes.crews));
-        let facts = (p + g) * usize::from(sizes.attrs) * usize::from(sizes.values) + p * g;
+        let (persons, crews, attrs) = (rng.byte(1, 2), rng.byte(0, 3), rng.byte(1, 2));
+        let sizes = Sizes::new(persons, crews, &counts(rng, attrs, 1, 3));
+        let (p, g) = (usize::from(persons), usize::from(crews));
+        let facts = (p + g) * sizes.pairs().count() + p * g;
         if facts <= 12 {
             let shape = Shape {
                 sizes,
@@ -134,7 +174,7 @@ pub fn small_aimed_book(rng: &mut Rng) -> Draft {
     aim(rng, &mut draft, &book, &ledger);
     if let Some(query) = draft.frames.last_mut() {
         if query[5] > 0 && rng.percent(50) {
-            query[8] ^= 1 << rng.below(draft.sizes.values.into());
+            query[8] ^= 1 << value(rng, &draft.sizes, query[6]);
         }
     }
     draft
@@ -142,7 +182,8 @@ pub fn small_aimed_book(rng: &mut Rng) -> Draft {
 
 /// A depot of a few persons, crews and attributes.
 pub fn middle_book(rng: &mut Rng) -> Draft {
-    let sizes = Sizes { persons: rng.byte(1, 4), crews: rng.byte(0, 7), attrs: rng.byte(1, 4), values: rng.byte(1, 6) };
+    let (persons, crews, attrs) = (rng.byte(1, 4), rng.byte(0, 7), rng.byte(1, 4));
+    let sizes = Sizes::new(persons, crews, &counts(rng, attrs, 1, 6));
     let shape = Shape {
         sizes,
         edges: rng.below(12),
@@ -158,8 +199,8 @@ pub fn middle_book(rng: &mut Rng) -> Draft {
 ///
 /// `most` bounds crews, attributes and values.
 pub fn tangled_book(rng: &mut Rng, most: (u8, u8, u8)) -> Draft {
-    let sizes =
-        Sizes { persons: 1, crews: rng.byte(0, most.0), attrs: rng.byte(1, most.1), values: rng.byte(1, most.2) };
+    let (crews, attrs) = (rng.byte(0, most.0), rng.byte(1, most.1));
+    let sizes = Sizes::new(1, crews, &counts(rng, attrs, 1, most.2));
     let facts = sizes.facts();
     let shape = Shape { sizes, edges: rng.below(6), rules: 0, terms: 0, facts: 0, roles: 2 };
     let mut draft = book(rng, &shape);
@@ -179,9 +220,9 @@ pub fn tangled_book(rng: &mut Rng, most: (u8, u8, u8)) -> Draft {
         let frame = fact(rng, &sizes);
         draft.put(rng, frame);
     }
-    let mut query = vec![5, 2, 0, 0xFF, 0xFF, sizes.attrs];
-    for attr in 0..sizes.attrs {
-        let set = if rng.percent(70) { 0 } else { 1 << rng.below(sizes.values.into()) };
+    let mut query = vec![5, 2, 0, 0xFF, 0xFF, sizes.attrs()];
+    for attr in 0..sizes.attrs() {
+        let set = if rng.percent(70) { 0 } else { 1 << value(rng, &sizes, attr) };
         query.push(attr);
         query.extend(u16::to_be_bytes(set));
     }
@@ -194,13 +235,16 @@ pub fn tangled_book(rng: &mut Rng, most: (u8, u8, u8)) -> Draft {
 /// A zigzag between the values of attributes 0 and 1, of a person or of crews: one that must go again lets in one that
 /// may stay, which lets in the next; to delete the first takes the one that may stay of the next bend. What is stuck
 /// comes to light bend by bend, from the last to the first; here and there an odd rule stops that. A value of attribute
-/// 2 rests on some bend and is wanted.
+/// 2 rests on some bend and is wanted. Attributes 0 and 1 have a value for each bend and now and then one more.
 pub fn zigzag_book(rng: &mut Rng, crews: u8, bends: u8) -> Draft {
-    let sizes = Sizes { persons: 1, crews: rng.byte(0, crews), attrs: 3, values: rng.byte(1, bends) };
+    let (crews, bends) = (rng.byte(0, crews), rng.byte(1, bends));
+    let more = |rng: &mut Rng| (bends + rng.byte(0, 1)).min(MOST_VALUES as u8);
+    let own = [more(rng), more(rng), rng.byte(1, bends)];
+    let sizes = Sizes::new(1, crews, &own);
     let on_crews = sizes.crews > 0 && rng.percent(70);
     let (add, delete) = if on_crews { (3, 4) } else { (1, 2) };
     let kind = rng.pick(&VALUE_KINDS);
-    let last = sizes.values - 1;
+    let last = bends - 1;
     let mut frames = Vec::new();
     for n in 0..=last {
         frames.push(if n == 0 { vec![3, add, 0, 0, 0, 0] } else { vec![3, add, 0, 0, n, 1, kind, 1, n - 1] });
@@ -213,7 +257,7 @@ pub fn zigzag_book(rng: &mut Rng, crews: u8, bends: u8) -> Draft {
         }
     }
     frames.push(vec![3, add, 0, 2, 0, 1, kind, 1, rng.byte(0, last)]);
-    let odd = Shape { sizes, edges: 0, rules: 0, terms: 2, facts: 0, roles: 1 };
+    let odd = Shape { sizes, edges: 0, rules: 0, terms: 3, facts: 0, roles: 1 };
     for _ in 0..rng.below(4) {
         frames.push(rule(rng, &odd));
     }
@@ -224,7 +268,7 @@ pub fn zigzag_book(rng: &mut Rng, crews: u8, bends: u8) -> Draft {
         frames.push(vec![4, 3, 0, sizes.crews - 1, 0]);
         (1..sizes.crews).for_each(|senior| frames.push(vec![2, senior, rng.byte(0, senior - 1)]));
     }
-    frames.insert(0, vec![1, 1, sizes.crews, 3, sizes.values]);
+    frames.insert(0, first_frame(&sizes));
     let mut query = vec![5, 2, 0, 0, 1, 2, 0, 0, 0, 2, 0, rng.byte(0, 1)];
     query.extend(sizes.crews.checked_sub(1).map_or(0, |crew| 1_u32 << crew).to_be_bytes());
     frames.push(query);
@@ -234,13 +278,15 @@ pub fn zigzag_book(rng: &mut Rng, crews: u8, bends: u8) -> Draft {
 /// A depot with grades, the values of attribute 0: few of them can be had, and what else is wanted, assignments and
 /// deletions too, rests on a grade or any higher by ladder terms. In mode 02 the grades have to go again half the time.
 ///
-/// `most` bounds crews, attributes from 2 on and values from 2 on.
+/// `most` bounds crews, attributes from 2 on and values, of which there are two grades at least.
 pub fn graded_book(rng: &mut Rng, most: (u8, u8, u8)) -> Draft {
-    let sizes =
-        Sizes { persons: 1, crews: rng.byte(0, most.0), attrs: rng.byte(2, most.1), values: rng.byte(2, most.2) };
+    let (crews, attrs) = (rng.byte(0, most.0), rng.byte(2, most.1));
+    let mut own = counts(rng, attrs, 1, most.2);
+    own[0] = own[0].max(2);
+    let sizes = Sizes::new(1, crews, &own);
     let mut frames = Vec::new();
     for _ in 0..=rng.below(2) {
-        let grade = rng.byte(0, sizes.values - 1);
+        let grade = value(rng, &sizes, 0);
         let add = if sizes.crews > 0 && rng.percent(50) { 3 } else { 1 };
         if rng.percent(70) {
             let terms = rng.byte(0, 1);
@@ -251,7 +297,7 @@ pub fn graded_book(rng: &mut Rng, most: (u8, u8, u8)) -> Draft {
         let terms = rng.byte(0, 2);
         frames.push(graded_rule(rng, &sizes, [add + 1, 0, grade], terms));
     }
-    for attr in 1..sizes.attrs {
+    for attr in 1..attrs {
         let op = if sizes.crews > 0 && rng.percent(30) { 3 } else { 1 };
         frames.push(graded_rule(rng, &sizes, [op, attr, 0], 1));
     }
@@ -267,11 +313,11 @@ pub fn graded_book(rng: &mut Rng, most: (u8, u8, u8)) -> Draft {
     for _ in 0..rng.below(4) {
         frames.push(rule(rng, &odd));
     }
-    frames.insert(0, vec![1, 1, sizes.crews, sizes.attrs, sizes.values]);
+    frames.insert(0, first_frame(&sizes));
     let exact = rng.percent(60);
     let gone = exact && rng.percent(50);
-    let mut query = vec![5, if exact { 2 } else { 1 }, 0, 0, 1, sizes.attrs - u8::from(!gone)];
-    for attr in u8::from(!gone)..sizes.attrs {
+    let mut query = vec![5, if exact { 2 } else { 1 }, 0, 0, 1, attrs - u8::from(!gone)];
+    for attr in u8::from(!gone)..attrs {
         query.extend([attr, 0, u8::from(attr > 0)]);
     }
     if exact {
@@ -286,8 +332,8 @@ pub fn graded_book(rng: &mut Rng, most: (u8, u8, u8)) -> Draft {
 fn graded_rule(rng: &mut Rng, sizes: &Sizes, [op, a, v]: [u8; 3], terms: u8) -> Vec<u8> {
     let mut frame = vec![3, op, 0, a, v, terms];
     for _ in 0..terms {
-        let attr = if rng.percent(85) { 0 } else { rng.byte(0, sizes.attrs - 1) };
-        frame.extend([5, attr, rng.byte(0, sizes.values - 1)]);
+        let attr = if rng.percent(85) { 0 } else { rng.byte(0, sizes.attrs() - 1) };
+        frame.extend([5, attr, value(rng, sizes, attr)]);
     }
     frame
 }
@@ -296,7 +342,8 @@ fn graded_rule(rng: &mut Rng, sizes: &Sizes, [op, a, v]: [u8; 3], terms: u8) -> 
 /// the first unmet term stands at any place. Some ops, roles, a and v come late, now and then behind 496 rules of the
 /// first, and some rules stand twice.
 pub fn crowded_book(rng: &mut Rng) -> Draft {
-    let sizes = Sizes { persons: rng.byte(1, 3), crews: rng.byte(0, 4), attrs: rng.byte(1, 3), values: rng.byte(1, 4) };
+    let (persons, crews, attrs) = (rng.byte(1, 3), rng.byte(0, 4), rng.byte(1, 3));
+    let sizes = Sizes::new(persons, crews, &counts(rng, attrs, 1, 4));
     let shape = Shape { sizes, edges: rng.below(5), rules: 0, terms: 0, facts: rng.below(20), roles: 2 };
     let mut draft = book(rng, &shape);
     let heads: Vec<Vec<u8>> = (0..1 + rng.below(5)).map(|_| rule(rng, &shape)).collect();
@@ -317,14 +364,13 @@ pub fn crowded_book(rng: &mut Rng) -> Draft {
     draft
 }
 
-/// A depot of any size up to the largest.
+/// A depot of any size up to the largest, and often one of the most persons, crews and attributes.
 pub fn large_book(rng: &mut Rng) -> Draft {
-    let largest = rng.percent(30);
-    let sizes = if largest {
-        Sizes { persons: 64, crews: 32, attrs: 8, values: 16 }
-    } else {
-        Sizes { persons: rng.byte(1, 64), crews: rng.byte(0, 32), attrs: rng.byte(1, 8), values: rng.byte(1, 16) }
-    };
+    let most = [MOST_PERSONS, MOST_CREWS, MOST_ATTRS].map(|most| most as u8);
+    let [persons, crews, attrs] =
+        if rng.percent(30) { most } else { [rng.byte(1, most[0]), rng.byte(0, most[1]), rng.byte(1, most[2])] };
+    let least = rng.pick(&[1, 1, 1, 12, 16]);
+    let sizes = Sizes::new(persons, crews, &counts(rng, attrs, least, MOST_VALUES as u8));
     let shape = Shape {
         sizes,
         edges: rng.pick(&[0, 8, 30, 100]),
@@ -356,7 +402,7 @@ pub fn book(rng: &mut Rng, shape: &Shape) -> Draft {
     for end in (1..frames.len()).rev() {
         frames.swap(end, rng.below(end + 1));
     }
-    frames.insert(0, vec![1, sizes.persons, sizes.crews, sizes.attrs, sizes.values]);
+    frames.insert(0, first_frame(&sizes));
     frames.push(query(rng, shape));
     Draft { sizes, frames }
 }
@@ -367,7 +413,7 @@ fn rule(rng: &mut Rng, shape: &Shape) -> Vec<u8> {
     let n = rng.byte(0, shape.terms);
     let mut frame = vec![3, op, rng.byte(0, shape.roles - 1)];
     if op < 5 {
-        frame.extend([rng.byte(0, sizes.attrs - 1), rng.byte(0, sizes.values - 1)]);
+        frame.extend(pair(rng, sizes));
     } else {
         frame.extend([rng.byte(0, sizes.crews - 1), 0]);
     }
@@ -393,14 +439,16 @@ fn add_terms(rng: &mut Rng, frame: &mut Vec<u8>, sizes: &Sizes, n: u8) {
 const VALUE_KINDS: [u8; 3] = [1, 2, 5];
 
 fn value_term(rng: &mut Rng, kind: u8, sizes: &Sizes) -> [u8; 3] {
-    [kind, rng.byte(0, sizes.attrs - 1), rng.byte(0, sizes.values - 1)]
+    let [attr, value] = pair(rng, sizes);
+    [kind, attr, value]
 }
 
 fn fact(rng: &mut Rng, sizes: &Sizes) -> Vec<u8> {
     let kind = if sizes.crews == 0 { 1 } else { rng.byte(1, 3) };
+    let [attr, value] = pair(rng, sizes);
     match kind {
-        1 => vec![4, 1, rng.byte(0, sizes.persons - 1), rng.byte(0, sizes.attrs - 1), rng.byte(0, sizes.values - 1)],
-        2 => vec![4, 2, rng.byte(0, sizes.crews - 1), rng.byte(0, sizes.attrs - 1), rng.byte(0, sizes.values - 1)],
+        1 => vec![4, 1, rng.byte(0, sizes.persons - 1), attr, value],
+        2 => vec![4, 2, rng.byte(0, sizes.crews - 1), attr, value],
         _ => vec![4, 3, rng.byte(0, sizes.persons - 1), rng.byte(0, sizes.crews - 1), 0],
     }
 }
@@ -412,11 +460,11 @@ fn query(rng: &mut Rng, shape: &Shape) -> Vec<u8> {
     let mut frame = vec![5, mode, rng.byte(0, sizes.persons - 1)];
     frame.extend(roles.to_be_bytes());
     let mut named = Vec::new();
-    for attr in 0..sizes.attrs {
-        if rng.percent(if sizes.attrs > 2 { 30 } else { 70 }) {
+    for attr in 0..sizes.attrs() {
+        if rng.percent(if sizes.attrs() > 2 { 30 } else { 70 }) {
             let dense = rng.percent(50);
-            let set = (rng.bits() as u16) & (if dense { u16::MAX } else { rng.bits() as u16 }) & sizes.all_values();
-            named.push((attr, set));
+            let set = (rng.bits() as u16) & (if dense { u16::MAX } else { rng.bits() as u16 });
+            named.push((attr, set & sizes.all_values(Attr(attr))));
         }
     }
     frame.push(named.len() as u8);
@@ -461,7 +509,7 @@ pub fn aim(rng: &mut Rng, draft: &mut Draft, book: &Book, ledger: &Ledger) {
     let depot = Depot::new(book);
     let person = book.query.person;
     let mut sets = Vec::new();
-    for attr in 0..book.sizes.attrs {
+    for attr in 0..book.sizes.attrs() {
         if rng.percent(60) {
             sets.push((attr, depot.person_set(ledger, person, Attr(attr))));
         }
@@ -491,6 +539,10 @@ pub fn damaged_book(rng: &mut Rng, number: u8, draft: &Draft) -> Option<(Vec<u8>
         }
         2 => Some(bad_characters(rng, &draft)),
         3 => Some(bad_kind(rng, &mut draft)),
+        4 if rng.percent(25) => {
+            draft.frames[0] = bad_counts(rng, &draft.sizes);
+            Some((draft.text(), 1))
+        }
         4 => {
             let at = rng.below(draft.frames.len());
             let frame = &mut draft.frames[at];
@@ -527,7 +579,8 @@ pub fn damaged_book(rng: &mut Rng, number: u8, draft: &Draft) -> Option<(Vec<u8>
             Some((draft.text(), at))
         }
         9 => {
-            let (first, second) = (rng.byte(0, draft.sizes.attrs - 1), rng.byte(0, draft.sizes.attrs - 1));
+            let last = draft.sizes.attrs() - 1;
+            let (first, second) = (rng.byte(0, last), rng.byte(0, last));
             let (first, second) = (first.max(second), first.min(second));
             draft.ask(vec![5, 1, 0, 0, 0, 2, first, 0, 1, second, 0, 0]);
             Some((draft.text(), draft.frames.len()))
@@ -588,13 +641,109 @@ fn bad_kind(rng: &mut Rng, draft: &mut Draft) -> (Vec<u8>, usize) {
     (draft.text(), at)
 }
 
+/// A frame 01 of another length than its A gives, some over 64 bytes; in some a field is out of range besides.
+pub fn bad_counts(rng: &mut Rng, sizes: &Sizes) -> Vec<u8> {
+    let mut frame = first_frame(sizes);
+    match rng.below(10) {
+        0 => {
+            frame.pop();
+        }
+        1 => frame.push(rng.byte(1, 16)),
+        2 => frame[3] += 1,
+        3 => frame[3] -= 1,
+        4 => frame[3] = rng.byte(9, 255),
+        5 => frame.truncate(1 + rng.below(3)),
+        6 => frame.extend([1; 256]),
+        _ => {
+            frame[3] = rng.pick(&[0, 9, 59, 60, 61, 62, 128, 255]);
+            let due = 4 + usize::from(frame[3]);
+            frame.resize(rng.pick(&[due - 1, due + 1, due + 256, 64, 65]), 1);
+            if frame.len() == due {
+                frame.push(1);
+            }
+        }
+    }
+    let at = rng.below(frame.len());
+    if ![0, 3].contains(&at) && rng.percent(30) {
+        frame[at] = rng.pick(&[0, 65, 255]);
+    }
+    frame
+}
+
+/// A frame 01 of the length that its A gives, some over 64 bytes, with a field out of its range.
+pub fn bad_sizes(rng: &mut Rng, sizes: &Sizes) -> Vec<u8> {
+    let mut frame = first_frame(sizes);
+    let count = 4 + rng.below(sizes.attrs().into());
+    match rng.below(8) {
+        0 => frame[1] = rng.pick(&[0, 65, 255]),
+        1 => frame[2] = rng.pick(&[33, 255]),
+        2 => frame[count] = 0,
+        3 => frame[count] = rng.pick(&[17, 32, 255]),
+        of => {
+            let long = rng.pick(&[10, 59, 60, 61, 62, 128]);
+            frame[3] = [0, 9, 255, long][of - 4];
+            frame.resize_with(4 + usize::from(frame[3]), || rng.byte(1, 16));
+        }
+    }
+    frame
+}
+
+/// A book on which 5 falls, and its line, for a value that another attribute of the book has and its own has not: in a
+/// rule, in one of its terms, in a starting fact or in the query. Nothing when all counts are the same.
+pub fn neighbours_book(rng: &mut Rng, draft: &Draft) -> Option<(Vec<u8>, usize)> {
+    let mut draft = draft.clone();
+    let sizes = draft.sizes;
+    let [a, v] = neighbours_pair(rng, &sizes)?;
+    let role = rng.byte(0, ROLES - 1);
+    let line = match rng.below(7) {
+        0 => {
+            let mut frame = vec![3, rng.byte(1, 4), role, a, v, 0];
+            let terms = rng.byte(0, 2);
+            add_terms(rng, &mut frame, &sizes, terms);
+            draft.put(rng, frame)
+        }
+        n @ 1..=3 => {
+            let one = Shape { sizes, edges: 0, rules: 0, terms: 2, facts: 0, roles: ROLES };
+            let mut frame = rule(rng, &one);
+            frame[5] += 1;
+            let at = 6 + 3 * rng.below(frame[5].into());
+            frame.splice(at..at, [VALUE_KINDS[n - 1], a, v]);
+            draft.put(rng, frame)
+        }
+        4 => {
+            let frame = vec![4, 1, rng.byte(0, sizes.persons - 1), a, v];
+            draft.put(rng, frame)
+        }
+        5 if sizes.crews > 0 => {
+            let frame = vec![4, 2, rng.byte(0, sizes.crews - 1), a, v];
+            draft.put(rng, frame)
+        }
+        _ => {
+            let set = (rng.bits() as u16 & sizes.all_values(Attr(a)) | 1 << v).to_be_bytes();
+            let mut frame = vec![5, rng.byte(1, 2), rng.byte(0, sizes.persons - 1), 0, role, 1, a, set[0], set[1]];
+            if frame[1] == 2 {
+                frame.extend((rng.bits() as u32 & sizes.all_crews()).to_be_bytes());
+            }
+            draft.ask(frame);
+            draft.frames.len()
+        }
+    };
+    Some((draft.text(), line))
+}
+
 fn bad_range(rng: &mut Rng, draft: &mut Draft) -> (Vec<u8>, usize) {
     let sizes = draft.sizes;
-    let (p, g, a, v) = (sizes.persons, sizes.crews, sizes.attrs, sizes.values);
+    if rng.percent(30) {
+        if let Some(bad) = neighbours_book(rng, draft) {
+            return bad;
+        }
+    }
+    let (p, g, a) = (sizes.persons, sizes.crews, sizes.attrs());
+    let t = rng.byte(0, a - 1);
+    let v = sizes.values(Attr(t));
     let line = match rng.below(5) {
         0 => {
-            let (field, value) = rng.pick(&[(1, 0), (1, 65), (2, 33), (3, 0), (3, 9), (4, 0), (4, 17), (1, 255)]);
-            draft.frames[0][field] = value;
+            draft.frames[0] = bad_sizes(rng, &sizes);
             1
         }
         1 => {
@@ -609,7 +758,7 @@ fn bad_range(rng: &mut Rng, draft: &mut Draft) -> (Vec<u8>, usize) {
                 &[3, 7, 0, 0, 0, 0],
                 &[3, 1, 16, 0, 0, 0],
                 &[3, 2, 0, a, 0, 0],
-                &[3, 3, 0, 0, v, 0],
+                &[3, 3, 0, t, v, 0],
                 &[3, 4, 15, a, v, 0],
                 &[3, 5, 0, g, 0, 0],
                 &[3, 6, 0, g, 0, 0],
@@ -618,12 +767,12 @@ fn bad_range(rng: &mut Rng, draft: &mut Draft) -> (Vec<u8>, usize) {
                 &[3, 1, 0, 0, 0, 1, 6, 0, 0],
                 &[3, 4, 0, 0, 0, 1, 255, 0, 0],
                 &[3, 1, 0, 0, 0, 1, 1, a, 0],
-                &[3, 1, 0, 0, 0, 1, 2, 0, v],
+                &[3, 1, 0, 0, 0, 1, 2, t, v],
                 &[3, 1, 0, 0, 0, 1, 3, g, 0],
                 &[3, 1, 0, 0, 0, 1, 4, 0, 1],
                 &[3, 2, 0, 0, 0, 1, 5, a, 0],
-                &[3, 3, 0, 0, 0, 1, 5, 0, v],
-                &[3, 6, 0, 0, 0, 1, 5, 0, v],
+                &[3, 3, 0, 0, 0, 1, 5, t, v],
+                &[3, 6, 0, 0, 0, 1, 5, t, v],
                 &[3, 1, 0, 0, 0, 2, 3, 0, 0, 5, a, 0],
                 &nine,
             ];
@@ -636,7 +785,7 @@ fn bad_range(rng: &mut Rng, draft: &mut Draft) -> (Vec<u8>, usize) {
                 [4, 4, 0, 0, 0],
                 [4, 1, p, 0, 0],
                 [4, 1, 0, a, 0],
-                [4, 1, 0, 0, v],
+                [4, 1, 0, t, v],
                 [4, 2, g, 0, 0],
                 [4, 2, 0, a, 0],
                 [4, 3, p, 0, 0],
@@ -648,7 +797,7 @@ fn bad_range(rng: &mut Rng, draft: &mut Draft) -> (Vec<u8>, usize) {
         _ => {
             let mut nine = vec![5, 1, 0, 0, 0, 9];
             nine.extend([0, 0, 0].repeat(9));
-            let set = (u32::from(sizes.all_values()) + 1) as u16;
+            let set = (u32::from(sizes.all_values(Attr(t))) + 1) as u16;
             let crews = (u64::from(sizes.all_crews()) + 1) as u32;
             let mut frames = vec![
                 vec![5, 0, 0, 0, 0, 0],
@@ -659,7 +808,7 @@ fn bad_range(rng: &mut Rng, draft: &mut Draft) -> (Vec<u8>, usize) {
             ];
             if set != 0 {
                 let [high, low] = set.to_be_bytes();
-                frames.push(vec![5, 1, 0, 0, 0, 1, 0, high, low]);
+                frames.push(vec![5, 1, 0, 0, 0, 1, t, high, low]);
             }
             if crews != 0 {
                 frames.push([&[5, 2, 0, 0, 0, 0][..], &crews.to_be_bytes()].concat());
@@ -724,19 +873,38 @@ pub fn ledger(rng: &mut Rng, sizes: &Sizes) -> Vec<u8> {
             ledger.set(fact, true);
         }
     };
-    let pairs = || (0..sizes.attrs).flat_map(|a| (0..sizes.values).map(move |v| (Attr(a), Value(v))));
     for p in (0..sizes.persons).map(Person) {
-        pairs().for_each(|(a, v)| set(rng, Fact::PersonHolds(p, a, v)));
+        sizes.pairs().for_each(|(a, v)| set(rng, Fact::PersonHolds(p, a, v)));
         (0..sizes.crews).for_each(|c| set(rng, Fact::PersonIn(p, Crew(c))));
     }
     for c in (0..sizes.crews).map(Crew) {
-        pairs().for_each(|(a, v)| set(rng, Fact::CrewHolds(c, a, v)));
+        sizes.pairs().for_each(|(a, v)| set(rng, Fact::CrewHolds(c, a, v)));
     }
     ledger.to_bytes().to_vec()
 }
 
+/// The bytes of a ledger on which 11 falls, for a value of a person or of a crew that another attribute of the book has
+/// and its own has not; nothing when all counts are the same.
+pub fn neighbours_ledger(rng: &mut Rng, sizes: &Sizes) -> Option<Vec<u8>> {
+    let [a, v] = neighbours_pair(rng, sizes)?;
+    let mut bytes = ledger(rng, sizes);
+    let row = if sizes.crews > 0 && rng.percent(50) {
+        1_024 + 16 * rng.below(sizes.crews.into())
+    } else {
+        16 * rng.below(sizes.persons.into())
+    };
+    // Big-endian: values from 8 on stand in the first of the two bytes.
+    bytes[row + 2 * usize::from(a) + usize::from(v < 8)] |= 1 << (v % 8);
+    Some(bytes)
+}
+
 /// The bytes of a ledger on which 11 falls: a wrong length, or one bit outside the sizes where there is room for one.
 pub fn damaged_ledger(rng: &mut Rng, sizes: &Sizes) -> Vec<u8> {
+    if rng.percent(40) {
+        if let Some(bytes) = neighbours_ledger(rng, sizes) {
+            return bytes;
+        }
+    }
     let mut bytes = ledger(rng, sizes);
     if rng.percent(70) {
         for _ in 0..200 {
@@ -761,7 +929,8 @@ pub fn request(rng: &mut Rng, sizes: &Sizes) -> [u8; REQUEST_BYTES] {
 }
 
 fn any_fact(rng: &mut Rng, sizes: &Sizes) -> Fact {
-    let (attr, value) = (Attr(rng.byte(0, sizes.attrs - 1)), Value(rng.byte(0, sizes.values - 1)));
+    let [attr, value] = pair(rng, sizes);
+    let (attr, value) = (Attr(attr), Value(value));
     let person = Person(rng.byte(0, sizes.persons - 1));
     if sizes.crews == 0 {
         return Fact::PersonHolds(person, attr, value);
@@ -807,7 +976,7 @@ pub fn meet_first_terms(rng: &mut Rng, book: &Book, ledger: &mut [u8], request: 
     for &term in &terms[..rng.below(terms.len().max(1))] {
         let (a, v) = match term {
             Term::Holds(a, v) | Term::EffectivelyHolds(a, v) => (a, v),
-            Term::Ladder(a, v) => (a, Value(rng.byte(v.0, sizes.values - 1))),
+            Term::Ladder(a, v) => (a, Value(rng.byte(v.0, sizes.values(a) - 1))),
             Term::In(crew) | Term::EffectivelyIn(crew) => {
                 if let Fact::PersonIn(person, _) = request.fact {
                     facts.set(Fact::PersonIn(person, crew), true);
@@ -824,9 +993,25 @@ pub fn meet_first_terms(rng: &mut Rng, book: &Book, ledger: &mut [u8], request: 
     ledger.copy_from_slice(&facts.to_bytes());
 }
 
+/// A request on which 12 falls, of op 01 to 04, for a value that another attribute of the book has and its own has not;
+/// nothing when all counts are the same.
+pub fn neighbours_request(rng: &mut Rng, sizes: &Sizes) -> Option<[u8; REQUEST_BYTES]> {
+    let [a, v] = neighbours_pair(rng, sizes)?;
+    let op = rng.byte(1, if sizes.crews > 0 { 4 } else { 2 });
+    let subjects = if op < 3 { sizes.persons } else { sizes.crews };
+    Some([op, rng.byte(0, ROLES - 1), rng.byte(0, subjects - 1), a, v])
+}
+
 /// A request on which 12 falls: a wrong length or a field outside its range.
 pub fn damaged_request(rng: &mut Rng, sizes: &Sizes) -> Vec<u8> {
-    let (p, g, a, v) = (sizes.persons, sizes.crews, sizes.attrs, sizes.values);
+    if rng.percent(30) {
+        if let Some(bytes) = neighbours_request(rng, sizes) {
+            return bytes.to_vec();
+        }
+    }
+    let (p, g, a) = (sizes.persons, sizes.crews, sizes.attrs());
+    let t = rng.byte(0, a - 1);
+    let v = sizes.values(Attr(t));
     if rng.percent(30) {
         let mut bytes = request(rng, sizes).to_vec();
         bytes.resize(rng.pick(&[0, 1, 4, 6, 10]), 0);
@@ -839,7 +1024,7 @@ pub fn damaged_request(rng: &mut Rng, sizes: &Sizes) -> Vec<u8> {
         [1, 16, 0, 0, 0],
         [1, 0, p, 0, 0],
         [2, 0, 0, a, 0],
-        [2, 0, 0, 0, v],
+        [2, 0, 0, t, v],
         [3, 0, g, 0, 0],
         [4, 15, g, 0, 0],
         [4, 0, 0, a, v],

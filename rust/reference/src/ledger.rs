@@ -123,9 +123,10 @@ fn two(bytes: &[u8], at: usize) -> u16 {
     u16::from_be_bytes([bytes[at], bytes[at + 1]])
 }
 
+/// "ledger bits are bounded by their own attribute's count"
 fn inside(sizes: &Sizes, row: usize, rows: u8, attr: usize, set: u16) -> bool {
-    let there = row < rows.into() && attr < sizes.attrs.into();
-    set & !(if there { sizes.all_values() } else { 0 }) == 0
+    let room = if row < rows.into() { sizes.all_values(Attr(attr as u8)) } else { 0 };
+    set & !room == 0
 }
 
 /// The numbers in a set, rising.
@@ -193,7 +194,7 @@ impl<'b> Depot<'b> {
                 return match term {
                     Term::Holds(a, v) => ledger.has(Fact::CrewHolds(crew, a, v)),
                     Term::EffectivelyHolds(a, v) => self.crew_holds(ledger, crew, a, v),
-                    Term::Ladder(a, v) => sizes.and_higher(v).any(|w| self.crew_holds(ledger, crew, a, w)),
+                    Term::Ladder(a, v) => sizes.and_higher(a, v).any(|w| self.crew_holds(ledger, crew, a, w)),
                     Term::In(_) | Term::EffectivelyIn(_) => false,
                 }
             }
@@ -201,7 +202,7 @@ impl<'b> Depot<'b> {
         match term {
             Term::Holds(a, v) => ledger.has(Fact::PersonHolds(person, a, v)),
             Term::EffectivelyHolds(a, v) => self.person_holds(ledger, person, a, v),
-            Term::Ladder(a, v) => sizes.and_higher(v).any(|w| self.person_holds(ledger, person, a, w)),
+            Term::Ladder(a, v) => sizes.and_higher(a, v).any(|w| self.person_holds(ledger, person, a, w)),
             Term::In(c) => ledger.has(Fact::PersonIn(person, c)),
             Term::EffectivelyIn(c) => self.person_in(ledger, person) >> c.0 & 1 == 1,
         }
@@ -419,7 +420,7 @@ mod tests {
 
     #[test]
     fn places() {
-        let text = "0140200810\n04013F070F\n04021F070F\n04033F1F00\n0401000000\n050100000000\n";
+        let text = "014020081010101010101010\n04013F070F\n04021F070F\n04033F1F00\n0401000000\n050100000000\n";
         let ledger = opened(text);
         let set: Vec<(usize, u8)> = ledger.iter().copied().enumerate().filter(|&(_, byte)| byte != 0).collect();
         assert_eq!(set, [(1, 0x01), (1_022, 0x80), (1_534, 0x80), (1_788, 0x80)]);
@@ -454,7 +455,7 @@ mod tests {
     }
 
     /// Two persons, crew 1 the senior of crew 0, attributes 0 and 1, values 0, 1 and 2.
-    const GRADES: &str = "0102020203\n020100\n";
+    const GRADES: &str = "010202020303\n020100\n";
 
     /// The answer to a request under a book of these rules and starting facts; a refusal leaves every byte.
     fn answer(rules: &str, facts: &[&str], asked: [u8; 5]) -> Result<(), Refusal> {
@@ -556,7 +557,7 @@ mod tests {
         let edges: String = (1..32).map(|senior| format!("02{senior:02X}{:02X}\n", senior - 1)).collect();
         for (v, w) in [(0, 15), (14, 15), (15, 15), (0, 0), (15, 14), (15, 0), (8, 7)] {
             let rule = format!("0301000000010507{v:02X}\n");
-            let text = format!("0140200810\n{edges}{rule}04020007{w:02X}\n04033F1F00\n050100000000\n");
+            let text = format!("014020081010101010101010\n{edges}{rule}04020007{w:02X}\n04033F1F00\n050100000000\n");
             let mut ledger = opened(&text);
             assert_eq!(request(text.as_bytes(), &mut ledger, &[1, 0, 62, 0, 0]), unmet(1, 1));
             let expected = if w >= v { Ok(()) } else { unmet(1, 1) };
@@ -785,6 +786,84 @@ mod tests {
         }
     }
 
+    /// Two persons, two crews, and three attributes of three, sixteen and one values.
+    const OWN_COUNTS: &str = "01020203031001\n";
+
+    /// "ledger bits are bounded by their own attribute's count": each bit of each attribute, alone in a ledger.
+    #[test]
+    fn bits_by_their_own_count() {
+        let text = format!("{OWN_COUNTS}050100000000\n");
+        let counts = [3, 16, 1, 0, 0, 0, 0, 0];
+        // Persons 0 to 2 and crews 0 to 2, of which the last are absent.
+        for (row, there) in [(0, true), (16, true), (32, false), (1_024, true), (1_040, true), (1_056, false)] {
+            for (a, v) in (0..8).flat_map(|a| (0..16).map(move |v| (a, v))) {
+                let mut ledger = [0; LEDGER_BYTES];
+                ledger[row + 2 * a..][..2].copy_from_slice(&u16::to_be_bytes(1 << v));
+                let before = ledger;
+                let good = there && v < counts[a];
+                let expected = if good { Refusal::NoRule } else { Refusal::Ledger };
+                assert_eq!(request(text.as_bytes(), &mut ledger, &[1, 0, 0, 0, 0]), Err(expected), "{row} {a} {v}");
+                assert_eq!(ledger, before);
+                let shown = show(text.as_bytes(), &ledger, 0);
+                let mut sets = [0; 8];
+                sets[a] = if row == 0 { 1 << v } else { 0 };
+                let expected = if good { Ok(Shown { sets, crews: 0 }) } else { Err(Refusal::Ledger) };
+                assert_eq!(shown, expected, "{row} {a} {v}");
+            }
+        }
+    }
+
+    /// The same of a request's value, in each op that has one.
+    #[test]
+    fn requests_by_their_own_count() {
+        let rules = "030100010F00\n030200010F00\n030300010F00\n030400010F00\n";
+        let text = format!("{OWN_COUNTS}{rules}050100000000\n");
+        for op in 1..=4 {
+            for (a, v) in (0..=8).flat_map(|a| (0..=17).chain([255]).map(move |v| (a, v))) {
+                let mut ledger = [0; LEDGER_BYTES];
+                let answer = request(text.as_bytes(), &mut ledger, &[op, 0, 1, a, v]);
+                let inside = [3, 16, 1].get(usize::from(a)).is_some_and(|&count| v < count);
+                let expected = match (inside, a, v) {
+                    (true, 1, 15) => Ok(()),
+                    (true, ..) => Err(Refusal::NoRule),
+                    _ => Err(Refusal::Request),
+                };
+                assert_eq!(answer, expected, "op {op}, {a} {v}");
+                assert_eq!(ledger != [0; LEDGER_BYTES], answer.is_ok() && op % 2 == 1);
+            }
+        }
+    }
+
+    /// Each attribute's highest value is shown, held directly and through a crew and its junior, and an absent
+    /// attribute is 0.
+    #[test]
+    fn shown_by_their_own_count() {
+        let facts = "0401000002\n040200010F\n0402010200\n0403000100\n";
+        let text = format!("{OWN_COUNTS}020100\n{facts}050100000000\n");
+        let shown = show(text.as_bytes(), &opened(&text), 0);
+        assert_eq!(shown, Ok(Shown { sets: [4, 0x8000, 1, 0, 0, 0, 0, 0], crews: 0b11 }));
+    }
+
+    /// "v or any higher value of a" ends with the attribute's own count, whether its neighbours have more or fewer.
+    #[test]
+    fn a_ladder_to_its_own_count() {
+        for (a, count) in [(0, 3), (1, 16), (2, 1)] {
+            for (v, w) in (0..count).flat_map(|v| (0..count).map(move |w| (v, w))) {
+                let rules = format!("030100000001 05{a:02X}{v:02X}\n030300000001 05{a:02X}{v:02X}\n").replace(' ', "");
+                let facts = format!("040100{a:02X}{w:02X}\n040200{a:02X}{w:02X}\n");
+                let text = format!("{OWN_COUNTS}{rules}{facts}050100000000\n");
+                for (op, rule) in [(1, 1), (3, 2)] {
+                    let expected = if w >= v { Ok(()) } else { unmet(rule, 1) };
+                    let answer = request(text.as_bytes(), &mut opened(&text), &[op, 0, 0, 0, 0]);
+                    assert_eq!(answer, expected, "op {op}, attribute {a}, {v} {w}");
+                }
+            }
+        }
+        // The highest value of each neighbour fulfils no term about attribute 1.
+        let text = format!("{OWN_COUNTS}030100000001050100\n0401000002\n0401000200\n050100000000\n");
+        assert_eq!(request(text.as_bytes(), &mut opened(&text), &[1, 0, 0, 0, 0]), unmet(1, 1));
+    }
+
     #[test]
     fn numbers_of_a_set() {
         assert!(numbers(0).eq([]));
@@ -811,25 +890,22 @@ mod tests {
             let ledger = Ledger::from_bytes(&book.sizes, &bytes).expect("good");
             assert_eq!(ledger.to_bytes()[..], bytes[..]);
             let depot = Depot::new(&book);
-            for a in 0..book.sizes.attrs {
-                for v in 0..book.sizes.values {
-                    let (a, v) = (Attr(a), Value(v));
-                    for c in crews(book.sizes.all_crews()) {
-                        let held = holds_by_juniors(&book, &ledger, c, a, v);
-                        assert_eq!(depot.crew_holds(&ledger, c, a, v), held);
-                        let rest = |w| holds_by_juniors(&book, &ledger, c, a, Value(w));
-                        let ladder = (v.0..book.sizes.values).any(rest);
-                        assert_eq!(depot.term_holds(&ledger, Fact::CrewHolds(c, a, v), Term::Ladder(a, v)), ladder);
-                    }
-                    for p in (0..book.sizes.persons).map(Person) {
-                        let by_crew = |c| holds_by_juniors(&book, &ledger, c, a, v);
-                        let held = ledger.has(Fact::PersonHolds(p, a, v)) || crews(ledger.memberships(p)).any(by_crew);
-                        assert_eq!(depot.person_holds(&ledger, p, a, v), held);
-                        let set = depot.person_set(&ledger, p, a);
-                        assert_eq!(set >> v.0 & 1 == 1, held);
-                        let ladder = depot.term_holds(&ledger, Fact::PersonHolds(p, a, v), Term::Ladder(a, v));
-                        assert_eq!(ladder, set >> v.0 != 0);
-                    }
+            for (a, v) in book.sizes.pairs() {
+                for c in crews(book.sizes.all_crews()) {
+                    let held = holds_by_juniors(&book, &ledger, c, a, v);
+                    assert_eq!(depot.crew_holds(&ledger, c, a, v), held);
+                    let rest = |w| holds_by_juniors(&book, &ledger, c, a, Value(w));
+                    let ladder = (v.0..book.sizes.counts[a.index()]).any(rest);
+                    assert_eq!(depot.term_holds(&ledger, Fact::CrewHolds(c, a, v), Term::Ladder(a, v)), ladder);
+                }
+                for p in (0..book.sizes.persons).map(Person) {
+                    let by_crew = |c| holds_by_juniors(&book, &ledger, c, a, v);
+                    let held = ledger.has(Fact::PersonHolds(p, a, v)) || crews(ledger.memberships(p)).any(by_crew);
+                    assert_eq!(depot.person_holds(&ledger, p, a, v), held);
+                    let set = depot.person_set(&ledger, p, a);
+                    assert_eq!(set >> v.0 & 1 == 1, held);
+                    let ladder = depot.term_holds(&ledger, Fact::PersonHolds(p, a, v), Term::Ladder(a, v));
+                    assert_eq!(ladder, set >> v.0 != 0);
                 }
             }
         }

@@ -7,7 +7,7 @@
 //! * [`gen`]: seeded books, ledgers and requests, good and damaged.
 //!
 //! Sentences in quotation marks are the papers': those on ladder terms, kind 05, stand in Wish 1 of the second, those
-//! on what 13 and 15 tell apart in its Wish 2.
+//! on what 13 and 15 tell apart in its Wish 2, those on each attribute's own count in its Wish 4.
 
 #![forbid(unsafe_code)]
 #![warn(missing_docs)]

@@ -53,7 +53,8 @@ fn planned_books() {
     println!("{} books; plans of another count: {other_counts:?}", stored.len());
 }
 
-/// Each line: `8F`, number and line; or the first frame, distinct edges, rules, distinct starting facts, q; the name.
+/// Each line: `8F`, number and line; or the first frame with eight counts, 0 for an absent attribute, distinct edges,
+/// rules, distinct starting facts, q; the name.
 #[test]
 fn judged_books() {
     let stored = lines(false);
@@ -63,12 +64,12 @@ fn judged_books() {
             Err(refusal) => format!("8F{:02X}{:04X}", refusal.number(), refusal.line),
             Ok(book) => {
                 let s = book.sizes;
+                let counts: String = s.counts.iter().map(|count| format!("{count:02X}")).collect();
                 format!(
-                    "01{:02X}{:02X}{:02X}{:02X} {:04X} {:04X} {:04X} {:02X}",
+                    "01{:02X}{:02X}{:02X}{counts} {:04X} {:04X} {:04X} {:02X}",
                     s.persons,
                     s.crews,
-                    s.attrs,
-                    s.values,
+                    s.attrs(),
                     book.edges.len(),
                     book.rules.len(),
                     book.facts.len(),

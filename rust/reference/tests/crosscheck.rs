@@ -20,6 +20,8 @@ fn small(depots: usize, seed: u64, mut draw: impl FnMut(&mut Rng) -> gen::Draft)
         }
     }
     println!("{counts:?}");
+    assert!(3 * counts.differing > 2 * counts.several_attrs);
+    assert!(counts.moved_differing > 500 && counts.no_way_differing > 500);
     counts
 }
 
@@ -113,11 +115,9 @@ fn exhaust(facts: &mut Vec<Fact>, mut fits: impl FnMut(Fact) -> bool) -> usize {
 fn facts(book: &Book) -> Vec<Fact> {
     let person = book.query.person;
     let mut facts: Vec<Fact> = crews(book.sizes.all_crews()).map(|crew| Fact::PersonIn(person, crew)).collect();
-    for attr in (0..book.sizes.attrs).map(Attr) {
-        for value in (0..book.sizes.values).map(Value) {
-            facts.push(Fact::PersonHolds(person, attr, value));
-            facts.extend(crews(book.sizes.all_crews()).map(|crew| Fact::CrewHolds(crew, attr, value)));
-        }
+    for (attr, value) in book.sizes.pairs() {
+        facts.push(Fact::PersonHolds(person, attr, value));
+        facts.extend(crews(book.sizes.all_crews()).map(|crew| Fact::CrewHolds(crew, attr, value)));
     }
     // No other fact is ever named by a rule or held at the start.
     let start = Ledger::start(book);
@@ -241,17 +241,21 @@ fn large_depots_by_the_naive_method() {
     println!("120 depots, {plans} plans");
 }
 
-/// A chain of rules in which each rests on the one before, through all 128 values and the last crew, and back again.
+/// A chain of rules in which each rests on the one before, through all values and the last crew, and back again.
 #[test]
 fn a_chain_through_every_column() {
-    let mut frames = vec![vec![1, 1, 32, 8, 16]];
-    let value = |n: u8| [n / 16, n % 16];
-    for n in 0..128 {
-        let [a, v] = value(n);
-        let mut rule = vec![3, 3, 0, a, v, u8::from(n > 0)];
-        if n > 0 {
-            rule.push(2);
-            rule.extend(value(n - 1));
+    for counts in [[16; 8], [16, 1, 9, 3, 16, 2, 12, 7], [1, 2, 3, 4, 5, 6, 7, 8]] {
+        chain(&book::Sizes::new(1, 32, &counts));
+    }
+}
+
+fn chain(sizes: &book::Sizes) {
+    let mut frames = vec![gen::first_frame(sizes)];
+    let mut before = None;
+    for (Attr(a), Value(v)) in sizes.pairs() {
+        let mut rule = vec![3, 3, 0, a, v, u8::from(before.is_some())];
+        if let Some((a, v)) = before.replace((a, v)) {
+            rule.extend([2, a, v]);
         }
         frames.push(rule.clone());
         // The same terms for the deletion: the last value goes first.
@@ -264,11 +268,10 @@ fn a_chain_through_every_column() {
     query.extend([0x80, 0, 0, 0]);
     frames.push(query);
     (1..32).for_each(|senior| frames.insert(1, vec![2, senior, senior - 1]));
-    let sizes = book::Sizes { persons: 1, crews: 32, attrs: 8, values: 16 };
-    let text = gen::Draft { sizes, frames }.text();
+    let text = gen::Draft { sizes: *sizes, frames }.text();
     let book = book::read(&text).expect("a good book");
     let plan = closure::plan(&book).expect("a plan");
     assert_eq!(demand::check(&book, &plan), Ok(()));
-    assert_eq!(plan.len(), 2 * 128 * 32 + 1);
+    assert_eq!(plan.len(), 2 * 32 * sizes.pairs().count() + 1);
     assert!(plan.iter().any(|request| request.fact.what() == What::Membership(Crew(31))));
 }

@@ -34,6 +34,62 @@ fn damaged_books() {
     assert!(seen[1..].iter().all(|&times| times > 1_000));
 }
 
+/// A first line of another length than its A gives is 4, whatever else is wrong with it; one of that length is 5.
+#[test]
+fn first_lines() {
+    let mut rng = Rng::new(0x0B1C_0017);
+    for _ in 0..8_000 {
+        let mut draft = gen::small_book(&mut rng);
+        let (number, first) = match rng.below(2) {
+            0 => (4, gen::bad_counts(&mut rng, &draft.sizes)),
+            _ => (5, gen::bad_sizes(&mut rng, &draft.sizes)),
+        };
+        let due = first.get(3).is_some_and(|&attrs| first.len() == 4 + usize::from(attrs));
+        assert_eq!(due, number == 5);
+        draft.frames[0] = first;
+        let refusal = book::read(&draft.text()).expect_err("a bad first line");
+        assert_eq!((refusal.number(), refusal.line), (number, 1), "{:?}", draft.frames[0]);
+    }
+}
+
+/// A value that another attribute of the book has is refused where its own has it not: by 5 in a book, 11 in a ledger, 12
+/// in a request. Nothing else is wrong: with the highest count for every attribute there is no such refusal.
+#[test]
+fn neighbours_values() {
+    let mut rng = Rng::new(0x0B1C_0018);
+    let mut seen = 0;
+    for _ in 0..6_000 {
+        let mut draft = draft(&mut rng);
+        let (sizes, text) = (draft.sizes, draft.text());
+        let Some((bad, line)) = gen::neighbours_book(&mut rng, &draft) else {
+            assert!(!sizes.differ());
+            continue;
+        };
+        let wide = sizes.widened();
+        let refusal = book::read(&bad).expect_err("a neighbour's value");
+        assert_eq!((refusal.number(), refusal.line), (5, line), "{}", String::from_utf8_lossy(&bad));
+        draft.frames = vec![gen::first_frame(&wide)];
+        let first = text.iter().position(|&c| c == b'\n').expect("a line") + 1;
+        assert_ne!(book::read(&[&draft.text(), &bad[first..]].concat()), Err(refusal));
+
+        let mut ledger = gen::ledger(&mut rng, &sizes);
+        let (before, person) = (ledger.clone(), rng.byte(0, sizes.persons - 1));
+        let request = gen::neighbours_request(&mut rng, &sizes).expect("counts differ");
+        assert_eq!(ledger::request(&text, &mut ledger, &request), Err(Refusal::Request));
+        assert_eq!(ledger, before);
+        assert!(Request::from_bytes(&wide, &request).is_some());
+        let mut ledger = gen::neighbours_ledger(&mut rng, &sizes).expect("counts differ");
+        let before = ledger.clone();
+        assert_eq!(ledger::request(&text, &mut ledger, &request), Err(Refusal::Ledger));
+        assert_eq!(ledger::show(&text, &ledger, person), Err(Refusal::Ledger));
+        assert_eq!(ledger, before);
+        assert!(Ledger::from_bytes(&wide, &ledger).is_some());
+        seen += 1;
+    }
+    println!("neighbours' values: {seen}");
+    assert!(seen > 2_000);
+}
+
 /// Each operation gives the book's refusal before it looks at anything else, and writes nothing.
 #[test]
 fn the_books_refusal_comes_first() {
@@ -161,6 +217,8 @@ fn missing_rules_and_unmet_terms() {
 fn buffers_and_lists() {
     let mut rng = Rng::new(0x0B1C_0014);
     let (mut short, mut odd) = (0, 0);
+    // Of books whose counts differ: 10 × F bytes, and a byte less.
+    let (mut whole, mut less) = (0, 0);
     let mut verdicts = [0; 3];
     for _ in 0..6_000 {
         let draft = gen::small_aimed_book(&mut rng);
@@ -169,6 +227,8 @@ fn buffers_and_lists() {
         let need = 10 * book.sizes.facts();
         let mut buffer = vec![0xA5; need + rng.below(9) - 4];
         let enough = buffer.len() >= need;
+        whole += usize::from(book.sizes.differ() && buffer.len() == need);
+        less += usize::from(book.sizes.differ() && buffer.len() == need - 1);
         match plan::plan(&text, &mut buffer) {
             Err(refusal) => {
                 assert!(!enough && refusal.number() == 10);
@@ -201,6 +261,7 @@ fn buffers_and_lists() {
         }
     }
     println!("10: {short}, 14: {odd}, reaches, stops, ends short: {verdicts:?}");
+    assert!(whole > 100 && less > 100);
     assert!(short > 1_000 && odd > 100 && verdicts.iter().all(|&times| times > 100));
 }
 

@@ -21,7 +21,7 @@
 
 use std::ops::RangeInclusive;
 
-use crate::book::{Attr, Book, Crew, Fact, Mode, Person, Role, Rule, Term, Value, Way, What, MOST_CREWS};
+use crate::book::{Attr, Book, Crew, Fact, Mode, Person, Role, Rule, Sizes, Term, Value, Way, What, MOST_CREWS};
 use crate::book::{MOST_ATTRS, MOST_RULES, MOST_TERMS, MOST_VALUES};
 use crate::ledger::{crews, numbers, Request};
 
@@ -107,10 +107,8 @@ impl Facts {
 /// Every fact of the query's person and of the crews.
 fn universe(book: &Book) -> Facts {
     let mut facts = Facts { memberships: book.sizes.all_crews(), ..Facts::NONE };
-    for attr in (0..book.sizes.attrs).map(Attr) {
-        for value in (0..book.sizes.values).map(Value) {
-            facts.columns[column(attr, value)] = u64::from(book.sizes.all_crews()) | PERSON;
-        }
+    for (attr, value) in book.sizes.pairs() {
+        facts.columns[column(attr, value)] = u64::from(book.sizes.all_crews()) | PERSON;
     }
     facts
 }
@@ -175,7 +173,7 @@ impl Goal {
             goal.sources = Some(PERSON | u64::from(below));
         }
         for &(attr, set) in &book.query.named {
-            for value in (0..book.sizes.values).map(Value) {
+            for value in (0..book.sizes.values(attr)).map(Value) {
                 if set >> value.0 & 1 == 1 {
                     goal.wanted.push(column(attr, value));
                 } else {
@@ -290,7 +288,7 @@ impl Columns {
 }
 
 impl Trial {
-    fn new(rule: &Rule, highest: Value, tree: &Tree) -> Self {
+    fn new(rule: &Rule, sizes: &Sizes, tree: &Tree) -> Self {
         let mut scope = match rule.what {
             What::OfCrew(..) => CREWS,
             What::OfPerson(..) | What::Membership(_) => PERSON,
@@ -301,7 +299,9 @@ impl Trial {
             match term {
                 Term::Holds(attr, value) => direct.push(Columns::one(attr, value)),
                 Term::EffectivelyHolds(attr, value) => effective.push(Columns::one(attr, value)),
-                Term::Ladder(attr, value) => effective.push(Columns::from_to(attr, value, highest)),
+                Term::Ladder(attr, value) => {
+                    effective.push(Columns::from_to(attr, value, Value(sizes.values(attr) - 1)));
+                }
                 Term::In(crew) => inside |= 1 << crew.0,
                 Term::EffectivelyIn(crew) => under |= 1 << crew.0,
             }
@@ -369,10 +369,9 @@ impl Moves {
             gives: [ForWhom::NONE; COLUMNS],
             lets_in: [Rules::NONE; MOST_CREWS],
         };
-        let highest = Value(book.sizes.values - 1);
         for rule in book.rules.iter().filter(|rule| rule.way == way && book.query.has_role(rule.role)) {
             let n = moves.rules.len();
-            let trial = Trial::new(rule, highest, tree);
+            let trial = Trial::new(rule, &book.sizes, tree);
             for column in trial.direct() {
                 moves.direct[column].watch(n, trial.scope);
             }

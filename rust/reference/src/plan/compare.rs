@@ -33,6 +33,14 @@ pub struct Counts {
     pub plans_by_ladder: usize,
     /// No way, though there is a plan without the ladder terms.
     pub no_way_by_ladder: usize,
+    /// Depots with two attributes or more.
+    pub several_attrs: usize,
+    /// Those of them whose counts are not all the same.
+    pub differing: usize,
+    /// A shortest plan that has at least one request, where the counts are not all the same.
+    pub moved_differing: usize,
+    /// No way, where the counts are not all the same.
+    pub no_way_differing: usize,
 }
 
 impl Counts {
@@ -47,10 +55,14 @@ impl Counts {
         self.depots += 1;
         self.exact += usize::from(exact);
         self.ladders += usize::from(book.has_ladder());
+        let differing = usize::from(book.sizes.differ());
+        self.several_attrs += usize::from(book.sizes.attrs() > 1);
+        self.differing += differing;
         match (shortest, closure::plan(book)) {
             (None, None) => {
                 self.no_way += 1;
                 self.no_way_exact += usize::from(exact);
+                self.no_way_differing += differing;
                 self.no_way_by_ladder += usize::from(closure::plan(&book.ladders_dropped()).is_some());
                 Ok(())
             }
@@ -63,6 +75,7 @@ impl Counts {
                 let deleted = |fact: Fact| shortest.iter().any(|r| r.way == Way::Delete && r.fact == fact);
                 self.plans += 1;
                 self.moved += usize::from(!shortest.is_empty());
+                self.moved_differing += if shortest.is_empty() { 0 } else { differing };
                 self.deleting += usize::from(shortest.iter().any(|r| r.way == Way::Delete));
                 self.detours += usize::from(shortest.iter().any(|r| r.way == Way::Add && deleted(r.fact)));
                 self.as_short += usize::from(plan.len() == shortest.len());

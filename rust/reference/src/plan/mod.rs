@@ -144,7 +144,7 @@ mod tests {
 
     /// A book of one person, two crews with crew 1 the senior, attributes 0 and 1, values 0, 1 and 2.
     fn graded(frames: &str, query: &str) -> String {
-        format!("0101020203\n020100\n{frames}{query}\n")
+        format!("010102020303\n020100\n{frames}{query}\n")
     }
 
     /// Grades are the values of attribute 0. Value 0 of attribute 1 is wanted, which needs grade 1 or any higher.
@@ -233,19 +233,84 @@ mod tests {
 
     #[test]
     fn the_tables_example() {
-        // F = (1 + 0) × 2 × 2 + 0 = 4.
-        let book = b"0101000202\n050100FFFF00\n";
-        assert_eq!(plan(book, &mut [0; 39]), Err(Refusal::Buffer));
-        assert_eq!(plan(book, &mut [0; 40]), Ok(Answer::Plan(0)));
+        // F = (1 + 0) × (2 + 2) + 0 = 4, and the same of 3 + 1, of 1 + 3 and of 4.
+        for head in ["010100020202", "010100020301", "010100020103", "0101000104"] {
+            let book = format!("{head}\n050100FFFF00\n");
+            assert_eq!(plan(book.as_bytes(), &mut [0; 39]), Err(Refusal::Buffer), "{head}");
+            assert_eq!(plan(book.as_bytes(), &mut [0; 40]), Ok(Answer::Plan(0)), "{head}");
+        }
         assert_eq!(plan(b"", &mut []).map_err(|refusal| refusal.number()), Err(3));
         assert_eq!(Refusal::Buffer.number(), 10);
+    }
+
+    /// "F becomes (1 + G) × the sum of the counts, plus G.": ten bytes for each fact, and a byte less is 10.
+    #[test]
+    fn a_buffer_by_the_sum_of_the_counts() {
+        // The shift has three values and the lane sixteen; two crews.
+        let sums =
+            [("01010202 0310", 3 * 19 + 2), ("01010203 031001", 3 * 20 + 2), ("01012008 10101010101010 10", 4_256)];
+        for (head, facts) in sums {
+            let book = format!("{}\n050100FFFF00\n", head.replace(' ', ""));
+            assert_eq!(plan(book.as_bytes(), &mut vec![0; 10 * facts - 1]), Err(Refusal::Buffer), "{head}");
+            assert_eq!(plan(book.as_bytes(), &mut vec![0; 10 * facts]), Ok(Answer::Plan(0)), "{head}");
+        }
+    }
+
+    /// "what a sorter can reach is judged within these ranges": each attribute's highest value is within reach and is
+    /// asked for by mode 02, beside neighbours of other counts.
+    #[test]
+    fn each_attribute_within_its_own_range() {
+        for (a, others) in [(0, [1, 2]), (1, [0, 2]), (2, [0, 1])] {
+            let own = [2, 4, 1];
+            let highest = own[a] - 1;
+            let head = "01010003020401";
+            let rule = format!("0301000{a}{highest:02X}00\n");
+            let exact = |set: u16| {
+                let mut sets = [0; 3];
+                sets[a] = set;
+                let named: String = (0..).zip(sets).map(|(a, set)| format!("{a:02X}{set:04X}")).collect();
+                format!("{head}\n{rule}050200FFFF03{named}00000000\n")
+            };
+            assert_eq!(counts(&exact(1 << highest)), Some((1, 1)), "attribute {a}");
+            assert_eq!(counts(&exact(0)), Some((0, 0)), "attribute {a}");
+            if highest > 0 {
+                assert_eq!(counts(&exact(1)), None, "attribute {a}");
+            }
+            // A ladder term about it is met by its highest value, and by no value of the others.
+            let lane = others[0];
+            let ladder = format!("0301000{lane}000105{a:02X}00\n");
+            let wanted = format!("050100FFFF01{lane:02X}0001");
+            assert_eq!(counts(&format!("{head}\n{ladder}{wanted}\n")), None, "attribute {a}");
+            assert_eq!(counts(&format!("{head}\n{rule}{ladder}{wanted}\n")), Some((2, 2)), "attribute {a}");
+            let neighbours: String = others.iter().map(|&o| format!("0401000{o}{:02X}\n", own[o] - 1)).collect();
+            if own[lane] > 1 {
+                assert_eq!(counts(&format!("{head}\n{ladder}{neighbours}{wanted}\n")), None, "attribute {a}");
+            }
+        }
+    }
+
+    /// A value must go again by mode 02, at every place of its own range.
+    #[test]
+    fn each_value_goes_again() {
+        for (a, count) in [(0, 2), (1, 4), (2, 1)] {
+            for v in 0..count {
+                // Its own ladder term is met while it is there.
+                let rules = format!("0301000{a}{v:02X}00\n0302000{a}{v:02X}0105{a:02X}{v:02X}\n");
+                let fact = format!("0401000{a}{v:02X}\n");
+                let none = "050200FFFF0300000001000002000000000000\n";
+                let shortest = |frames: &str| counts(&format!("01010003020401\n{frames}{none}")).map(|(n, _)| n);
+                assert_eq!(shortest(&rules), Some(0), "{a} {v}");
+                assert_eq!(shortest(&format!("{rules}{fact}")), Some(1), "{a} {v}");
+                assert_eq!(shortest(&fact), None, "{a} {v}");
+            }
+        }
     }
 
     /// "a sorter was lent to the returns crew by one lead, a second lead raised her grade, and that grade let a third
     /// give her lane control"
     #[test]
     fn the_pilot_depot() {
-        let pilot = "0101010202\n0402000000\n030500000000\n030101000101020000\n030102010001010001\n0501000007010100\
+        let pilot = "010101020202\n0402000000\n030500000000\n030101000101020000\n030102010001010001\n0501000007010100\
                      01\n";
         assert_eq!(counts(pilot), Some((3, 3)));
         assert_eq!(counts(&pilot.replace("0501000007", "0501000003")), None);

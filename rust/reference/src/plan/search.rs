@@ -5,7 +5,7 @@
 
 use std::collections::VecDeque;
 
-use crate::book::{Attr, Book, Crew, Fact, Person, Role, Rule, Value, Way, ROLES};
+use crate::book::{Book, Crew, Fact, Person, Role, Rule, Way, ROLES};
 use crate::ledger::{Depot, Ledger, Request};
 
 /// The most facts of a depot, persons all counted, that are searched.
@@ -66,14 +66,13 @@ fn all_facts(book: &Book) -> Vec<Fact> {
     let sizes = &book.sizes;
     let persons = || (0..sizes.persons).map(Person);
     let crews = || (0..sizes.crews).map(Crew);
-    let pairs = || (0..sizes.attrs).flat_map(|a| (0..sizes.values).map(move |v| (Attr(a), Value(v))));
     let mut facts = Vec::new();
     for person in persons() {
-        facts.extend(pairs().map(|(a, v)| Fact::PersonHolds(person, a, v)));
+        facts.extend(sizes.pairs().map(|(a, v)| Fact::PersonHolds(person, a, v)));
         facts.extend(crews().map(|crew| Fact::PersonIn(person, crew)));
     }
     for crew in crews() {
-        facts.extend(pairs().map(|(a, v)| Fact::CrewHolds(crew, a, v)));
+        facts.extend(sizes.pairs().map(|(a, v)| Fact::CrewHolds(crew, a, v)));
     }
     facts
 }
