@@ -2,8 +2,8 @@
  *
  * Link with libbixorgun.a (x86-64). The functions keep no state, allocate nothing and write to the one lent buffer
  * alone, so any number of threads may call them at once; a buffer that one call writes is in no other call's hands
- * meanwhile. Give a thread 320 KB of stack or more (BIXORGUN_STACK). As measured with threads, plan needs 174 KB (of
- * 1,024 bytes), request 84 KB and each other operation 72 KB or less; the rest is room for later versions.
+ * meanwhile. Give a thread 320 KB of stack or more (BIXORGUN_STACK). As measured with threads, plan needs 176 KB (of
+ * 1,024 bytes), request 85 KB and each other operation 75 KB or less; the rest is room for later versions.
  *
  * What the proofs take for granted, and a caller has to see to:
  *   - a pointer is valid for the length that follows it and is never NULL. For length 0 any non-null pointer will do;
@@ -26,9 +26,9 @@ extern "C" {
 
 /* The minor rises with every later change of a format or of this interface. */
 #define BIXORGUN_VERSION_MAJOR 0
-#define BIXORGUN_VERSION_MINOR 3
+#define BIXORGUN_VERSION_MINOR 4
 #define BIXORGUN_VERSION_PATCH 0
-#define BIXORGUN_VERSION "0.3.0"
+#define BIXORGUN_VERSION "0.4.0"
 
 /* ---------------------------------------------------------------- sizes, in bytes */
 
@@ -39,10 +39,11 @@ extern "C" {
 #define BIXORGUN_PLAN_MAX 42560 /* a plan buffer that is long enough for every book */
 #define BIXORGUN_STACK 327680   /* the stack that a thread is given, at least */
 
-/* A plan buffer that is long enough for a book of these sizes (its first line is 01 P G A V): 10 x F, F = (1 + G) x A x V + G. */
-static inline size_t bixorgun_plan_size(size_t crews, size_t attributes, size_t values)
+/* A plan buffer that is long enough for a book whose first line is 01 P G A and a count for each attribute: 10 x F, F
+ * being (1 + G) x the sum of the counts, plus G. `crews` is G, and `values` the sum of the counts. */
+static inline size_t bixorgun_plan_size(size_t crews, size_t values)
 {
-    return 10 * ((1 + crews) * attributes * values + crews);
+    return 10 * ((1 + crews) * values + crews);
 }
 
 /* ---------------------------------------------------------------- answers */
@@ -83,14 +84,14 @@ static inline uint64_t bixorgun_value(uint64_t answer)
 #define BIXORGUN_BOOK_TOO_LONG 1     /* over 65,536 characters */
 #define BIXORGUN_BAD_LINE 2          /* an empty line, odd digits, another character, the last line unended */
 #define BIXORGUN_BAD_FRAME 3         /* first frame not 01, a later 01, kind not 01-05, a frame after 05, no 05 */
-#define BIXORGUN_BAD_LENGTH 4        /* not the length that the kind gives */
-#define BIXORGUN_BAD_FIELD 5         /* a field outside its range */
+#define BIXORGUN_BAD_LENGTH 4        /* not the length that the kind, with its A, n or q, gives */
+#define BIXORGUN_BAD_FIELD 5         /* a field outside its range; values and sets by the count of their attribute */
 #define BIXORGUN_BAD_EDGE 6          /* the junior is not the smaller number */
 #define BIXORGUN_BAD_TERM 7          /* term 03 or 04 in ops 01-04 (01, 02 and 05 are legal in every op) */
 #define BIXORGUN_TOO_MANY_RULES 8    /* the 513th rule */
 #define BIXORGUN_NOT_RISING 9        /* the query's attributes */
 #define BIXORGUN_SHORT_PLAN_BUFFER 10 /* plan: under 10 x F bytes */
-#define BIXORGUN_BAD_LEDGER 11       /* open: not 1,792 bytes; request, show: or a bit outside the sizes */
+#define BIXORGUN_BAD_LEDGER 11       /* open: not 1,792 bytes; request, show: or a bit outside the sizes, counts too */
 #define BIXORGUN_BAD_REQUEST 12      /* request: not five bytes or a field out of range; show: no such person */
 #define BIXORGUN_NO_RULE 13          /* request: no rule has its op, role, a and v */
 #define BIXORGUN_BAD_PLAN_LENGTH 14  /* replay: no multiple of five */
@@ -127,8 +128,9 @@ uint64_t bixorgun_request(const uint8_t *book, size_t book_len, uint8_t *ledger,
                           const uint8_t *request, size_t request_len);
 
 /* Shows what a person effectively holds and is effectively in.
- * DONE: the first 20 bytes of `view` are the eight attributes' sets, two bytes each (0 for an attribute that the book lacks), and the
- * set of crews, four bytes; big-endian, weight 2^v for number v. Bytes behind them keep their content.
+ * DONE: the first 20 bytes of `view` are the eight attributes' sets, two bytes each (values below the attribute's own
+ * count alone, so 0 for an attribute that the book lacks), and the set of crews, four bytes; big-endian, weight 2^v for
+ * number v. Bytes behind them keep their content.
  * REFUSED with 1-9, 11 or 12, and, where nothing is refused, NO_ROOM for a `view` under 20 bytes: every byte of `view` as it was. */
 uint64_t bixorgun_show(const uint8_t *book, size_t book_len, const uint8_t *ledger, size_t ledger_len, uint8_t person,
                        uint8_t *view, size_t view_len);

@@ -35,7 +35,7 @@ impl Edges {
     }
 }
 
-/// A climb's numbers.
+/// A climb's numbers; every attribute has the same count.
 #[derive(Clone, Copy, Debug)]
 pub struct Climb {
     pub persons: u8,
@@ -71,8 +71,7 @@ impl Climb {
 
     /// The book's characters.
     pub fn text(&self) -> Vec<u8> {
-        let mut text = format!("01{:02X}{:02X}{:02X}{:02X}\n", self.persons, self.crews, self.attrs, self.values);
-        text += &edges(self.edges);
+        let mut text = sizes(self.persons, self.crews, self.attrs, self.values) + &edges(self.edges);
         let mut rules: Vec<String> = (0..self.steps()).flat_map(|k| self.rules(k)).collect();
         if self.falling {
             rules.reverse();
@@ -124,7 +123,7 @@ impl Climb {
 fn rounds(count: u8) -> Vec<u8> {
     let first = |k: u8| format!("{:02X}{:02X}", k / 16, k % 16);
     let second = |k: u8| format!("{:02X}{:02X}", 4 + k / 16, k % 16);
-    let mut text = "0101200810\n".to_owned() + &edges(Edges::Chain(31));
+    let mut text = sizes(1, 32, 8, 16) + &edges(Edges::Chain(31));
     for k in (0..count).rev() {
         text += &format!("030300{}0101{}\n", second(k), first(k));
         text += &match k.checked_sub(1) {
@@ -145,7 +144,7 @@ fn rounds(count: u8) -> Vec<u8> {
 fn chains(taken: u8) -> Vec<u8> {
     let value = |k: u8| format!("{:02X}{:02X}", k / 16, k % 16);
     let chosen = |chain: u8| value(124 + chain);
-    let mut text = "0101200810\n".to_owned();
+    let mut text = sizes(1, 32, 8, 16);
     for chain in 0..4 {
         for k in (0..124_u8).rev() {
             text += &match k.checked_sub(1) {
@@ -159,6 +158,12 @@ fn chains(taken: u8) -> Vec<u8> {
     }
     text += "030100000000\n050100000101000001\n";
     text.into_bytes()
+}
+
+/// The first line: so many values of every attribute.
+fn sizes(persons: u8, crews: u8, attrs: u8, values: u8) -> String {
+    let counts = format!("{values:02X}").repeat(attrs.into());
+    format!("01{persons:02X}{crews:02X}{attrs:02X}{counts}\n")
 }
 
 fn edges(edges: Edges) -> String {

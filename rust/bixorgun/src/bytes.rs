@@ -191,8 +191,8 @@ pub fn replay(book: &[u8], plan: &[u8]) -> Result<Judgement, Refusal> {
 /// use bixorgun::bytes::{self, Planned};
 /// use bixorgun::Refusal;
 ///
-/// // F = (1 + 0) × 2 × 2 + 0 = 4.
-/// let book = b"0101000202\n050100FFFF00\n";
+/// // Attribute 0 has one value, attribute 1 three: F = (1 + 0) × (1 + 3) + 0 = 4.
+/// let book = b"010100020103\n050100FFFF00\n";
 /// assert_eq!(bytes::plan_into(book, &mut [0; 39]), Err(Refusal::ShortPlanBuffer));
 /// assert_eq!(bytes::plan_into(book, &mut [0; 40]), Ok(Planned::Plan(0)));
 /// ```

@@ -31,9 +31,9 @@ impl Ledger {
     /// use bixorgun::{Act, Attr, Book, Person, Refusal, Request, Role, Value};
     ///
     /// # fn main() -> Result<(), Refusal> {
-    /// // Attribute 0 is the grade, attribute 1 the lane. Rule 1: role 1 adds lane 0 to who directly holds grade 1.
-    /// // Rule 2: role 0 adds grade 1.
-    /// let book = Book::new("0101000202\n030101010001010001\n030100000100\n050100000000\n");
+    /// // Attribute 0 is the grade, of three values, attribute 1 the lane, of two. Rule 1: role 1 adds lane 0 to who
+    /// // directly holds grade 1. Rule 2: role 0 adds grade 1.
+    /// let book = Book::new("010100020302\n030101010001010001\n030100000100\n050100000000\n");
     /// let mut ledger = book.open()?;
     /// let add = |role, attr, value| Request::new(Role(role), Act::AddToPerson(Person(0), Attr(attr), Value(value)));
     ///
@@ -43,8 +43,9 @@ impl Ledger {
     /// ledger.request(&book, add(1, 1, 0))?;
     /// assert_eq!(ledger.as_bytes()[..4], [0, 0b10, 0, 0b01]);
     ///
-    /// // No rule is there for lane 1, whatever grade there is.
+    /// // No rule is there for lane 1, whatever grade there is; nor for grade 2. There is no lane 2.
     /// assert_eq!(ledger.request(&book, add(1, 1, 1)), Err(Refusal::NoRule));
+    /// assert_eq!(ledger.request(&book, add(1, 0, 2)), Err(Refusal::NoRule));
     /// assert_eq!(ledger.request(&book, add(1, 1, 2)), Err(Refusal::BadRequest));
     /// # Ok(())
     /// # }

@@ -83,11 +83,11 @@ pub use request::{Act, Request};
 
 /// The version of the library's interface, as `include/bixorgun.h` has it. The minor rises with every later change of a
 /// format or of the interface.
-pub const VERSION: &str = "0.3.0";
+pub const VERSION: &str = "0.4.0";
 /// The first number of [`VERSION`].
 pub const VERSION_MAJOR: u32 = 0;
 /// The second number of [`VERSION`].
-pub const VERSION_MINOR: u32 = 3;
+pub const VERSION_MINOR: u32 = 4;
 /// The third number of [`VERSION`].
 pub const VERSION_PATCH: u32 = 0;
 
@@ -100,19 +100,20 @@ pub const REQUEST_SIZE: usize = 5;
 /// The bytes that show writes.
 pub const VIEW_SIZE: usize = 20;
 /// The bytes of a plan buffer that is long enough for every book.
-pub const PLAN_MAX: usize = plan_size(32, 8, 16);
-/// The bytes of stack that a thread is given, at least. As measured with threads, plan needs 174 KB (of 1,024 bytes),
-/// request 84 KB and each other operation 72 KB or less; the rest is room for later versions.
+pub const PLAN_MAX: usize = plan_size(32, 128);
+/// The bytes of stack that a thread is given, at least. As measured with threads, plan needs 176 KB (of 1,024 bytes),
+/// request 85 KB and each other operation 75 KB or less; the rest is room for later versions.
 pub const STACK: usize = 320 * 1_024;
 
-/// The bytes of a plan buffer that is long enough for a book whose first line is `01 P G A V`: 10 × F, with
-/// "F = (1 + G) × A × V + G".
+/// The bytes of a plan buffer that is long enough for a book whose first line is `01 P G A` and a count for each
+/// attribute: 10 × F, where F is "(1 + G) × the sum of the counts, plus G". `crews` is G, and `values` the sum.
 ///
 /// ```
-/// assert_eq!(bixorgun::plan_size(0, 2, 2), 40);
+/// // Two crews; shift has three values, lane has sixteen.
+/// assert_eq!(bixorgun::plan_size(2, 3 + 16), 590);
 /// assert_eq!(bixorgun::PLAN_MAX, 42_560);
 /// ```
 #[must_use]
-pub const fn plan_size(crews: usize, attributes: usize, values: usize) -> usize {
-    10 * ((1 + crews) * attributes * values + crews)
+pub const fn plan_size(crews: usize, values: usize) -> usize {
+    10 * ((1 + crews) * values + crews)
 }

@@ -36,12 +36,13 @@ pub enum Refusal {
         /// Counted from 1.
         line: usize,
     },
-    /// 4: "any length but the one that the kind, with its n or q, gives"
+    /// 4: "any length but the one that the kind, with its n or q, gives"; and frame 01 is judged "by its A"
     BadLength {
         /// Counted from 1.
         line: usize,
     },
-    /// 5: "a field outside its range, n over 8, q over 8, a set bit outside the sizes"
+    /// 5: "a field outside its range, n over 8, q over 8, a set bit outside the sizes"; values and sets "are bounded by
+    /// their own attribute's count"
     BadField {
         /// Counted from 1.
         line: usize,
@@ -68,7 +69,7 @@ pub enum Refusal {
     },
     /// 10: "plan buffer under 10 × F"
     ShortPlanBuffer,
-    /// 11: "ledger not 1,792 bytes or a bit outside the sizes"
+    /// 11: "ledger not 1,792 bytes or a bit outside the sizes", of an attribute's set outside its own count
     BadLedger,
     /// 12: "request not five bytes or field out of range; no such person to show"
     BadRequest,
@@ -153,7 +154,7 @@ impl Refusal {
         }
     }
 
-    /// Says when the refusal falls, in the table's words; of 13 and 15 in a lead's.
+    /// Says when the refusal falls, in the table's words, of 4 with the A of frame 01; of 13 and 15 in a lead's.
     fn say_when(&self, f: &mut fmt::Formatter<'_>) -> fmt::Result {
         f.write_str(match self {
             Refusal::BookTooLong => "over 65,536 characters",
@@ -162,7 +163,7 @@ impl Refusal {
                 "first frame not 01, a later 01, kind not 01-05, a frame after 05, book ends without 05 (line after the \
                  last)"
             }
-            Refusal::BadLength { .. } => "any length but the one that the kind, with its n or q, gives",
+            Refusal::BadLength { .. } => "any length but the one that the kind, with its A, n or q, gives",
             Refusal::BadField { .. } => "a field outside its range, n over 8, q over 8, a set bit outside the sizes",
             Refusal::BadEdge { .. } => "j not smaller than s",
             Refusal::BadTerm { .. } => "term 03 or 04 in ops 01-04",

@@ -1,9 +1,12 @@
 //! docs/BOOK.md, the page for who writes a book: each book, each changed line and each call that stands there is run,
-//! and the answer beside it is the one that is given; each digit of its table has the value beside it.
+//! and the answer beside it is the one that is given; each digit of its table has the value beside it; the script that
+//! it names for old books does what it says.
 
 use std::collections::BTreeSet;
 use std::fs;
+use std::io::Write as _;
 use std::path::PathBuf;
+use std::process::{Command, Stdio};
 
 use bixorgun::bytes::{self, Planned, Shown};
 use bixorgun::{Judgement, Person, Refusal, LEDGER_SIZE, REQUEST_SIZE, VIEW_SIZE};
@@ -19,9 +22,12 @@ const ANSWERED: &str = "| Line | It says |";
 const CALLS: &str = "| No. | Call | Answer | Says |";
 const PLACES: &str = "| The set of | stands at byte | In the first example, behind the calls below |";
 
+fn repository() -> PathBuf {
+    [env!("CARGO_MANIFEST_DIR"), "..", ".."].iter().collect()
+}
+
 fn page() -> String {
-    let path: PathBuf = [env!("CARGO_MANIFEST_DIR"), "..", "..", "docs", "BOOK.md"].iter().collect();
-    fs::read_to_string(path).expect("the page")
+    fs::read_to_string(repository().join("docs/BOOK.md")).expect("the page")
 }
 
 /// The fenced blocks of a kind, each with the number of its first line on the page.
@@ -257,7 +263,21 @@ fn each_changed_line_has_its_answer() {
     let variants = compare_changed(&page, VARIANTS, 0);
     assert!(variants.len() >= 5, "{} variants", variants.len());
     let refused = refused_lines(&page);
-    assert!(refused.len() >= 26, "{} refused lines", refused.len());
+    assert!(refused.len() >= 31, "{} refused lines", refused.len());
+}
+
+/// With the old first line that the page gives, a book is refused by 4, and the script writes the new one in its place.
+#[test]
+fn an_old_book_is_converted() {
+    let page = page();
+    let said = page.split("\n\n").find(|part| part.starts_with("**An old book**")).expect("a paragraph on old books");
+    let [_, _, old, new, script] = codes(said)[..] else { panic!("{said}") };
+    let headed = |line: &str| changed(&example(&page), 1, format!("{line}\n").as_bytes());
+    assert_eq!(printed(&headed(old)), "8F040001\n");
+    let script = repository().join(script.strip_suffix(" < old > new").expect("its call"));
+    let mut child = Command::new(script).stdin(Stdio::piped()).stdout(Stdio::piped()).spawn().expect("the script runs");
+    child.stdin.take().expect("a pipe").write_all(&headed(old)).expect("it reads all");
+    assert_eq!(child.wait_with_output().expect("it ends").stdout, headed(new));
 }
 
 /// The table of digits has the sixteen values, and each digit is read with its value: as the last digit of the query's

@@ -151,7 +151,12 @@ fn the_planner_agrees_with_the_search() {
     let met = searched().iter().filter(|searched| searched.is_met_at_start).count();
     let ladders = (1..=6).map(|op| searched().iter().filter(|searched| searched.depot.has_ladder(op)).count());
     let ladders: Vec<usize> = ladders.collect();
+    let two: Vec<[u8; 2]> =
+        searched().iter().map(|searched| searched.depot.sizes.counts).filter(|c| c[1] > 0).collect();
+    let different = two.iter().filter(|counts| counts[0] != counts[1]).count();
     println!("books {}", searched().len());
+    println!("with two attributes {}", two.len());
+    println!("with two attributes of different counts {different}");
     println!("with a ladder term in a rule of op 01 to 06 {ladders:?}");
     println!("met by the starting facts {met}");
     println!("no way {no_way}");
@@ -161,8 +166,9 @@ fn the_planner_agrees_with_the_search() {
     println!("differences {differences}");
     assert_eq!(differences, 0);
     // These do not rest on which plan is given.
-    assert_eq!((met, no_way, plans), (4_411, 11_356, 8_644));
-    assert_eq!(ladders, [10_821, 10_721, 8_596, 8_607, 5_434, 5_482]);
+    assert_eq!((two.len(), different), (6_387, 5_787));
+    assert_eq!((met, no_way, plans), (3_965, 12_167, 7_833));
+    assert_eq!(ladders, [10_837, 10_783, 8_558, 8_603, 5_427, 5_501]);
     assert!(deleting > 0 && longest > 0);
 }
 
@@ -237,21 +243,21 @@ const MISLEADING: [(&str, &[&[u8]]); 5] = [
     ),
 ];
 
-/// Faults about ladder terms, each with an example that it misses. Values of attribute 0 are grades, 0 to 2; value 0 of
-/// attribute 1 is wanted, and adding it needs grade 1 or any higher, but for the deletion.
+/// Faults about ladder terms, each with an example that it misses. Values of attribute 0 are grades, 0 to 2; the one
+/// value of attribute 1 is wanted, and adding it needs grade 1 or any higher, but for the deletion.
 const LADDERS: [(&str, &[&[u8]]); 7] = [
     // Grade 2 is held.
-    ("a ladder term taken for kind 02", &[&[1, 1, 0, 2, 3], &[4, 1, 0, 0, 2], ADDED_BY_LADDER, WANTED]),
+    ("a ladder term taken for kind 02", &[&[1, 1, 0, 2, 3, 1], &[4, 1, 0, 0, 2], ADDED_BY_LADDER, WANTED]),
     // Grade 0 is held.
-    ("a ladder term looks downward", &[&[1, 1, 0, 2, 3], &[4, 1, 0, 0, 0], ADDED_BY_LADDER, WANTED]),
+    ("a ladder term looks downward", &[&[1, 1, 0, 2, 3, 1], &[4, 1, 0, 0, 0], ADDED_BY_LADDER, WANTED]),
     // Grade 1 is held.
-    ("a ladder term leaves out its own value", &[&[1, 1, 0, 2, 3], &[4, 1, 0, 0, 1], ADDED_BY_LADDER, WANTED]),
+    ("a ladder term leaves out its own value", &[&[1, 1, 0, 2, 3, 1], &[4, 1, 0, 0, 1], ADDED_BY_LADDER, WANTED]),
     // Grade 2 is held.
-    ("a ladder term leaves out the highest value", &[&[1, 1, 0, 2, 3], &[4, 1, 0, 0, 2], ADDED_BY_LADDER, WANTED]),
+    ("a ladder term leaves out the highest value", &[&[1, 1, 0, 2, 3, 1], &[4, 1, 0, 0, 2], ADDED_BY_LADDER, WANTED]),
     // In crew 0, which holds grade 2.
     (
         "a ladder term's higher values held directly alone",
-        &[&[1, 1, 1, 2, 3], &[4, 2, 0, 0, 2], &[4, 3, 0, 0, 0], ADDED_BY_LADDER, WANTED],
+        &[&[1, 1, 1, 2, 3, 1], &[4, 2, 0, 0, 2], &[4, 3, 0, 0, 0], ADDED_BY_LADDER, WANTED],
     ),
     // Grade 2 is held, deleting it needs grade 0 or any higher, none wanted.
     (
@@ -264,16 +270,32 @@ const LADDERS: [(&str, &[&[u8]]); 7] = [
         ],
     ),
     // Grade 0 is held.
-    ("a ladder term not tested", &[&[1, 1, 0, 2, 3], &[4, 1, 0, 0, 0], ADDED_BY_LADDER, WANTED]),
+    ("a ladder term not tested", &[&[1, 1, 0, 2, 3, 1], &[4, 1, 0, 0, 0], ADDED_BY_LADDER, WANTED]),
 ];
 
 const ADDED_BY_LADDER: &[u8] = &[3, 1, 0, 1, 0, 1, 5, 0, 1];
 const WANTED: &[u8] = &[5, 1, 0, 255, 255, 1, 1, 0, 1];
 
+/// Faults about ranges, each with an example that it misses: the one attribute has one value, the other three.
+const RANGES: [(&str, &[&[u8]]); 3] = [
+    // Value 2 of attribute 1 is held. Adding the value of attribute 0, which is wanted, needs 0 or any higher of it.
+    (
+        "a ladder term looks up to the first attribute's count",
+        &[&[1, 1, 0, 2, 1, 3], &[4, 1, 0, 1, 2], &[3, 1, 0, 0, 0, 1, 5, 1, 0], &[5, 1, 0, 255, 255, 1, 0, 0, 1]],
+    ),
+    // Value 2 of attribute 1 is wanted, and may be added.
+    (
+        "every attribute taken to have the first one's values",
+        &[&[1, 1, 0, 2, 1, 3], &[3, 1, 0, 1, 2, 0], &[5, 1, 0, 255, 255, 1, 1, 0, 4]],
+    ),
+    // F is 3 + 1, and not 3 + 3: the buffer of 10 × F bytes is long enough.
+    ("10 × F by A × the first attribute's count", &[&[1, 1, 0, 2, 3, 1], &[5, 1, 0, 255, 255, 0]]),
+];
+
 /// The library's planner and the small one without a fault are right on each example, the misleading plan is not.
 #[test]
 fn misleading_plans_miss_their_examples() {
-    for (fault, frames) in MISLEADING.into_iter().chain(LADDERS) {
+    for (fault, frames) in MISLEADING.into_iter().chain(LADDERS).chain(RANGES) {
         let searched = Searched::of(Depot::of(frames.iter().map(|frame| frame.to_vec()).collect()));
         assert!(RIGHT.into_iter().chain([library as Planner]).all(|right| judge(&searched, right).is_ok()), "{fault}");
         let (_, wrong) = WRONG.into_iter().find(|(other, _)| *other == fault).expect("a wrong planner");

@@ -1,6 +1,6 @@
 //! `examples/c/plan_book.c`, built by the C compiler (`CC`, else `cc`) against the header and the archive, says of each
 //! stored book what this crate says, tells a lead why a request is refused, and has this crate's version. A second
-//! program reads rule and term out of answers by the header's inline functions.
+//! program reads rule and term out of answers by the header's inline functions, and a third reckons the plan's buffer.
 
 use std::env;
 use std::fmt::Write as _;
@@ -87,7 +87,7 @@ fn c_says_the_same_of_each_stored_book() {
         fs::read_dir(&data).expect("the stored books").map(|entry| entry.expect("a name").path()).collect();
     books.retain(|path| path.extension().is_some_and(|end| end == "book"));
     books.sort();
-    assert!(books.len() >= 59, "{} books", books.len());
+    assert!(books.len() >= 82, "{} books", books.len());
     for path in books {
         let book = fs::read_to_string(&path).expect("a stored book");
         let ran = Command::new(program()).arg(&path).output().expect("the example runs");
@@ -162,6 +162,35 @@ fn c_reads_rule_and_term_out_of_an_answer() {
     let (answers, lines): (Vec<u64>, Vec<String>) = cases.into_iter().unzip();
     let ran = Command::new(program).args(answers.iter().map(|answer| format!("{answer:X}"))).output().expect("it runs");
     assert_eq!(String::from_utf8_lossy(&ran.stdout), lines.concat());
+}
+
+/// Prints the bytes of the plan's buffer for each pair, crews and values, that it is given.
+const PLAN_SIZE: &str = r#"
+#include <stdio.h>
+#include <stdlib.h>
+#include "bixorgun.h"
+
+int main(int argc, char **argv)
+{
+    for (int i = 1; i + 1 < argc; i += 2)
+        printf("%zu\n", bixorgun_plan_size(strtoul(argv[i], NULL, 10), strtoul(argv[i + 1], NULL, 10)));
+    printf("%d\n", BIXORGUN_PLAN_MAX);
+    return 0;
+}
+"#;
+
+/// 10 x F, with F = (1 + G) x the sum of the counts, plus G; the largest is the longest buffer.
+#[test]
+fn c_reckons_the_plans_buffer() {
+    let source = Path::new(env!("CARGO_TARGET_TMPDIR")).join("plan_size.c");
+    fs::write(&source, PLAN_SIZE).expect("the source is written");
+    let program = built("plan_size", &source);
+    let pairs = [(0, 1), (0, 4), (1, 2), (2, 3 + 16), (9, 84), (32, 1), (32, 128)];
+    let arguments = pairs.iter().flat_map(|(crews, values)| [crews, values]).map(|n: &usize| n.to_string());
+    let ran = Command::new(program).args(arguments).output().expect("it runs");
+    let expected: String =
+        pairs.iter().map(|&(crews, values)| format!("{}\n", bixorgun::plan_size(crews, values))).collect();
+    assert_eq!(String::from_utf8_lossy(&ran.stdout), format!("{expected}42560\n"));
 }
 
 #[test]

@@ -149,11 +149,11 @@ fn tried(book: &[u8]) -> BTreeSet<Seen> {
 /// depot of sixteen persons, crews and values, where most numbers may have any low digit.
 #[test]
 fn every_byte_at_every_place() {
-    let at_least = "0102020203\n020100\n0401000000\n0402000001\n030501010001010000\n030102000201020001\n\
+    let at_least = "010202020310\n020100\n0401000000\n0402000001\n030501010001010000\n030102000201020001\n\
                     030103010002010002020001\n050100000E01010001\n";
     let exactly = "0102020103\n020100\n0403000100\n0401000002\n0402000000\n030302000101010000\n030202000201020001\n\
                    030601010001030100\n05020000060100000000000000\n";
-    let sixteen = "0110100810\n020F0E\n04010B070C\n04020E0309\n03050A0F000101070C\n03010D060B01020309\n\
+    let sixteen = "011010081010101010101010\n020F0E\n04010B070C\n04020E0309\n03050A0F000101070C\n03010D060B01020309\n\
                    05010B240001060800\n";
     let books = [(at_least, &[2, 3, 4, 5, 6][..]), (exactly, &[2, 3, 4, 5, 6, 7]), (sixteen, &[2, 3, 4, 5, 6])];
     for (book, refusals) in books {
@@ -176,10 +176,19 @@ fn every_byte_at_every_place_of_a_long_line() {
         (132, 5, format!("030100000014{}", terms(20))),
         (134, 5, format!("050200FFFF13{}00000000", named(19))),
     ];
-    for (digits, number, line) in lines {
+    let counts = |n: usize| "01".repeat(n);
+    let first_lines = [
+        (126, 5, format!("0101013B{}", counts(59))),
+        (128, 5, format!("0101013C{}", counts(60))),
+        (130, 4, format!("0101013E{}", counts(61))),
+        (130, 5, format!("0101013D{}", counts(61))),
+    ];
+    let second = lines.into_iter().map(|line| ("0101010102\n", 2, line));
+    let first = first_lines.into_iter().map(|line| ("", 1, line));
+    for (before, at, (digits, number, line)) in second.chain(first) {
         assert_eq!(line.len(), digits);
-        let seen = tried(format!("0101010102\n{line}\n").as_bytes());
-        assert!(seen.contains(&Seen::Refused(number, 2)));
+        let seen = tried(format!("{before}{line}\n").as_bytes());
+        assert!(seen.contains(&Seen::Refused(number, at)));
         assert!(seen.iter().all(|answer| answer.number().is_some()));
     }
 }
@@ -260,18 +269,33 @@ fn values_of_digits_in_a_field() {
     let fields: [(&str, &str, RangeInclusive<u8>, usize); 8] = [
         ("01", "000101\n050100000000\n", 1..=64, 1),
         ("0101", "0101\n050100000000\n", 0..=32, 1),
-        ("010100", "01\n050100000000\n", 1..=8, 1),
         ("01010001", "\n050100000000\n", 1..=16, 1),
-        ("0140200810\n0301", "000000\n050100000000\n", 0..=15, 2),
-        ("0140200810\n03010000", "00\n050100000000\n", 0..=15, 2),
-        ("0140200810\n030500", "0000\n050100000000\n", 0..=31, 2),
-        ("0140200810\n0501", "000000\n", 0..=63, 2),
+        ("010100020D", "\n050100000000\n", 1..=16, 1),
+        ("014020020D10\n0301", "000000\n050100000000\n", 0..=15, 2),
+        ("014020020D10\n03010001", "00\n050100000000\n", 0..=15, 2),
+        ("014020020D10\n030500", "0000\n050100000000\n", 0..=31, 2),
+        ("014020020D10\n0501", "000000\n", 0..=63, 2),
     ];
     for (before, behind, range, line) in fields {
         for byte in 0..=255 {
             let text = format!("{before}{}{behind}", two(byte));
             let expected = if range.contains(&byte) { Ok(()) } else { Err(Refusal::BadField { line }) };
             assert_eq!(Book::new(&text).open().map(|_| ()), expected, "{text}");
+        }
+    }
+}
+
+/// The number of attributes gives the length of its line, over 128 characters from 61 on. 5 falls on 0 and on those
+/// over 8, and 4 on a line with a count more or one less.
+#[test]
+fn values_of_digits_in_the_attributes() {
+    let opened = |text: String| Book::new(&text).open().map(|_| ());
+    for n in 0..=255 {
+        let headed = |counts: usize| format!("010100{}{}\n050100000000\n", two(n), "01".repeat(counts));
+        let expected = if (1..=8).contains(&n) { Ok(()) } else { Err(Refusal::BadField { line: 1 }) };
+        assert_eq!(opened(headed(n.into())), expected, "{n} attributes");
+        for counts in [usize::from(n) + 1].into_iter().chain(usize::from(n).checked_sub(1)) {
+            assert_eq!(opened(headed(counts)), Err(Refusal::BadLength { line: 1 }), "{n} attributes, {counts} counts");
         }
     }
 }
@@ -293,7 +317,8 @@ fn values_of_digits_in_a_fact() {
     for (k, first, subjects) in [(1, 0, 64), (2, 1_024, 32)] {
         for byte in 0..=255 {
             for [s, a, v] in [[byte, 0, 0], [0, byte, 0], [0, 0, byte]] {
-                let text = format!("0140200810\n04{}{}{}{}\n050100000000\n", two(k), two(s), two(a), two(v));
+                let sizes = "014020081010101010101010";
+                let text = format!("{sizes}\n04{}{}{}{}\n050100000000\n", two(k), two(s), two(a), two(v));
                 let ledger = Book::new(&text).open().map(Ledger::into_bytes);
                 let expected = if s < subjects && a < 8 && v < 16 {
                     let mut ledger = [0; LEDGER_SIZE];

@@ -12,9 +12,13 @@ use trials::{Draft, Ledger};
 
 const SEED: u64 = 20_261_115;
 
-/// The values of all attributes stand in one row: place i is value i % 16 of attribute i / 16.
-const PLACES: u8 = 128;
 const CREWS: u8 = 32;
+
+/// How many values each attribute has.
+type Counts = [u8; 8];
+
+const FULL: Counts = [16; 8];
+const UNEVEN: Counts = [3, 16, 1, 7, 2, 12, 5, 9];
 
 /// A plan is changed at one place of so many: a request is doubled, and swapped with the next.
 const GAP: u8 = 40;
@@ -24,26 +28,34 @@ const RARE: u8 = 16;
 
 type Frames = Vec<Vec<u8>>;
 
+/// The values of all attributes stand in one row, attribute by attribute: what stands at each place of it.
+fn row_of(counts: Counts) -> Vec<[u8; 2]> {
+    (0..).zip(counts).flat_map(|(a, count)| (0..count).map(move |v| [a, v])).collect()
+}
+
 /// Which rules stand for every place: op and role, and terms of a kind on at most so many places before it. An own
 /// rule counts its own place among these.
 struct Rules {
+    counts: Counts,
     op: u8,
     role: u8,
     kind: u8,
-    most: u8,
+    most: usize,
     own: bool,
 }
 
 impl Rules {
     fn frames(&self) -> Frames {
-        (0..PLACES).map(|place| self.frame(place)).collect()
+        let row = row_of(self.counts);
+        (0..row.len()).map(|place| self.frame(&row, place)).collect()
     }
 
-    fn frame(&self, place: u8) -> Vec<u8> {
-        let top = place + u8::from(self.own);
-        let n = self.most.min(top);
-        let mut frame = vec![3, self.op, self.role, place / 16, place % 16, n];
-        frame.extend((top - n..top).rev().flat_map(|before| [self.kind, before / 16, before % 16]));
+    fn frame(&self, row: &[[u8; 2]], place: usize) -> Vec<u8> {
+        let top = place + usize::from(self.own);
+        let asked = &row[top.saturating_sub(self.most)..top];
+        let [a, v] = row[place];
+        let mut frame = vec![3, self.op, self.role, a, v, asked.len() as u8];
+        frame.extend(asked.iter().rev().flat_map(|&[a, v]| [self.kind, a, v]));
         frame
     }
 
@@ -74,15 +86,26 @@ fn dense_crews() -> Frames {
 }
 
 /// The sizes, and a person in crew 31.
-fn start(person: u8) -> Frames {
-    vec![vec![1, 64, CREWS, 8, 16], vec![4, 3, person, CREWS - 1, 0]]
+fn start(counts: Counts, person: u8) -> Frames {
+    let sizes = [&[1, 64, CREWS, 8][..], &counts].concat();
+    vec![sizes, vec![4, 3, person, CREWS - 1, 0]]
 }
 
-/// A query that names every attribute: attribute 0 by the byte `first`, 255 for all values and 0 for none, the
-/// others by the byte `rest`. In mode 02 crew 31 alone is listed.
-fn query(mode: u8, person: u8, roles: u8, first: u8, rest: u8) -> Frames {
-    let mut frame = vec![5, mode, person, 0, roles, 8, 0, first, first];
-    frame.extend((1..8).flat_map(|a| [a, rest, rest]));
+/// How many of the attributes, from the first on, a query names with all their values; the others it names with none.
+#[derive(Clone, Copy)]
+enum Whole {
+    None = 0,
+    First = 1,
+    All = 8,
+}
+
+/// A query that names every attribute. In mode 02 crew 31 alone is listed.
+fn query(counts: Counts, mode: u8, person: u8, roles: u8, whole: Whole) -> Frames {
+    let mut frame = vec![5, mode, person, 0, roles, 8];
+    for (a, count) in (0..).zip(counts) {
+        let [high, low] = if a < whole as u8 { (u16::MAX >> (16 - count)).to_be_bytes() } else { [0, 0] };
+        frame.extend([a, high, low]);
+    }
     if mode == 2 {
         frame.extend([128, 0, 0, 0]);
     }
@@ -91,38 +114,47 @@ fn query(mode: u8, person: u8, roles: u8, first: u8, rest: u8) -> Frames {
 
 /// Each value needs the one before it, to be added and to be deleted; nothing is to stay.
 fn chain() -> Frames {
-    let crews = Rules { op: 3, role: 0, kind: 1, most: 1, own: false };
+    let crews = Rules { counts: FULL, op: 3, role: 0, kind: 1, most: 1, own: false };
     let persons = Rules { op: 1, ..crews };
-    [start(5), chain_of_crews(), crews.there_and_back(false), persons.there_and_back(false), query(2, 5, 1, 0, 0)]
-        .concat()
+    let rules = [crews.there_and_back(false), persons.there_and_back(false)].concat();
+    [start(FULL, 5), chain_of_crews(), rules, query(FULL, 2, 5, 1, Whole::None)].concat()
 }
 
 /// Each value may be added by itself; the crews are joined from 31 down. A third of the rules are of roles that are
 /// not asked.
 fn free() -> Frames {
-    let crews = Rules { op: 3, role: 0, kind: 1, most: 0, own: false };
+    let crews = Rules { counts: FULL, op: 3, role: 0, kind: 1, most: 0, own: false };
     let persons = Rules { op: 1, role: 1, ..crews };
     let others = Rules { op: 4, role: 2, ..crews };
     let added = [crews.frames(), persons.frames(), joins(5, 3)].concat();
     let deleted = [others.frames(), joins(6, 2)].concat();
-    [start(62), added, deleted, query(1, 63, 11, 255, 255)].concat()
+    [start(FULL, 62), added, deleted, query(FULL, 1, 63, 11, Whole::All)].concat()
 }
 
 /// To be added each value needs the eight before it effectively; to be deleted, itself and the seven before it
 /// directly. Every crew is above all before it. The values of attribute 0 are to stay.
 fn dense() -> Frames {
-    let crews = Rules { op: 3, role: 0, kind: 2, most: 8, own: false };
+    let crews = Rules { counts: FULL, op: 3, role: 0, kind: 2, most: 8, own: false };
     let persons = Rules { op: 1, role: 1, ..crews };
-    [start(17), dense_crews(), crews.there_and_back(true), persons.there_and_back(true), query(2, 17, 3, 255, 0)]
-        .concat()
+    let rules = [crews.there_and_back(true), persons.there_and_back(true)].concat();
+    [start(FULL, 17), dense_crews(), rules, query(FULL, 2, 17, 3, Whole::First)].concat()
 }
 
 /// Each value needs the two before it effectively; the crews are joined from 31 down; all values are wanted.
 fn row() -> Frames {
-    let crews = Rules { op: 3, role: 0, kind: 2, most: 2, own: false };
+    let crews = Rules { counts: FULL, op: 3, role: 0, kind: 2, most: 2, own: false };
     let persons = Rules { op: 1, role: 2, ..crews };
-    let query = query(1, 40, 7, 255, 255);
-    [start(0), chain_of_crews(), crews.frames(), joins(5, 1), persons.frames(), query].concat()
+    let query = query(FULL, 1, 40, 7, Whole::All);
+    [start(FULL, 0), chain_of_crews(), crews.frames(), joins(5, 1), persons.frames(), query].concat()
+}
+
+/// Each attribute has another count. To be added each value needs the two before it, or higher ones of their
+/// attributes, effectively; to be deleted, itself and the one before it directly. The values of attribute 0 are to stay.
+fn uneven() -> Frames {
+    let crews = Rules { counts: UNEVEN, op: 3, role: 0, kind: 5, most: 2, own: false };
+    let persons = Rules { op: 1, role: 1, ..crews };
+    let rules = [crews.there_and_back(true), persons.there_and_back(true)].concat();
+    [start(UNEVEN, 63), chain_of_crews(), rules, query(UNEVEN, 2, 63, 3, Whole::First)].concat()
 }
 
 /// What is done to a plan at a place.
@@ -258,7 +290,8 @@ impl Tally {
 fn replay_of_long_plans_whole_and_damaged() {
     let mut seed = Seed::new(SEED);
     let mut tally = Tally::default();
-    for (name, frames) in [("chain", chain()), ("free", free()), ("dense", dense()), ("row", row())] {
+    let books = [("chain", chain()), ("free", free()), ("dense", dense()), ("row", row()), ("uneven", uneven())];
+    for (name, frames) in books {
         let draft = Draft::new(frames);
         let mut buffer = vec![0; PLAN_MAX];
         let Ok(Planned::Plan(count)) = bytes::plan_into(draft.text(), &mut buffer) else { panic!("{name}: a plan") };

@@ -123,7 +123,7 @@ fn d12_a_deleted_value_that_is_inherited() {
 
 #[test]
 fn the_ledgers_places() {
-    let text = "0140200810\n04013F070F\n04021F070F\n04033F1F00\n0401000000\n050100000000\n";
+    let text = "014020080102030405060710\n04013F070F\n04021F070F\n04033F1F00\n0401000000\n050100000000\n";
     let ledger = Book::new(text).open().expect("opens");
     assert_eq!(format!("{ledger:?}"), "Ledger {1: 1, 1022: 128, 1534: 128, 1788: 128}");
     assert!(Ledger::try_from(&ledger.as_bytes()[..]).is_ok_and(|again| again == ledger));
@@ -135,7 +135,9 @@ fn the_ledgers_places() {
 #[test]
 fn the_bytes_of_show() {
     // Person 63 holds values 15 and 0 of attribute 7 and 3 of attribute 1, and is in crew 31, senior of 9, which holds 8.
-    let text = "0140200810\n04013F070F\n04013F0700\n04013F0103\n04033F1F00\n021F09\n0402090108\n050100000000\n";
+    // Of attribute 1 that is the last value.
+    let text =
+        "014020080109020304050610\n04013F070F\n04013F0700\n04013F0103\n04033F1F00\n021F09\n0402090108\n050100000000\n";
     let book = Book::new(text);
     let ledger = book.open().expect("opens");
     let mut buffer = [0xA5; VIEW_SIZE + 3];
@@ -184,7 +186,7 @@ fn a_plan_iterates() {
 /// A buffer of exactly 10 × F, and a longer one; a plan in its front, and all behind as it was.
 #[test]
 fn a_plan_fills_the_front() {
-    let need = bixorgun::plan_size(1, 1, 2);
+    let need = bixorgun::plan_size(1, 2);
     for length in [need, need + 1, PLAN_MAX] {
         let mut buffer = vec![0xA5; length];
         assert_eq!(bytes::plan_into(D1.as_bytes(), &mut buffer), Ok(Planned::Plan(2)));
@@ -209,7 +211,7 @@ fn requests_and_their_bytes() {
                 assert_eq!(request.to_bytes(), five);
             } else {
                 let mut ledger = [0; LEDGER_SIZE];
-                let book = "0140200810\n050100000000\n";
+                let book = "014020081010101010101010\n050100000000\n";
                 assert_eq!(bytes::request(book.as_bytes(), &mut ledger, &five), Err(Refusal::BadRequest));
             }
         }

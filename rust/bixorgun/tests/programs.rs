@@ -53,11 +53,35 @@ fn stored() -> Vec<(String, Vec<u8>)> {
 }
 
 /// A book of the characters asked for, or up to ten fewer: one value wanted, one rule that gives it, and the fact that
-/// person 0 holds the other, repeated. The sizes are the last four bytes of its first line.
+/// person 0 holds another, repeated. The sizes are the bytes of its first line behind the first.
 fn filled(sizes: &str, characters: usize) -> Vec<u8> {
     let (head, fact, query) = (format!("01{sizes}\n030100000000\n"), "0401000001\n", "050100000101000001\n");
     let count = characters.saturating_sub(head.len() + query.len()) / fact.len();
     [head.as_bytes(), &fact.as_bytes().repeat(count), query.as_bytes()].concat()
+}
+
+/// Sizes, each with its F. By the sizes `plan` chooses its buffers: of up to 204 facts, of up to 849 (no sizes have
+/// 848), and of any.
+const SIZES: [(&str, usize); 10] = [
+    ("01000102", 2),
+    ("010B020A06", 203),
+    ("010404100C0903", 204),
+    ("010108100F0E0D0C0B0A0B", 205),
+    ("011203100D03", 626),
+    ("010C06100F0C0A0704", 844),
+    ("010F05100D0B0903", 847),
+    ("01090810100E0C0A080503", 849),
+    ("01160402100D05", 850),
+    ("4020081010101010101010", 4_256),
+];
+
+/// F by the paper: (1 + G) × the sum of the counts, plus G.
+fn facts_of(sizes: &str) -> usize {
+    let byte = |at: usize| usize::from_str_radix(&sizes[at..at + 2], 16).expect("digits");
+    let (crews, attrs) = (byte(2), byte(4));
+    assert_eq!(sizes.len(), 2 * (3 + attrs));
+    let values: usize = (0..attrs).map(|a| byte(6 + 2 * a)).sum();
+    (1 + crews) * values + crews
 }
 
 /// Lengths around the ends of the programs' buffers and of the longest book.
@@ -70,7 +94,7 @@ fn compare(name: &str, book: &[u8]) {
 #[test]
 fn plan_prints_what_the_library_answers_to_each_stored_book() {
     let books = stored();
-    assert!(books.len() >= 343, "{} books", books.len());
+    assert!(books.len() >= 476, "{} books", books.len());
     for (name, book) in &books {
         compare(name, book);
     }
@@ -78,8 +102,8 @@ fn plan_prints_what_the_library_answers_to_each_stored_book() {
 
 #[test]
 fn plan_reads_books_of_every_length() {
-    // F = 2, 626, 844 and 4,256: one for each choice of buffers, and one near a bound.
-    for sizes in ["01000102", "01120210", "010C0410", "40200810"] {
+    for (sizes, facts) in SIZES {
+        assert_eq!(facts_of(sizes), facts);
         for length in LENGTHS {
             for more in 0..12 {
                 let book = filled(sizes, length + more);
@@ -94,13 +118,29 @@ fn plan_reads_books_of_every_length() {
     }
 }
 
+/// A book of few lines, whole and ended at every place; and the shortest book, which has as many characters as the
+/// longest first line has digits.
+#[test]
+fn plan_reads_short_books() {
+    for (sizes, _) in SIZES {
+        let book = filled(sizes, 0);
+        for end in 0..=book.len() {
+            compare(&format!("{sizes}, {end} characters"), &book[..end]);
+        }
+    }
+    let shortest = "0101000101\n050100000000\n";
+    assert_eq!((shortest.len(), output("plan", &[shortest.as_bytes()])), (24, "810000\n".to_owned()));
+}
+
 #[test]
 fn plan_reads_what_comes_in_parts() {
     for length in [40, 64, 100, 18_688, 20_000, 65_536] {
-        let book = filled("01000102", length);
-        for cut in [1, 63, 64, 65, book.len() / 2] {
-            let (first, rest) = book.split_at(cut.min(book.len()));
-            assert_eq!(output("plan", &[first, rest]), printed(&book), "{length} characters, cut at {cut}");
+        for (sizes, facts) in [SIZES[0], SIZES[8]] {
+            let book = filled(sizes, length);
+            for cut in [1, 10, 23, 24, 25, 63, 64, 65, book.len() / 2] {
+                let (first, rest) = book.split_at(cut.min(book.len()));
+                assert_eq!(output("plan", &[first, rest]), printed(&book), "F = {facts}, {length}, cut at {cut}");
+            }
         }
     }
 }

@@ -1,18 +1,21 @@
 //! Each refusal of the table: its number, its line or its rule and term, its words; their order; and buffers that keep
 //! their bytes.
 
+mod lent;
+
 use bixorgun::bytes;
 use bixorgun::{Book, Judgement, Person, Refusal, LEDGER_SIZE};
+use lent::{kept, pattern};
 
 const GOOD: &[u8] = b"0101010102\n030100000000\n050100FFFF00\n";
 
-/// The words of each refusal, 1 to 15: those of the specification's table, and a lead's for 13 and for 15, here of rule
-/// 3 and its term 2.
+/// The words of each refusal, 1 to 15: those of the specification's table, of 4 with the A of frame 01, and a lead's
+/// for 13 and for 15, here of rule 3 and its term 2.
 const WORDS: [&str; 15] = [
     "over 65,536 characters",
     "empty line, odd digits, another character, last line unended",
     "first frame not 01, a later 01, kind not 01-05, a frame after 05, book ends without 05 (line after the last)",
-    "any length but the one that the kind, with its n or q, gives",
+    "any length but the one that the kind, with its A, n or q, gives",
     "a field outside its range, n over 8, q over 8, a set bit outside the sizes",
     "j not smaller than s",
     "term 03 or 04 in ops 01-04",
@@ -25,21 +28,6 @@ const WORDS: [&str; 15] = [
     "plan length no multiple of five",
     "rule 3 of the book matches the request, but its term 2 does not hold",
 ];
-
-/// Bytes that no operation writes by chance.
-fn pattern(length: usize) -> Vec<u8> {
-    (0..length).map(|at| (at * 167 + at / 251 + 13) as u8).collect()
-}
-
-/// Lends a copy of some bytes, and sees that a refusal leaves every one as it was.
-fn kept(before: &[u8], operation: impl FnOnce(&mut [u8]) -> Option<Refusal>) -> Refusal {
-    let mut buffer = before.to_vec();
-    let refusal = operation(&mut buffer).expect("a refusal");
-    for (at, (before, after)) in before.iter().zip(&buffer).enumerate() {
-        assert_eq!(before, after, "byte {at}, {refusal}");
-    }
-    refusal
-}
 
 fn good_line(line: &str) -> Vec<u8> {
     format!("0101010102\n{line}\n").into_bytes()
@@ -62,6 +50,7 @@ fn bad_books() -> Vec<(Vec<u8>, Refusal)> {
         (Vec::new(), Refusal::BadFrame { line: 1 }),
         (b"0101010102\n".to_vec(), Refusal::BadFrame { line: 2 }),
         (good_line("0200"), Refusal::BadLength { line: 2 }),
+        (b"0101010202\n".to_vec(), Refusal::BadLength { line: 1 }),
         (b"0100010102\n".to_vec(), Refusal::BadField { line: 1 }),
         // A ladder term without such an attribute, without such a value, and before 7; the kind behind it.
         (good_line("030100000001050100"), Refusal::BadField { line: 2 }),
@@ -128,7 +117,7 @@ fn kinds_of_terms() {
 
 #[test]
 fn ten() {
-    let need = bixorgun::plan_size(1, 1, 2);
+    let need = bixorgun::plan_size(1, 2);
     for length in 0..need {
         let before = pattern(length);
         assert_eq!(kept(&before, |out| bytes::plan_into(GOOD, out).err()), Refusal::ShortPlanBuffer);
@@ -190,8 +179,8 @@ fn twelve() {
 }
 
 /// A depot whose person 0 and crew 1 directly hold value 0 of attribute 0 and effectively hold 0 and 1, not 2. The
-/// person is directly in crew 1 and effectively in 0 and 1, not 2. Nobody holds a value of attribute 1.
-const SIZES: &str = "0102030203\n";
+/// person is directly in crew 1 and effectively in 0 and 1, not 2. Nobody holds a value of attribute 1, which has two.
+const SIZES: &str = "010203020302\n";
 const FACTS: &str = "020100\n0402000001\n0402010000\n0401000000\n0403000100\n";
 const QUERY: &str = "050100FFFF00\n";
 
@@ -373,8 +362,9 @@ fn thirteen_and_fifteen_come_last() {
         assert_eq!(told(nobody.as_bytes(), &good, &ADD), last);
         assert_eq!(bytes::replay(nobody.as_bytes(), &ADD), Ok(Judgement::Stops(1)));
 
-        // 12: not five bytes, or a subject that is not there.
-        let ill_formed = [&[][..], &ADD[..4], &[1, 0, 0, 1, 0, 0], &[1, 0, 2, 1, 0], &[1, 0, 255, 1, 0]];
+        // 12: not five bytes, or a subject or a value that is not there.
+        let ill_formed =
+            [&[][..], &ADD[..4], &[1, 0, 0, 1, 0, 0], &[1, 0, 2, 1, 0], &[1, 0, 255, 1, 0], &[1, 0, 0, 1, 2]];
         for request in ill_formed {
             assert_eq!(told(&book, &good, request), Refusal::BadRequest, "{request:?}");
         }

@@ -101,7 +101,7 @@ fn deep_chain() -> Case {
     let facts = "0403001F00\n0403000000\n0402000000\n0402000700\n";
     let query = "050200FFFF0101FFFF80000000";
     let unmet = "03010F010002020000020701\n";
-    let book = format!("0140200810\n{edges}{facts}{rules}{unmet}030600000001040000\n{query}\n");
+    let book = format!("014020081010101010101010\n{edges}{facts}{rules}{unmet}030600000001040000\n{query}\n");
     let case = Case::new("a chain of crews", book.into_bytes());
     assert_eq!(case.list.len(), 17 * REQUEST_SIZE);
     case
@@ -115,7 +115,7 @@ fn refused() -> Vec<Case> {
         Case::new("one line without an end", vec![b'0'; BOOK_MAX]),
         Case::new("one empty line after the other", vec![b'\n'; BOOK_MAX]),
         Case::new("513 rules", rules.into_bytes()),
-        Case::new("no query", b"0140200810\n".to_vec()),
+        Case::new("no query", b"014020081010101010101010\n".to_vec()),
     ]
 }
 

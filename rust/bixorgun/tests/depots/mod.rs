@@ -1,5 +1,6 @@
-//! Small depots drawn from a seed: 1-2 persons, 0-3 crews, 1-2 attributes of 1-3 values, at most twelve facts and
-//! twelve rules of every op and every kind of term, starting facts, and a query of either mode.
+//! Small depots drawn from a seed: 1-2 persons, 0-3 crews, 1-2 attributes of 1-3 values, two mostly of different
+//! counts, at most twelve facts and twelve rules of every op and every kind of term, starting facts, and a query of
+//! either mode.
 
 use crate::seed::Seed;
 use crate::trials::{Draft, Ledger};
@@ -12,13 +13,12 @@ const MOST_RULES: usize = 12;
 /// The kind of a ladder term: the subject effectively holds v or any higher value of a.
 pub const LADDER: u8 = 5;
 
-/// The first line's numbers.
+/// The first line's numbers; an attribute that is not there has count 0.
 #[derive(Clone, Copy)]
 pub struct Sizes {
     pub persons: u8,
     pub crews: u8,
-    pub attrs: u8,
-    pub values: u8,
+    pub counts: [u8; 2],
 }
 
 /// A fact as its line has it: kind 1 a person's value, 2 a crew's, 3 a person in crew a.
@@ -77,9 +77,19 @@ impl Fact {
 }
 
 impl Sizes {
+    pub fn attrs(self) -> u8 {
+        self.counts.iter().filter(|&&count| count > 0).count() as u8
+    }
+
+    /// How many values an attribute has.
+    pub fn values(self, a: u8) -> u8 {
+        self.counts[usize::from(a)]
+    }
+
     fn fact_count(self) -> usize {
-        let [persons, crews, attrs, values] = [self.persons, self.crews, self.attrs, self.values].map(usize::from);
-        (persons + crews) * attrs * values + persons * crews
+        let [persons, crews] = [self.persons, self.crews].map(usize::from);
+        let values: usize = self.counts.map(usize::from).iter().sum();
+        (persons + crews) * values + persons * crews
     }
 
     /// Every fact: the persons' values, the crews', the memberships.
@@ -87,8 +97,8 @@ impl Sizes {
         let mut facts = Vec::new();
         for (kind, subjects) in [(1, self.persons), (2, self.crews)] {
             for subject in 0..subjects {
-                for a in 0..self.attrs {
-                    facts.extend((0..self.values).map(|v| Fact { kind, subject, a, v }));
+                for a in 0..self.attrs() {
+                    facts.extend((0..self.values(a)).map(|v| Fact { kind, subject, a, v }));
                 }
             }
         }
@@ -97,13 +107,23 @@ impl Sizes {
         }
         facts
     }
+
+    /// The first line: 01, persons, crews, attributes, and a count for each.
+    fn frame(self) -> Vec<u8> {
+        let counts = self.counts.into_iter().filter(|&count| count > 0);
+        [1, self.persons, self.crews, self.attrs()].into_iter().chain(counts).collect()
+    }
 }
 
 impl Depot {
     /// The depot of a book's frames.
     pub fn of(frames: Vec<Vec<u8>>) -> Self {
-        let [_, persons, crews, attrs, values] = frames[0][..] else { panic!("a first line") };
-        let sizes = Sizes { persons, crews, attrs, values };
+        let (persons, crews, counts) = match frames[0][..] {
+            [1, persons, crews, 1, count] => (persons, crews, [count, 0]),
+            [1, persons, crews, 2, first, second] => (persons, crews, [first, second]),
+            _ => panic!("a first line"),
+        };
+        let sizes = Sizes { persons, crews, counts };
         Depot { sizes, facts: sizes.facts(), draft: Draft::new(frames) }
     }
 
@@ -111,7 +131,7 @@ impl Depot {
     pub fn draw(seed: &mut Seed) -> Self {
         let sizes = draw_sizes(seed);
         let facts = sizes.facts();
-        let mut frames = vec![vec![1, sizes.persons, sizes.crews, sizes.attrs, sizes.values]];
+        let mut frames = vec![sizes.frame()];
         let lines = 12 + seed.below(14);
         let mut rules = 0;
         for _ in 0..lines {
@@ -161,16 +181,29 @@ fn draw_crews(seed: &mut Seed) -> u8 {
     }
 }
 
-/// Sizes drawn, and cut where they give too many facts.
+/// A count of 1 to 3 for each attribute. Of two the second is another than the first seven times out of eight.
+fn draw_counts(seed: &mut Seed) -> [u8; 2] {
+    let is_single = seed.below(2) == 0;
+    let first = 1 + seed.below(3);
+    let further = if seed.below(8) > 0 { 1 + seed.below(2) } else { 0 };
+    if is_single {
+        [first, 0]
+    } else {
+        [first, 1 + (first - 1 + further) % 3]
+    }
+}
+
+/// Sizes drawn, and cut where they give too many facts: to one person, to counts of at most 2, to one attribute.
 fn draw_sizes(seed: &mut Seed) -> Sizes {
     let persons = 1 + seed.below(2);
     let crews = draw_crews(seed);
-    let attrs = 1 + seed.below(2);
-    let values = 1 + seed.below(3);
-    let drawn = Sizes { persons, crews, attrs, values };
-    let one = Sizes { attrs: 1, ..drawn };
-    let least = Sizes { persons: 1, values: 2, ..one };
-    [drawn, one].into_iter().find(|sizes| sizes.fact_count() <= MOST_FACTS).unwrap_or(least)
+    let counts @ [first, second] = draw_counts(seed);
+    let drawn = Sizes { persons, crews, counts };
+    let lone = Sizes { persons: 1, ..drawn };
+    let low = Sizes { counts: if first < second { [1, 2] } else { [2, second.min(1)] }, ..lone };
+    let one = Sizes { counts: [first, 0], ..drawn };
+    let least = Sizes { counts: [2, 0], ..lone };
+    [drawn, lone, low, one].into_iter().find(|sizes| sizes.fact_count() <= MOST_FACTS).unwrap_or(least)
 }
 
 /// A line between the first and the query: an edge, a starting fact, or a rule while there are not too many.
@@ -203,15 +236,18 @@ fn draw_rule(seed: &mut Seed, sizes: Sizes) -> Vec<u8> {
     let role = draw_role(seed);
     let joins = op > 4;
     let n = draw_length(seed);
-    let (mut a, mut v) = (seed.below(sizes.attrs), seed.below(sizes.values));
-    if joins {
-        (a, v) = (seed.below(sizes.crews), 0);
-    }
+    let (a, v) = if joins { (seed.below(sizes.crews), 0) } else { draw_value(seed, sizes) };
     let mut frame = vec![3, op, role, a, v, n];
     for _ in 0..n {
         frame.extend(draw_term(seed, sizes, joins));
     }
     frame
+}
+
+/// An attribute and one of its own values.
+fn draw_value(seed: &mut Seed, sizes: Sizes) -> (u8, u8) {
+    let a = seed.below(sizes.attrs());
+    (a, seed.below(sizes.values(a)))
 }
 
 /// Any of the ops that the sizes have a subject for.
@@ -236,7 +272,8 @@ fn draw_term(seed: &mut Seed, sizes: Sizes, joins: bool) -> [u8; 3] {
         return [3 + seed.below(2), seed.below(sizes.crews), 0];
     }
     let kind = [1, 2, LADDER, LADDER][usize::from(seed.below(4))];
-    [kind, seed.below(sizes.attrs), seed.below(sizes.values)]
+    let (a, v) = draw_value(seed, sizes);
+    [kind, a, v]
 }
 
 fn draw_query(seed: &mut Seed, sizes: Sizes) -> Vec<u8> {
@@ -244,11 +281,11 @@ fn draw_query(seed: &mut Seed, sizes: Sizes) -> Vec<u8> {
     let person = seed.below(sizes.persons);
     let high = 128 * seed.below(2);
     let low = draw_roles(seed);
-    let named = [seed.below(8) > 0, seed.below(8) > 0 && sizes.attrs > 1];
+    let named = [seed.below(8) > 0, seed.below(8) > 0 && sizes.attrs() > 1];
     let q = named.iter().filter(|&&is_named| is_named).count() as u8;
     let mut frame = vec![5, mode, person, high, low, q];
     for (a, _) in (0..).zip(named).filter(|&(_, is_named)| is_named) {
-        frame.extend([a, 0, draw_want(seed, sizes, mode)]);
+        frame.extend([a, 0, draw_want(seed, sizes.values(a), mode)]);
     }
     if mode == 2 {
         frame.extend([0, 0, 0, draw_set(seed, sizes.crews)]);
@@ -274,10 +311,10 @@ fn draw_roles(seed: &mut Seed) -> u8 {
     }
 }
 
-/// The set of a named attribute: in mode 01 drawn again where it is empty, which asks for nothing.
-fn draw_want(seed: &mut Seed, sizes: Sizes, mode: u8) -> u8 {
-    match draw_set(seed, sizes.values) {
-        0 if mode == 1 => draw_set(seed, sizes.values),
+/// The set of a named attribute of so many values: in mode 01 drawn again where it is empty, which asks for nothing.
+fn draw_want(seed: &mut Seed, values: u8, mode: u8) -> u8 {
+    match draw_set(seed, values) {
+        0 if mode == 1 => draw_set(seed, values),
         set => set,
     }
 }

@@ -5,14 +5,14 @@
 mod model;
 
 use bixorgun::bytes::{self, Planned};
-use bixorgun::{Refusal, PLAN_MAX};
+use bixorgun::{plan_size, Refusal, PLAN_MAX};
 
 use crate::depots::Depot;
 use crate::Planner;
 use model::{Fault, Model, Move};
 
 /// The wrong planners by their faults.
-pub const WRONG: [(&str, Planner); 23] = [
+pub const WRONG: [(&str, Planner); 26] = [
     ("no way to every book", |depot, out| answer(depot, out, None)),
     ("the empty plan to every book", |depot, out| answer(depot, out, Some(Vec::new()))),
     ("rules of roles outside the query used", |depot, out| small(depot, out, Fault::RolesIgnored)),
@@ -31,6 +31,10 @@ pub const WRONG: [(&str, Planner); 23] = [
         small(depot, out, Fault::OwnRungForgotten)
     }),
     ("a ladder term not tested", |depot, out| small(depot, out, Fault::LadderNotTested)),
+    ("a ladder term looks up to the first attribute's count", |depot, out| {
+        small(depot, out, Fault::LadderToFirstCount)
+    }),
+    ("every attribute taken to have the first one's values", |depot, out| small(depot, out, Fault::ValuesOfFirst)),
     ("the last request left out", leave_out_last),
     ("a request doubled", double_first),
     ("a fact added, deleted and added again", add_again),
@@ -38,6 +42,7 @@ pub const WRONG: [(&str, Planner); 23] = [
     ("a byte written behind the plan", write_behind),
     ("a byte written on no way", write_on_no_way),
     ("a short buffer not refused", fill_short_buffer),
+    ("10 × F by A × the first attribute's count", need_by_first),
 ];
 
 /// The small planner without a fault, in its two forms.
@@ -206,4 +211,14 @@ fn fill_short_buffer(depot: &Depot, out: &mut [u8]) -> Result<Planned, Refusal> 
     let Some(plan) = planned(depot) else { return Ok(Planned::NoWay) };
     write(&plan, out);
     Ok(Planned::Plan(plan.len()))
+}
+
+/// Asks for a buffer as if every attribute had the first one's count, and plans into any that is as long.
+fn need_by_first(depot: &Depot, out: &mut [u8]) -> Result<Planned, Refusal> {
+    let sizes = depot.sizes;
+    let values = usize::from(sizes.attrs()) * usize::from(sizes.values(0));
+    if out.len() < plan_size(sizes.crews.into(), values) {
+        return Err(Refusal::ShortPlanBuffer);
+    }
+    fill_short_buffer(depot, out)
 }

@@ -35,6 +35,10 @@ pub enum Fault {
     OwnRungForgotten,
     /// A ladder term is taken to hold.
     LadderNotTested,
+    /// A ladder term asks for v or a higher value below the first attribute's count.
+    LadderToFirstCount,
+    /// Every attribute is taken to have the first one's values, and no others.
+    ValuesOfFirst,
 }
 
 /// A condition on a state: one of some facts is there, or both sides of one of some pairs of such sets are.
@@ -120,8 +124,21 @@ impl<'d> Weights<'d> {
         Weights { depot, fault, sources, entries: above }
     }
 
+    /// The weight of a fact; 0 where the fault makes it one that is never there.
     fn fact(&self, fact: Fact) -> u16 {
+        if self.fault == Fault::ValuesOfFirst && fact.kind < 3 && fact.v >= self.values(fact.a) {
+            return 0;
+        }
         1 << self.depot.number_of(fact).expect("a fact of the depot")
+    }
+
+    /// How many values an attribute has, of those that it has.
+    fn values(&self, a: u8) -> u8 {
+        let own = self.depot.sizes.values(a);
+        match self.fault {
+            Fault::ValuesOfFirst => own.min(self.depot.sizes.values(0)),
+            _ => own,
+        }
     }
 
     fn own(&self, person: u8, a: u8, v: u8) -> u16 {
@@ -166,14 +183,15 @@ impl<'d> Weights<'d> {
         }
     }
 
-    /// The values of which a ladder term asks for one: v and all higher ones.
-    fn rungs(&self, v: u8) -> Range<u8> {
-        let values = self.depot.sizes.values;
+    /// The values of which a ladder term asks for one: v and all higher ones of the attribute.
+    fn rungs(&self, a: u8, v: u8) -> Range<u8> {
+        let values = self.values(a);
         match self.fault {
             Fault::LadderAsKindTwo => v..v + 1,
             Fault::LadderDownward => 0..v + 1,
             Fault::LadderWithoutLowest => v + 1..values,
             Fault::LadderWithoutHighest => v..(values - 1).max(v + 1),
+            Fault::LadderToFirstCount => v..values.min(self.depot.sizes.values(0)),
             _ => v..values,
         }
     }
@@ -184,7 +202,7 @@ impl<'d> Weights<'d> {
             Fault::HigherValuesDirect if w > v => self.holds(op, subject, a, w),
             _ => self.effectively_holds(op, subject, a, w),
         };
-        self.rungs(v).map(rung).fold(Condition::of(0), Condition::or)
+        self.rungs(a, v).map(rung).fold(Condition::of(0), Condition::or)
     }
 
     /// A term of a rule, about the subject of a request.
@@ -239,7 +257,7 @@ impl Model {
         let listed = |crew: u8| exactly && crews[3] >> crew & 1 == 1;
         let all_crews = 0..weights.depot.sizes.crews;
         for set in sets.chunks_exact(3) {
-            for v in 0..weights.depot.sizes.values {
+            for v in 0..weights.values(set[0]) {
                 let test = weights.person_holds(person, set[0], v);
                 if set[2] >> v & 1 == 1 {
                     self.wanted.push(test);
