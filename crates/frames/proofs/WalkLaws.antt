@@ -74,6 +74,12 @@ crews-kept k x e h = by-kind (eqb (byteAt x 0) 1) refl
 pub edge-small : (k : Known) (x : List ℕ) → verdict k x ≡ Good → k .sizes .crews ≤ 32 → byteAt x 0 ≡ 2 → (byteAt x 1 < 32) × (byteAt x 2 < 32)
 edge-small k x e h is = let p = edge-passed k x e is in (omega (arith, p .0), omega (arith, p .0, p .1))
 
+-- Behind a rule's frame one rule more is counted, and nothing else is known.
+pub rule-counted : (k : Known) (x : List ℕ) → byteAt x 0 ≡ 3
+    → record { headed = k .headed; asked = k .asked; sizes = k .sizes; count = k .count + 1 } ≡ knownAfter k x
+unfolding knownAfter
+rule-counted k x is = rw is refl
+
 -- What a frame of another kind leaves as it was.
 module _ (x : List ℕ) where
   known-kept : (k : Known) → (byteAt x 0 ≡ 1 → ⊥) → (byteAt x 0 ≡ 3 → ⊥) → (byteAt x 0 ≡ 5 → ⊥) → k ≡ knownAfter k x

@@ -392,7 +392,7 @@ fn read_lines(book: &[u8]) -> Reading
         if kind == 3 {
             let i = known.count;
             rules[i] = rule_of(x);
-            known = known_after(known, x);
+            known.count = i + 1;
             continue;
         }
         query = query_after(query, x);

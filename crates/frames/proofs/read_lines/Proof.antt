@@ -14,7 +14,7 @@ use Rattle.facts.specs.Facts.{noFacts}
 use Rattle.frames.specs.declared.Refusal.the-variants.{BadLine}
 use Rattle.frames.specs.Book.{refused, alone, toldBy, contentsOf, listed, nothing}
 use Rattle.frames.proofs.WalkLaws.{held, Held, at-end-good, at-end-bad, unread-bad, long-refused, line-framed, line-less, line-bad, edge-good, fact-good}
-use Rattle.frames.proofs.WalkLaws.{rule-good, other-good, edge-small}
+use Rattle.frames.proofs.WalkLaws.{rule-counted, rule-good, other-good, edge-small}
 use Rattle.frames.proofs.read_lines.Statement.{statement}
 use Rattle.frames.proofs.read_lines.Tie as tie
 
@@ -246,32 +246,31 @@ array-set-from-rules c =
     let known = turn-of b .loop .known in
     rule-passed known _ good (sym (b .byte-at .ensures) ∙ c .before .if4 .taken) .1 .1
 
-known-after-requires : tie.Need-known-after-requires Inv-loop μ-loop
-known-after-requires c κs = turn-of (kind-at (c .before .before)) .loop .inv .0 .counted
+add-known : tie.Need-add-known Inv-loop μ-loop
+add-known c = omega (arith, turn-of (kind-at (c .before .before)) .loop .inv .0 .counted)
 
 loop-less-3 : tie.Need-loop-less-3 Inv-loop μ-loop
-loop-less-3 c = line-behind (frame-of (kind-at (c .before .before .before)))
+loop-less-3 c = line-behind (frame-of (kind-at (c .before .before)))
 
 loop-again-3 : tie.Need-loop-again-3 Inv-loop μ-loop
 loop-again-3 c =
-    let b = kind-at (c .before .before .before) in
+    let b = kind-at (c .before .before) in
     let d = frame-of b in
     let read = read-at d .read-frame .ensures in
     let at = turn-of b .loop in
     let good = sym (judged-at b .judge-frame .ensures) ∙ good-at b .enum-told2 .given .1 in
-    let kind = b .byte-at .ensures in
+    let kind = sym (b .byte-at .ensures) ∙ c .before .if4 .taken in
     let turn = rule-good (at .inv .0) (line-framed (at .inv .0) read (d .decoded2 .given .1)) good in
     rw (read .next) (
-      turn (sym kind ∙ c .before .before .if4 .taken) (c .known-after .ensures)
-          (ap (set (at .rules) (at .known .count)) (c .before .rule-of .ensures)),
+      turn kind (rule-counted (at .known) _ kind) (ap (set (at .rules) (at .known .count)) (c .rule-of .ensures)),
       read-size read ∙ at .inv .1,
     )
 
 query-after-requires : tie.Need-query-after-requires Inv-loop μ-loop
 query-after-requires c κs = search needs
 
-known-after-requires-2 : tie.Need-known-after-requires-2 Inv-loop μ-loop
-known-after-requires-2 c κs = turn-of (kind-at (c .before .before)) .loop .inv .0 .counted
+known-after-requires : tie.Need-known-after-requires Inv-loop μ-loop
+known-after-requires c κs = turn-of (kind-at (c .before .before)) .loop .inv .0 .counted
 
 loop-less-4 : tie.Need-loop-less-4 Inv-loop μ-loop
 loop-less-4 c = line-behind (frame-of (kind-at (c .before .before .before)))
@@ -289,7 +288,7 @@ loop-again-4 c =
     rw (read .next) (
       turn (λ z. other .before .if2 .left (kind ∙ z)) (λ z. other .if3 .left (kind ∙ z))
           (λ z. c .before .before .if4 .left (kind ∙ z))
-          (c .known-after2 .ensures) (c .before .query-after .ensures),
+          (c .known-after .ensures) (c .before .query-after .ensures),
       read-size read ∙ at .inv .1,
     )
 
@@ -348,11 +347,11 @@ read-lines-spec =
     rule-of-requires
     mul-rules
     array-set-from-rules
-    known-after-requires
+    add-known
     loop-less-3
     loop-again-3
     query-after-requires
-    known-after-requires-2
+    known-after-requires
     loop-less-4
     loop-again-4
     turned-back-requires-4
