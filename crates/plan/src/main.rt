@@ -75,7 +75,16 @@ fn size_at(book: &[u8], at: usize) -> usize
     16 * high + low
 }
 
-// The sum of the counts in the book's first line, where it has so many of them.
+fn at_most_eight(n: usize) -> usize
+    ensures { λ r. ⌜ r ≤ 8 ⌝ }
+{
+    if n < 8 {
+        return n;
+    }
+    8
+}
+
+// The sum of the first counts in the book's first line.
 fn values_asked(book: &[u8], attrs: usize) -> usize
     requires { ⌜ (attrs ≤ 8) × (24 ≤ length (now book)) ⌝ }
     ensures { λ r. ⌜ r ≤ 34680 ⌝ }
@@ -90,16 +99,13 @@ fn values_asked(book: &[u8], attrs: usize) -> usize
 }
 
 // How many facts the sizes in the book's first line give, where they stand there: F. No book is shorter than 24 characters, no first line
-// longer; where it says more attributes than a book has, the most facts.
+// longer.
 fn facts_asked(book: &[u8]) -> usize {
     if book.len() < 24 {
         return 0;
     }
     let crews = size_at(book, 4);
-    let attrs = size_at(book, 6);
-    if 8 < attrs {
-        return 4256;
-    }
+    let attrs = at_most_eight(size_at(book, 6));
     let values = values_asked(book, attrs);
     (1 + crews) * values + crews
 }

@@ -25,8 +25,8 @@ size-at-requires c κs = search needs
 size-at-requires-2 : tie.Need-size-at-requires-2
 size-at-requires-2 c κs = search needs
 
-returns-2 : tie.Need-returns-2
-returns-2 c = search needs
+at-most-eight-requires : tie.Need-at-most-eight-requires
+at-most-eight-requires c κs = search needs
 
 values-asked-requires : tie.Need-values-asked-requires
 values-asked-requires c κs = search needs
@@ -40,8 +40,8 @@ mul-result c = omega (arith, room c)
 add-result-2 : tie.Need-add-result-2
 add-result-2 c = omega (arith, room c, c .before .before .before .size-at .ensures)
 
-returns-3 : tie.Need-returns-3
-returns-3 c = search needs
+returns-2 : tie.Need-returns-2
+returns-2 c = search needs
 
 pub facts-asked-spec : {M : Type 1} → statement M
 facts-asked-spec =
@@ -50,9 +50,9 @@ facts-asked-spec =
     returns
     size-at-requires
     size-at-requires-2
-    returns-2
+    at-most-eight-requires
     values-asked-requires
     add-result
     mul-result
     add-result-2
-    returns-3)
+    returns-2)
