@@ -119,8 +119,8 @@ fn is_value_set(z: sizes::Sizes, ledger: &[u8], start: usize, subjects: u8, i: u
 {
     let set = sets::number_at(ledger, start + 2 * i, 2);
     let subject = (i / 8) as u8;
-    let room = room_of(z, (i % 8) as u8);
     if subject < subjects {
+        let room = room_of(z, (i % 8) as u8);
         return sets::is_within(set, room);
     }
     sets::is_within(set, 0)

@@ -73,7 +73,8 @@ module _ (x : List ℕ) (long : length x ≡ 4 + byteAt x 3) (good : sizesGood x
       let g = and-both (between 1 64 (byteAt x 1)) (leb (byteAt x 2) 32) (a .0) in
       record { persons = g .0; crews = g .1; attrs = a .1; counts = c .1 }
 
-  own-count : (a : ℕ) → valuesOf (sizesOf x) a ≡ countAt x a
+  -- What `valuesOf` means: the count that the frame has for the attribute.
+  pub own-count : (a : ℕ) → valuesOf (sizesOf x) a ≡ countAt x a
   unfolding valuesOf sizesOf
   own-count a = count-at x (omega (arith, long, between-true 1 8 (byteAt x 3) (ranges .attrs))) a
 

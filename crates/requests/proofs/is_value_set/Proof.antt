@@ -32,15 +32,15 @@ is-within-requires c κs = search needs
 returns : tie.Need-returns
 unfolding valueSetGood
 returns c =
-    rw (lt-ltb _ _ (c .before .if1 .taken), ← c .before .before .before .number-at .ensures)
-    (c .is-within .ensures ∙ ap (within (c .before .before .before .number-at .result)) (c .before .before .room-of .ensures))
+    rw (lt-ltb _ _ (c .before .before .if1 .taken), ← c .before .before .before .number-at .ensures)
+    (c .is-within .ensures ∙ ap (within (c .before .before .before .number-at .result)) (c .before .room-of .ensures))
 
 is-within-requires-2 : tie.Need-is-within-requires-2
 is-within-requires-2 c κs = search needs
 
 returns-2 : tie.Need-returns-2
 unfolding valueSetGood
-returns-2 c = rw (le-ltb _ _ (c .before .if1 .left), c .is-within2 .ensures, c .before .before .before .number-at .ensures)
+returns-2 c = rw (le-ltb _ _ (c .before .if1 .left), c .is-within2 .ensures, c .before .before .number-at .ensures)
 
 pub is-value-set-spec : {M : Type 1} → statement M
 is-value-set-spec =
