@@ -102,7 +102,7 @@ pub const VIEW_SIZE: usize = 20;
 /// The bytes of a plan buffer that is long enough for every book.
 pub const PLAN_MAX: usize = plan_size(32, 128);
 /// The bytes of stack that a thread is given, at least. As measured with threads, plan needs 176 KB (of 1,024 bytes),
-/// request 85 KB and each other operation 75 KB or less; the rest is room for later versions.
+/// request 84 KB and each other operation 75 KB or less; the rest is room for later versions.
 pub const STACK: usize = 320 * 1_024;
 
 /// The bytes of a plan buffer that is long enough for a book whose first line is `01 P G A` and a count for each
