@@ -5,14 +5,16 @@ use mathlib.Core.Bool.{true, _&&_}
 use mathlib.Core.List.{List}
 use Prim.Native.Nat.{ℕ, zero, suc, _+_, _*_, _≤_, _<_}
 use native.Mathlib.Decide.{decLt}
+use native.Mathlib.Nat.{mul-le-mul-left}
 use native.Mathlib.Omega.{arith}
 use lib.Dec.{leb, ltb}
-use lib.ListN.{length, getD, List·getD-eq-default}
+use lib.ListN.{length, getD}
 use borrow.Author.Tests.{leb-true, ltb-true}
 use Rattle.quantifiers.specs.Quantifiers.{allBelow, sumBelow}
 use Rattle.quantifiers.proofs.BoolLaws.{and-both}
 use Rattle.quantifiers.proofs.BelowLaws.{all-at, sum-most}
 use Rattle.lines.specs.Digits.{byteAt}
+use Rattle.lines.proofs.FrameLaws.{byte-past}
 use Rattle.sizes.specs.declared.Sizes.{Sizes}
 use Rattle.sizes.specs.Sizes.{between, valuesOf, isAttr, isValue, countAt, countGoodAt, sizesGood, countsOf, sizesOf, valueCount, factCount}
 use Rattle.sizes.specs.Inner.Ranges.{InRange}
@@ -39,7 +41,7 @@ value-bounds z a v range e =
 
 -- In a frame of at most eight counts the list of eight has count a, wherever a lies.
 count-at : (x : List ℕ) → length x ≤ 12 → (a : ℕ) → getD (countsOf x) a 0 ≡ countAt x a
-unfolding countsOf byteAt
+unfolding countsOf
 count-at x short zero = refl
 count-at x short (suc zero) = refl
 count-at x short (suc (suc zero)) = refl
@@ -49,12 +51,7 @@ count-at x short (suc (suc (suc (suc (suc zero))))) = refl
 count-at x short (suc (suc (suc (suc (suc (suc zero)))))) = refl
 count-at x short (suc (suc (suc (suc (suc (suc (suc zero))))))) = refl
 count-at x short (suc (suc (suc (suc (suc (suc (suc (suc a)))))))) =
-    sym (List·getD-eq-default x 0 {n = 4 + suc (suc (suc (suc (suc (suc (suc (suc a)))))))} (omega arith))
-
--- Behind its end a frame has no byte.
-none-behind : (x : List ℕ) (i : ℕ) → length x ≤ i → byteAt x i ≡ 0
-unfolding byteAt
-none-behind x i h = List·getD-eq-default x 0 {n = i} h
+    byte-past x (4 + suc (suc (suc (suc (suc (suc (suc (suc a)))))))) (omega arith)
 
 -- A frame of the length that its A gives, whose fields are in their ranges, writes sizes in range: each attribute has its own count, and
 -- one that the book has not has none, since there the frame is at its end.
@@ -82,7 +79,7 @@ module _ (x : List ℕ) (long : length x ≡ 4 + byteAt x 3) (good : sizesGood x
   in-place a l = rw (own-count a) (between-true 1 16 (countAt x a) (all-at (countGoodAt x) (byteAt x 3) a (ranges .counts) l))
 
   absent : (a : ℕ) → byteAt x 3 ≤ a → valuesOf (sizesOf x) a ≡ 0
-  absent a l = own-count a ∙ none-behind x (4 + a) (omega (arith, long))
+  absent a l = own-count a ∙ sym (byte-past x (4 + a) (omega (arith, long)))
 
   pub sizes-good : InRange (sizesOf x)
   unfolding sizesOf
@@ -108,10 +105,6 @@ pub facts-are : (z : Sizes) → factCount z ≡ (1 + z .crews) * valueCount z + 
 unfolding factCount
 facts-are z = refl
 
-mul-le : (x y c : ℕ) → y ≤ c → x * y ≤ x * c
-mul-le zero y c h = omega arith
-mul-le (suc x) y c h = omega (arith, mul-le x y c h)
-
 module _ (z : Sizes) (range : InRange z) where
   -- The counts below an attribute are at most 16 each.
   pub counts-few : (a : ℕ) → sumBelow (valuesOf z) a ≤ a * 16
@@ -120,8 +113,8 @@ module _ (z : Sizes) (range : InRange z) where
   -- The product of F stays small.
   pub values-few : (1 + z .crews) * valueCount z ≤ 4224
   values-few =
-      let counts = counts-few (z .attrs) in
-      omega (arith, mul-le (1 + z .crews) (valueCount z) 128 (omega (arith, counts, range .attrs-most)), range .crews-most)
+      let few : valueCount z ≤ 128 = omega (arith, counts-few (z .attrs), range .attrs-most) in
+      omega (arith, mul-le-mul-left (1 + z .crews) few, range .crews-most)
 
   pub facts-few : factCount z ≤ 4256
   facts-few = omega (arith, facts-are z, values-few, range .crews-most)

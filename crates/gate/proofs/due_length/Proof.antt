@@ -1,6 +1,12 @@
 -- `gate::due_length` meets its contract: one case for each kind, by the law of its length. Assumes nothing.
-use mathlib.Core.Path.{sym, _∙_}
-use Rattle.gate.proofs.GateLaws.{sizes-length, edge-length, rule-length, fact-length, crews-length, query-length}
+use mathlib.Core.Path.{_≡_, sym, _∙_}
+use mathlib.Core.Bool.{cond}
+use Prim.Native.Nat.{ℕ, _+_, _*_}
+use lib.Dec.{eqb}
+use borrow.Author.Tests.{eq-eqb, ne-eqb}
+use Rattle.lines.specs.Digits.{byteAt}
+use Rattle.gate.specs.Gate.{lengthOf}
+use Rattle.gate.proofs.GateLaws.{sizes-length, edge-length, rule-length, fact-length, query-length}
 use borrow.Author.Needs.{needs}
 use Rattle.gate.proofs.due_length.Statement.{statement}
 use Rattle.gate.proofs.due_length.Tie as tie
@@ -11,6 +17,14 @@ read c = c .before .before .before
 
 abbrev is-query : tie.After-byte-at5 → tie.Else4
 is-query c = c .before .before
+
+-- A frame of no other kind has a query's length, by its mode and its q.
+asked-length : (c : tie.Else4) (mode attrs q : ℕ)
+    → lengthOf (byteAt (read (c .before) .before .before .args .x .now) 0) mode attrs q ≡ 6 + 3 * q + cond (eqb mode 2) 4 0
+asked-length c mode attrs q =
+    let is = read (c .before) .byte-at .ensures in
+    query-length _ mode attrs q (λ e. c .before .before .before .if1 .left (is ∙ e)) (λ e. c .before .before .if2 .left (is ∙ e))
+    (λ e. c .before .if3 .left (is ∙ e)) (λ e. c .if4 .left (is ∙ e))
 
 byte-at-requires : tie.Need-byte-at-requires
 byte-at-requires c κs = search needs
@@ -70,22 +84,16 @@ add-result-3 c = search needs
 
 returns-5 : tie.Need-returns-5
 returns-5 c =
-    let asked = is-query (c .before) in
-    let is = read (asked .before) .byte-at .ensures in
-    rw (c .before .before .byte-at4 .ensures)
-    (sym (crews-length _ _ _ _ (λ e. asked .before .before .before .if1 .left (is ∙ e)) (λ e. asked .before .before .if2 .left (is ∙ e))
-    (λ e. asked .before .if3 .left (is ∙ e)) (λ e. asked .if4 .left (is ∙ e)) (sym (c .before .byte-at5 .ensures) ∙ c .if5 .taken)))
+    let mode = sym (c .before .byte-at5 .ensures) ∙ c .if5 .taken in
+    rw (asked-length (is-query (c .before)) _ _ _, eq-eqb _ 2 mode, c .before .before .byte-at4 .ensures)
 
 add-result-4 : tie.Need-add-result-4
 add-result-4 c = search needs
 
 returns-6 : tie.Need-returns-6
 returns-6 c =
-    let asked = is-query (c .before) in
-    let is = read (asked .before) .byte-at .ensures in
-    rw (c .before .before .byte-at4 .ensures)
-    (sym (query-length _ _ _ _ (λ e. asked .before .before .before .if1 .left (is ∙ e)) (λ e. asked .before .before .if2 .left (is ∙ e))
-    (λ e. asked .before .if3 .left (is ∙ e)) (λ e. asked .if4 .left (is ∙ e)) (λ e. c .if5 .left (c .before .byte-at5 .ensures ∙ e))))
+    let mode = c .before .byte-at5 .ensures in
+    rw (asked-length (is-query (c .before)) _ _ _, ne-eqb _ 2 (λ e. c .if5 .left (mode ∙ e)), c .before .before .byte-at4 .ensures)
 
 pub due-length-spec : {M : Type 1} → statement M
 due-length-spec =
