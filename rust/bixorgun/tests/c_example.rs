@@ -38,6 +38,13 @@ fn built(name: &str, source: &Path) -> PathBuf {
     program
 }
 
+/// The program of a source that is given as text.
+fn written(name: &str, text: &str) -> PathBuf {
+    let source = Path::new(env!("CARGO_TARGET_TMPDIR")).join(name).with_extension("c");
+    fs::write(&source, text).expect("the source is written");
+    built(name, &source)
+}
+
 /// The query's person: the third byte of the book's last line.
 fn query_person(book: &str) -> Person {
     let query = book.lines().next_back().expect("an accepted book has lines");
@@ -149,9 +156,7 @@ int main(int argc, char **argv)
 /// place at which replay stops are none.
 #[test]
 fn c_reads_rule_and_term_out_of_an_answer() {
-    let source = Path::new(env!("CARGO_TARGET_TMPDIR")).join("rule_and_term.c");
-    fs::write(&source, RULE_AND_TERM).expect("the source is written");
-    let program = built("rule_and_term", &source);
+    let program = written("rule_and_term", RULE_AND_TERM);
     let mut cases = Vec::new();
     for (rule, term) in [(1, 1), (1, 8), (3, 2), (255, 8), (256, 1), (511, 7), (512, 1), (512, 8)] {
         cases.push((1 | 15 << 8 | (256 * rule + term) << 16, format!("{rule} {term}\n")));
@@ -182,9 +187,7 @@ int main(int argc, char **argv)
 /// 10 x F, with F = (1 + G) x the sum of the counts, plus G; the largest is the longest buffer.
 #[test]
 fn c_reckons_the_plans_buffer() {
-    let source = Path::new(env!("CARGO_TARGET_TMPDIR")).join("plan_size.c");
-    fs::write(&source, PLAN_SIZE).expect("the source is written");
-    let program = built("plan_size", &source);
+    let program = written("plan_size", PLAN_SIZE);
     let pairs = [(0, 1), (0, 4), (1, 2), (2, 3 + 16), (9, 84), (32, 1), (32, 128)];
     let arguments = pairs.iter().flat_map(|(crews, values)| [crews, values]).map(|n: &usize| n.to_string());
     let ran = Command::new(program).args(arguments).output().expect("it runs");
