@@ -50,12 +50,13 @@ impl Row {
     }
 
     /// The ratio once each side's cost of the trivial book is taken off; none where the reference spends less on the
-    /// book than on the trivial one, since the rest is then too small to compare.
+    /// book than twice that, since the rest is then too small to compare, and none where either side has no rest.
     pub fn net(&self, start: &Row) -> Option<Ratio> {
         let net = |side| self.of(side).minus(start.of(side));
-        let (rest, started) = (net(Side::Reference), start.of(Side::Reference));
-        let enough = rest.instructions >= started.instructions && rest.micros > 0.0;
-        enough.then(|| Ratio::of(net(Side::Ours), rest))
+        let (ours, rest, started) = (net(Side::Ours), net(Side::Reference), start.of(Side::Reference));
+        let enough = rest.instructions >= started.instructions;
+        let remain = ours.instructions > 0.0 && ours.micros > 0.0 && rest.micros > 0.0;
+        (enough && remain).then(|| Ratio::of(ours, rest))
     }
 }
 
@@ -137,6 +138,8 @@ mod tests {
         assert_eq!(net.instructions, 2.0);
         assert!((net.time - 2.0).abs() < 1e-9);
         assert_eq!(row(4_000.0, 199.0).net(&start), None);
+        assert_eq!(row(1_000.0, 1_600.0).net(&start), None);
+        assert_eq!(row(900.0, 1_600.0).net(&start), None);
     }
 
     #[test]
