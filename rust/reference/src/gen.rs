@@ -109,6 +109,15 @@ pub struct Shape {
     pub roles: u8,
 }
 
+/// How many attributes: two or more in three books of four.
+fn attributes(rng: &mut Rng, most: u8) -> u8 {
+    if rng.percent(75) {
+        rng.byte(2, most)
+    } else {
+        1
+    }
+}
+
 /// A count in `first..=last` for each attribute. Those of two attributes or more are seldom all the same: then one of
 /// them is drawn again three times in four.
 fn counts(rng: &mut Rng, attrs: u8, first: u8, last: u8) -> Vec<u8> {
@@ -144,8 +153,9 @@ fn neighbours_pair(rng: &mut Rng, sizes: &Sizes) -> Option<[u8; 2]> {
 
 /// A small depot, of at most twelve facts with all persons counted.
 pub fn small_book(rng: &mut Rng) -> Draft {
+    let attrs = attributes(rng, 2);
     loop {
-        let (persons, crews, attrs) = (rng.byte(1, 2), rng.byte(0, 3), rng.byte(1, 2));
+        let (persons, crews) = (rng.byte(1, 2), rng.byte(0, 3));
         let sizes = Sizes::new(persons, crews, &counts(rng, attrs, 1, 3));
         let (p, g) = (usize::from(persons), usize::from(crews));
         let facts = (p + g) * sizes.pairs().count() + p * g;
@@ -182,7 +192,7 @@ pub fn small_aimed_book(rng: &mut Rng) -> Draft {
 
 /// A depot of a few persons, crews and attributes.
 pub fn middle_book(rng: &mut Rng) -> Draft {
-    let (persons, crews, attrs) = (rng.byte(1, 4), rng.byte(0, 7), rng.byte(1, 4));
+    let (persons, crews, attrs) = (rng.byte(1, 4), rng.byte(0, 7), attributes(rng, 4));
     let sizes = Sizes::new(persons, crews, &counts(rng, attrs, 1, 6));
     let shape = Shape {
         sizes,
@@ -197,9 +207,9 @@ pub fn middle_book(rng: &mut Rng) -> Draft {
 
 /// A depot in which much can be added and deletions rest on much: what is stuck comes to light over many rounds.
 ///
-/// `most` bounds crews, attributes and values.
+/// `most` bounds crews, attributes, of which it allows two at least, and values.
 pub fn tangled_book(rng: &mut Rng, most: (u8, u8, u8)) -> Draft {
-    let (crews, attrs) = (rng.byte(0, most.0), rng.byte(1, most.1));
+    let (crews, attrs) = (rng.byte(0, most.0), attributes(rng, most.1));
     let sizes = Sizes::new(1, crews, &counts(rng, attrs, 1, most.2));
     let facts = sizes.facts();
     let shape = Shape { sizes, edges: rng.below(6), rules: 0, terms: 0, facts: 0, roles: 2 };
@@ -342,7 +352,7 @@ fn graded_rule(rng: &mut Rng, sizes: &Sizes, [op, a, v]: [u8; 3], terms: u8) -> 
 /// the first unmet term stands at any place. Some ops, roles, a and v come late, now and then behind 496 rules of the
 /// first, and some rules stand twice.
 pub fn crowded_book(rng: &mut Rng) -> Draft {
-    let (persons, crews, attrs) = (rng.byte(1, 3), rng.byte(0, 4), rng.byte(1, 3));
+    let (persons, crews, attrs) = (rng.byte(1, 3), rng.byte(0, 4), attributes(rng, 3));
     let sizes = Sizes::new(persons, crews, &counts(rng, attrs, 1, 4));
     let shape = Shape { sizes, edges: rng.below(5), rules: 0, terms: 0, facts: rng.below(20), roles: 2 };
     let mut draft = book(rng, &shape);

@@ -1,4 +1,4 @@
-//! Small depots drawn from a seed: 1-2 persons, 0-3 crews, 1-2 attributes of 1-3 values, two mostly of different
+//! Small depots drawn from a seed: 1-2 persons, 0-3 crews, 1-2 attributes of 1-3 values, in most depots two of different
 //! counts, at most twelve facts and twelve rules of every op and every kind of term, starting facts, and a query of
 //! either mode.
 
@@ -181,9 +181,10 @@ fn draw_crews(seed: &mut Seed) -> u8 {
     }
 }
 
-/// A count of 1 to 3 for each attribute. Of two the second is another than the first seven times out of eight.
+/// A count of 1 to 3 for each attribute, mostly of two, of which the second is another than the first seven times out of
+/// eight.
 fn draw_counts(seed: &mut Seed) -> [u8; 2] {
-    let is_single = seed.below(2) == 0;
+    let is_single = seed.below(16) == 0;
     let first = 1 + seed.below(3);
     let further = if seed.below(8) > 0 { 1 + seed.below(2) } else { 0 };
     if is_single {
