@@ -108,7 +108,7 @@ fn due_length(x: &[u8]) -> usize
     if mode == 2 {
         return named + 4;
     }
-    named + 0
+    named
 }
 
 fn is_mislengthed(x: &[u8]) -> bool

@@ -2,6 +2,7 @@
 use mathlib.Core.Path.{_≡_, sym, _∙_}
 use mathlib.Core.Bool.{cond}
 use Prim.Native.Nat.{ℕ, _+_, _*_}
+use native.Mathlib.Omega.{arith}
 use lib.Dec.{eqb}
 use borrow.Author.Tests.{eq-eqb, ne-eqb}
 use Rattle.lines.specs.Digits.{byteAt}
@@ -87,13 +88,11 @@ returns-5 c =
     let mode = sym (c .before .byte-at5 .ensures) ∙ c .if5 .taken in
     rw (asked-length (is-query (c .before)) _ _ _, eq-eqb _ 2 mode, c .before .before .byte-at4 .ensures)
 
-add-result-4 : tie.Need-add-result-4
-add-result-4 c = search needs
-
 returns-6 : tie.Need-returns-6
 returns-6 c =
     let mode = c .before .byte-at5 .ensures in
     rw (asked-length (is-query (c .before)) _ _ _, ne-eqb _ 2 (λ e. c .if5 .left (mode ∙ e)), c .before .before .byte-at4 .ensures)
+    (omega arith)
 
 pub due-length-spec : {M : Type 1} → statement M
 due-length-spec =
@@ -118,5 +117,4 @@ due-length-spec =
     add-named
     add-result-3
     returns-5
-    add-result-4
     returns-6)

@@ -4,7 +4,8 @@ use native.Mathlib.Omega.{arith}
 use Prim.Native.Nat.{_+_, _≤_}
 use lib.ListN.{length, length-set}
 use Rattle.frames.specs.Book.{contentsOf}
-use Rattle.answers.specs.Answers.{hex, count}
+use Rattle.answers.specs.Answers.{hex, count, sizesBytes}
+use Rattle.answers.specs.Inner.Written.{Written}
 use Rattle.answers.proofs.WrittenLaws.{written-as, written-more, room-behind}
 use Rattle.answers.proofs.ReadingLaws.{book-written}
 use borrow.Author.Needs.{needs}
@@ -34,6 +35,11 @@ after-rules c = c .before .before .before .before
 abbrev after-facts : tie.After-put-line-arg2 → tie.After-put-count3
 after-facts c = c .before .before .before .before
 
+-- The sizes are written, with all eight counts.
+sized : (c : tie.After-put-bytes)
+    → Written (start c .args .text .now) 0 (hex (sizesBytes (start c .args .b .sizes))) (c .put-bytes .last .1 .1 .0) (c .put-bytes .result)
+sized c = written-as (c .put-bytes .ensures) (ap hex (after-bytes c .sizes-bytes .ensures))
+
 -- The sizes and the counts are 39 characters: there is room for the four behind them.
 counted-room : (c : tie.After-put-count3) → c .put-count3 .result + 4 ≤ length (c .put-count3 .last .1 .1 .0)
 unfolding hex count
@@ -41,8 +47,7 @@ counted-room c =
     let at-rules = after-rules c in
     let at-edges = after-edges at-rules in
     let at-sizes = after-sizes at-edges in
-    let sized = written-as (at-sizes .put-bytes .ensures) (ap hex (after-bytes at-sizes .sizes-bytes .ensures)) in
-    let edged = written-more sized (at-edges .put-count .ensures) in
+    let edged = written-more (sized at-sizes) (at-edges .put-count .ensures) in
     let counted = written-more (written-more edged (at-rules .put-count2 .ensures)) (c .put-count3 .ensures) in
     room-behind 39 4 counted refl (omega (arith, start at-sizes .pre .1))
 
@@ -66,15 +71,13 @@ unfolding hex
 put-count-requires c κs =
     let at-sizes = c .before .before .before in
     let at-start = start at-sizes in
-    let sized = written-as (at-sizes .put-bytes .ensures) (ap hex (after-bytes at-sizes .sizes-bytes .ensures)) in
-    (at-start .pre .0, room-behind 24 5 sized refl (omega (arith, at-start .pre .1)))
+    (at-start .pre .0, room-behind 24 5 (sized at-sizes) refl (omega (arith, at-start .pre .1)))
 
 put-count-requires-2 : tie.Need-put-count-requires-2
 unfolding hex count
 put-count-requires-2 c κs =
     let at-sizes = after-sizes (c .before .before .before) in
-    let sized = written-as (at-sizes .put-bytes .ensures) (ap hex (after-bytes at-sizes .sizes-bytes .ensures)) in
-    let edged = written-more sized (c .before .before .before .put-count .ensures) in
+    let edged = written-more (sized at-sizes) (c .before .before .before .put-count .ensures) in
     (start at-sizes .pre .0, room-behind 29 5 edged refl (omega (arith, start at-sizes .pre .1)))
 
 put-count-requires-3 : tie.Need-put-count-requires-3
@@ -82,8 +85,7 @@ unfolding hex count
 put-count-requires-3 c κs =
     let at-edges = after-edges (c .before .before .before) in
     let at-sizes = after-sizes at-edges in
-    let sized = written-as (at-sizes .put-bytes .ensures) (ap hex (after-bytes at-sizes .sizes-bytes .ensures)) in
-    let edged = written-more sized (at-edges .put-count .ensures) in
+    let edged = written-more (sized at-sizes) (at-edges .put-count .ensures) in
     let ruled = written-more edged (c .before .before .before .put-count2 .ensures) in
     (start at-sizes .pre .0, room-behind 34 5 ruled refl (omega (arith, start at-sizes .pre .1)))
 
@@ -107,11 +109,10 @@ same-length c =
     let at-facts = after-facts (c .before .before .before) in
     let at-rules = after-rules at-facts in
     let at-edges = after-edges at-rules in
-    let sized = after-sizes at-edges .put-bytes .ensures in
     let edged = at-edges .put-count .ensures in
     let ruled = at-rules .put-count2 .ensures in
     let counted = at-facts .put-count3 .ensures in
-    let whole = written-more (written-more (written-more sized edged) ruled) counted in
+    let whole = written-more (written-more (written-more (sized (after-sizes at-edges)) edged) ruled) counted in
     c .before .before .put-line .ensures .size ∙ length-set (at-facts .put-count3 .last .1 .1 .0) _ 32 ∙ whole .size
 
 returns : tie.Need-returns
@@ -123,11 +124,10 @@ returns c =
     let at-sizes = after-sizes at-edges in
     let at-start = start at-sizes in
     let at-facts-in = after-facts-in at-sizes in
-    let sized = written-as (at-sizes .put-bytes .ensures) (ap hex (after-bytes at-sizes .sizes-bytes .ensures)) in
     let edged = at-edges .put-count .ensures in
     let ruled = at-rules .put-count2 .ensures in
     let counted = at-facts .put-count3 .ensures in
-    book-written (contentsOf (at-start .args .b)) sized (at-facts-in .before .before .edge-count .ensures) edged ruled
+    book-written (contentsOf (at-start .args .b)) (sized at-sizes) (at-facts-in .before .before .edge-count .ensures) edged ruled
     (at-facts-in .facts-in .ensures) counted (omega (arith, counted-room at-facts))
     (c .before .before .put-line .ensures)
 
