@@ -263,8 +263,9 @@ const PLACES: [&str; 7] = ["rule", "term 01", "term 02", "term 05", "person's fa
 /// reference's; the library's have been seen to be the same.
 #[derive(Default)]
 struct Ranges {
-    /// Accepted books, and those of them with attributes whose counts differ: these alone count below.
+    /// Accepted books, those of them with two attributes or more, and those whose counts differ: these alone count below.
     books: usize,
+    several: usize,
     differing: usize,
     plans: usize,
     no_ways: usize,
@@ -304,7 +305,8 @@ impl Ranges {
 
     fn print(&self) {
         let totals = self.totals().map(|(name, times)| format!("{name}: {times}"));
-        println!("  own counts, accepted books: {}, {}", self.books, totals.join(", "));
+        let totals = totals.join(", ");
+        println!("  own counts, accepted books: {}, of several attributes: {}, {totals}", self.books, self.several);
         let refusals = self.refusals().map(|(name, times)| format!("{name}: {times:?}"));
         println!("  own counts, for a neighbour's value, {}; places: {}", refusals.join(", "), PLACES.join(", "));
         let first: Vec<_> = FIRST_LINES.iter().zip(self.first_lines).map(|(name, n)| format!("{name}: {n}")).collect();
@@ -314,6 +316,7 @@ impl Ranges {
     /// The counts of most books differ, and everything was seen so often.
     fn all_seen(&self, least: usize) {
         assert!(2 * self.differing > self.books, "{} books of {}", self.differing, self.books);
+        assert!(3 * self.differing > 2 * self.several, "{} books of {}", self.differing, self.several);
         for (name, times) in self.totals() {
             assert!(times >= 10 * least, "own counts, {name}: {times}");
         }
@@ -327,6 +330,7 @@ impl Ranges {
 
     fn accepted(&mut self, sizes: &Sizes) {
         self.books += 1;
+        self.several += usize::from(sizes.attrs() > 1);
         self.differing += usize::from(sizes.differ());
     }
 

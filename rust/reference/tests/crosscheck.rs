@@ -20,7 +20,7 @@ fn small(depots: usize, seed: u64, mut draw: impl FnMut(&mut Rng) -> gen::Draft)
         }
     }
     println!("{counts:?}");
-    assert!(2 * counts.differing > counts.depots, "most have different counts");
+    assert!(2 * counts.differing > counts.depots && 3 * counts.differing > 2 * counts.several_attrs);
     assert!(counts.moved_differing > 500 && counts.no_way_differing > 500);
     counts
 }

@@ -33,7 +33,9 @@ pub struct Counts {
     pub plans_by_ladder: usize,
     /// No way, though there is a plan without the ladder terms.
     pub no_way_by_ladder: usize,
-    /// Depots with attributes whose counts are not all the same.
+    /// Depots with two attributes or more.
+    pub several_attrs: usize,
+    /// Those of them whose counts are not all the same.
     pub differing: usize,
     /// A shortest plan that has at least one request, where the counts are not all the same.
     pub moved_differing: usize,
@@ -54,6 +56,7 @@ impl Counts {
         self.exact += usize::from(exact);
         self.ladders += usize::from(book.has_ladder());
         let differing = usize::from(book.sizes.differ());
+        self.several_attrs += usize::from(book.sizes.attrs() > 1);
         self.differing += differing;
         match (shortest, closure::plan(book)) {
             (None, None) => {
