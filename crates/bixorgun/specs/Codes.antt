@@ -12,6 +12,8 @@ use Rattle.replay.specs.declared.Judgement.the-variants.{Reaches, Stops, EndsSh
 use Rattle.replay.specs.Replay.{Said as ReplaySaid, judged, refusal as replayRefusal}
 use Rattle.planner.specs.declared.Planned.{Planned}
 use Rattle.planner.specs.Answer.{Said as PlanSaid, said80, said81, said8F, said as planSaid, PlanPromise}
+use Rattle.page.specs.declared.Paged.{Paged}
+use Rattle.page.specs.Page.{said as pageSaid, PagePromise}
 
 -- ---------------------------------------------------------------- one number
 
@@ -119,3 +121,9 @@ pub record PlanCoded (chars before : List ℕ) (n : ℕ) (out : List ℕ) : Type
   pub answer : Planned
   pub is : n ≡ planCode (planSaid answer)
   pub kept : PlanPromise chars before answer out
+
+-- page: the number of an answer that keeps the promise of page.
+pub record PageCoded (chars before : List ℕ) (n : ℕ) (out : List ℕ) : Type 0 where
+  pub answer : Paged
+  pub is : n ≡ saidCode (pageSaid answer)
+  pub kept : PagePromise chars before answer out

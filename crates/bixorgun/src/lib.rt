@@ -1,4 +1,4 @@
-// The five operations for programs in C and Rust: numbers and byte slices alone. An answer is one number.
+// The six operations for programs in C and Rust: numbers and byte slices alone. An answer is one number.
 ghost use mathlib.Core.Path.{_≡_};
 ghost use mathlib.Core.List.{_++_};
 ghost use Prim.Native.Nat.{_+_, _≤_};
@@ -7,7 +7,8 @@ ghost use Rattle.ledger.specs.Ledger.{refusalNumber, denialTold, told, refusal,
 ghost use Rattle.ledger.specs.Show.{showView};
 ghost use Rattle.replay.specs.Replay.{said as replaySaid, replayed};
 ghost use Rattle.planner.specs.Answer.{said as planSaid};
-ghost use Rattle.bixorgun.specs.Codes.{code, toldValue, saidCode, judgementCode, replayCode, planCode, coded, replyCoded, putTwo, viewBytes, viewCoded, PlanCoded};
+ghost use Rattle.page.specs.Page.{told as pageTold, said as pageSaid};
+ghost use Rattle.bixorgun.specs.Codes.{code, toldValue, saidCode, judgementCode, replayCode, planCode, coded, replyCoded, putTwo, viewBytes, viewCoded, PlanCoded, PageCoded};
 use denials::Denial;
 use facts::Person;
 
@@ -93,6 +94,25 @@ fn plan_code(a: planner::Planned) -> u64
     }
 }
 
+// The value beside a refusal's number, of page.
+fn page_value(r: page::Refusal) -> usize
+    ensures { λ n. ⌜ n ≡ toldValue (pageTold r) ⌝ }
+{
+    match r {
+        page::Refusal::BadBook(b) => frames::refusal_line(b),
+        page::Refusal::BadTable => 0,
+    }
+}
+
+fn page_code(a: page::Paged) -> u64
+    ensures { λ r. ⌜ r ≡ saidCode (pageSaid a) ⌝ }
+{
+    match a {
+        page::Paged::Filled => code_of(0, 0, 0),
+        page::Paged::Refused(r) => code_of(1, page::refusal_number(r), page_value(r)),
+    }
+}
+
 // Writes the ledger of starting facts.
 #[no_mangle]
 pub extern "C" fn bixorgun_open(book: &[u8], state: &mut [u8]) -> u64
@@ -164,4 +184,12 @@ pub extern "C" fn bixorgun_plan(book: &[u8], out: &mut [u8]) -> u64
     ensures { λ r. ⌜ PlanCoded (now (book .entry)) (now (out .entry)) r (now (out .exit)) ⌝ }
 {
     plan_code(planner::plan(book, out))
+}
+
+// Fills the table: a bit for each person and value, set where a plan reaches it.
+#[no_mangle]
+pub extern "C" fn bixorgun_page(book: &[u8], table: &mut [u8]) -> u64
+    ensures { λ r. ⌜ PageCoded (now (book .entry)) (now (table .entry)) r (now (table .exit)) ⌝ }
+{
+    page_code(page::page(book, table))
 }

@@ -16,8 +16,7 @@ use Rattle.facts.specs.Facts.{fits, setAt, setWidth, memberOf, holds}
 use Rattle.facts.specs.declared.Person.{Person}
 use Rattle.facts.specs.declared.Fact.{Fact}
 use Rattle.facts.specs.declared.Fact.the-variants.{Holds, Member}
-use Rattle.frames.specs.declared.Book.{Book}
-use Rattle.frames.specs.Book.{Contents, contentsOf}
+use Rattle.frames.specs.Book.{Contents}
 use Rattle.lines.specs.Digits.{byteAt}
 use Rattle.frames.specs.Inner.Fits.{Admitted}
 use Rattle.inherit.specs.Inheritance.{isJunior}
@@ -134,12 +133,12 @@ track-level b F k f h l =
     (λ (high : k < personLevel b → ⊥). rw (le-ltb k (personLevel b) (omega arith), eq-eqb k (personLevel b) (omega arith))))
 
 -- All 160 flags written are the level's starting facts.
-pub start-flags : (b : Book) {k : ℕ} {facts : List ℕ} {before s : List Bool} → facts ≡ b .facts → k ≤ b .sizes .crews
-    → FlagsWritten before 0 (startFlag facts (b .sizes .crews) (b .query .person) k) 160 s → StartFlags (contentsOf b) k s
-unfolding startFlag contentsOf
+pub start-flags : (b : Contents) {k : ℕ} {facts : List ℕ} {before s : List Bool} → facts ≡ b .facts → k ≤ b .sizes .crews
+    → FlagsWritten before 0 (startFlag facts (b .sizes .crews) (b .query .person) k) 160 s → StartFlags b k s
+unfolding startFlag
 start-flags b {k} {facts} {before} {s} same h w =
     let own = subst (λ (x : List ℕ). FlagsWritten before 0 (startFlag x (b .sizes .crews) (b .query .person) k) 160 s) same w in
-    record { at = λ f l. written-at own f l ∙ sym (track-level (contentsOf b) (holds (b .facts)) k f h l) }
+    record { at = λ f l. written-at own f l ∙ sym (track-level b (holds (b .facts)) k f h l) }
 
 -- Eight numbers more of a set in bytes: those of byte m from its end.
 pub set-more : {before x y : List Bool} (facts : List ℕ) (place at m w : ℕ) → m < w → FlagsWritten before at (memberAt facts place w) (8 * m) x

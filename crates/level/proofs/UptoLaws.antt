@@ -7,8 +7,8 @@ use Prim.Native.Nat.{ℕ, suc, _+_, _*_, _/_, _%_, _≤_, _<_}
 use native.Mathlib.Decide.{ℕ-discrete, decLt}
 use native.Mathlib.Omega.{arith}
 use Rattle.theory.specs.Inner.Facts.{State, _⊆_, minus}
-use Rattle.theory.specs.Inner.Plan.{Ask, World, Lawful, Brings, Bounds, Best}
-use Rattle.theory.proofs.PlanLaws.{bounds-best}
+use Rattle.theory.specs.Inner.Plan.{Ask, World, end, addThenDelete, Lawful, Brings, Bounds, Best, Good}
+use Rattle.theory.proofs.PlanLaws.{good-ends, bounds-best}
 use Rattle.theory.specs.Inner.Tiers.{Local, All, below, only}
 use Rattle.theory.proofs.TierLaws.{below-same, only-here, only-there, additions-tier, deletions-tier, additions-none, deletions-none, below-low, below-high}
 use Rattle.level.specs.Inner.Settle.{Rounds}
@@ -86,13 +86,13 @@ module _ {W : World} (lawful : Lawful W) {tier : ℕ → ℕ} (same-below : Loca
           (all-of-level k false Z w es down) (subst (λ (S : State). Brings W false next (map (toWhole k) es) S) whole-b (embed w es down));
     }
 
-  -- After the last level, with no fact beyond it: a plan than which no chain that ends clear ends with more.
-  pub upto-best : {n : ℕ} {R : State} {us ds : List Ask} → ((g : ℕ) → n ≤ tier g → R g ≡ false) → Upto W tier bad S₀ n R us ds → Best W bad S₀ us ds
-  upto-best {n} {R} {us} {ds} out t = bounds-best lawful bad S₀ (record {
+  -- After the last level, with no fact beyond it, what is settled is a good set.
+  upto-good : {n : ℕ} {R : State} {us ds : List Ask} → ((g : ℕ) → n ≤ tier g → R g ≡ false) → Upto W tier bad S₀ n R us ds → Good W bad S₀ us ds R
+  upto-good {n} {R} {us} {ds} out t = record {
     adds = subst (λ (S : State). Brings W true S₀ us S) whole (t .additions);
     dels = subst (λ (S : State). Brings W false R ds S) whole-m
         (subst (λ (S : State). Brings W false S ds (below tier n (minus R bad) S₀)) whole (t .deletions S₀));
-  }) (t .bounds)
+  }
     where
       not-so : (b : Bool) → (b ≡ true → ⊥) → b ≡ false
       not-so true h = absurd (h refl)
@@ -109,3 +109,11 @@ module _ {W : World} (lawful : Lawful W) {tier : ℕ → ℕ} (same-below : Loca
       whole-m : below tier n (minus R bad) S₀ ≡ minus R bad
       whole-m = fun-ext λ g. by-cases (decLt (tier g) n) (λ l. below-low tier n (minus R bad) S₀ l)
           (λ l. below-high tier n (minus R bad) S₀ (omega arith) ∙ none g (omega arith) ∙ sym (ap (λ b. b && not (bad g)) (out g (omega arith))))
+
+  -- So there is a plan than which no chain that ends clear ends with more; it ends with what is settled, but for the forbidden facts.
+  pub upto-best : {n : ℕ} {R : State} {us ds : List Ask} → ((g : ℕ) → n ≤ tier g → R g ≡ false) → Upto W tier bad S₀ n R us ds → Best W bad S₀ us ds
+  upto-best out t = bounds-best lawful bad S₀ (upto-good out t) (t .bounds)
+
+  pub upto-ends : {n : ℕ} {R : State} {us ds : List Ask} → ((g : ℕ) → n ≤ tier g → R g ≡ false) → Upto W tier bad S₀ n R us ds
+      → end S₀ (addThenDelete us ds) ≡ minus R bad
+  upto-ends out t = good-ends W bad S₀ (upto-good out t)

@@ -20,8 +20,8 @@ use Rattle.frames.specs.declared.Rules.{Rules}
 use Rattle.frames.specs.Book.{Contents, listed}
 use Rattle.frames.specs.Inner.Fits.{Admitted}
 use Rattle.quantifiers.proofs.ListLaws.{map-append}
-use Rattle.theory.specs.Inner.Facts.{State, _⊆_, Clear}
-use Rattle.theory.specs.Inner.Plan.{Ask, Req, Runs, end, Best}
+use Rattle.theory.specs.Inner.Facts.{State, _⊆_, minus, Clear}
+use Rattle.theory.specs.Inner.Plan.{Ask, Req, Runs, end, addThenDelete, Best}
 use Rattle.theory.proofs.PlanLaws.{bounds-first}
 use Rattle.level.specs.Inner.Moves.{Moves}
 use Rattle.shown.specs.Inner.Shown.{row, direct, Whole}
@@ -35,7 +35,7 @@ use Rattle.shown.proofs.ShownLaws.{direct-low, direct-in}
 use Rattle.level.proofs.TermLaws.{visible-effective}
 use Rattle.level.proofs.NoteLaws.{asks-same}
 use Rattle.level.proofs.LevelLaws.{on-level-in, on-level-out, stuck-none}
-use Rattle.level.proofs.UptoLaws.{upto-first, upto-next, upto-best}
+use Rattle.level.proofs.UptoLaws.{upto-first, upto-next, upto-ends, upto-best}
 use Rattle.reach.specs.Inner.Tracked.{personLevel, tracked, numberOf, lift, track, isNumber, bytesOf, May}
 use Rattle.reach.specs.Inner.Goal.{bad}
 use Rattle.reach.proofs.TrackLaws.{tracked-crew, level-low}
@@ -247,6 +247,30 @@ module _ (b : Contents) (ok : Admitted b) where
           (λ g e i. drive .upto .starts g i)
           f h (sym (same-s f h) ∙ stuck .held) (stuck .missing) (stuck .rounds) (rw whole-u (drive .upto .bounds))
 
+      -- The level settled in any two buffers, its requests in `up` from `first` on and in `down` up to `last`.
+      module _ {x : List Bool} {first : ℕ} {up₁ up : List ℕ} {n last : ℕ} {down₁ down : List ℕ} {at′ : ℕ}
+          (settled : Settled adds dels p T bads s u x first up₁ up n last down₁ down at′) where
+        next-upto : Upto (depot b) levelOf (bad b) (starts b) (suc k) (onLevel k (drive .R) (direct x))
+            (drive .us ++ map (toWhole k) (asks up first n)) (map (toWhole k) (asks down at′ (last - at′)) ++ drive .ds)
+        next-upto =
+            upto-next (depot-lawful b) (depot-local b) (λ g. refl) (bad b) (starts b) (drive .upto) (world T adds dels p) w
+            (direct s) (direct u) (direct x) (asks up first n) (asks down at′ (last - at′)) (direct bads)
+            same-bad same-s same-u (settled .rounds) (settled .additions) (settled .deletions) (settled .grown)
+
+        none-behind : k ≡ personLevel b → (g : ℕ) → suc k ≤ levelOf g → onLevel k (drive .R) (direct x) g ≡ false
+        none-behind is g h = on-level-out k (drive .R) (direct x) g (omega arith) ∙ drive .none g (omega arith)
+
+        -- After the last level there is the best plan; it ends with what is settled, but for the forbidden facts.
+        pub drive-best : k ≡ personLevel b → Best (depot b) (bad b) (starts b) (drive .us ++ map (toWhole k) (asks up first n))
+            (map (toWhole k) (asks down at′ (last - at′)) ++ drive .ds)
+        drive-best is = upto-best (depot-lawful b) (depot-local b) (λ g. refl) (bad b) (starts b) {n = suc k} (none-behind is) next-upto
+
+        pub drive-ends : k ≡ personLevel b
+            → end (starts b) (addThenDelete (drive .us ++ map (toWhole k) (asks up first n)) (map (toWhole k) (asks down at′ (last - at′)) ++ drive .ds))
+            ≡ minus (onLevel k (drive .R) (direct x)) (bad b)
+        drive-ends is = upto-ends (depot-lawful b) (depot-local b) (λ g. refl) (bad b) (starts b) {n = suc k} (none-behind is) next-upto
+
+      -- The level settled in the buffers of the levels below it, behind their requests.
       module _ {x : List Bool} {up down : List ℕ} {n at′ : ℕ} (settled : Settled adds dels p T bads s u x ups up₀ up n at down₀ down at′) where
         -- The requests of this level.
         abbrev up-here : List Ask
@@ -254,13 +278,6 @@ module _ (b : Contents) (ok : Admitted b) where
 
         abbrev down-here : List Ask
         down-here = asks down at′ (at - at′)
-
-        next-upto : Upto (depot b) levelOf (bad b) (starts b) (suc k) (onLevel k (drive .R) (direct x))
-            (drive .us ++ map (toWhole k) (asks up ups n)) (map (toWhole k) (asks down at′ (at - at′)) ++ drive .ds)
-        next-upto =
-            upto-next (depot-lawful b) (depot-local b) (λ g. refl) (bad b) (starts b) (drive .upto) (world T adds dels p) w
-            (direct s) (direct u) (direct x) up-here down-here (direct bads)
-            same-bad same-s same-u (settled .rounds) (settled .additions) (settled .deletions) (settled .grown)
 
         pub up-next : map bytesOf (drive .us ++ map (toWhole k) (asks up ups n)) ≡ map bytesOf (asks up 0 (ups + n))
         up-next =
@@ -289,7 +306,7 @@ module _ (b : Contents) (ok : Admitted b) where
               R = onLevel k (drive .R) (direct x);
               us = drive .us ++ map (toWhole k) (asks up ups n);
               ds = map (toWhole k) (asks down at′ (at - at′)) ++ drive .ds;
-              upto = next-upto;
+              upto = next-upto settled;
               full = λ g h l. on-level-out k (drive .R) (direct x) g (omega arith) ∙ drive .full g (omega arith) l;
               none = λ g h. on-level-out k (drive .R) (direct x) g (omega arith) ∙ drive .none g h;
               rows-right = right;
@@ -301,9 +318,3 @@ module _ (b : Contents) (ok : Admitted b) where
               most-down = omega (arith, drive .most-down, settled .down-to);
               size-down = size-down;
             }
-
-        -- After the last level there is the best plan.
-        pub drive-best : k ≡ personLevel b → Best (depot b) (bad b) (starts b) (drive .us ++ map (toWhole k) (asks up ups n))
-            (map (toWhole k) (asks down at′ (at - at′)) ++ drive .ds)
-        drive-best last = upto-best (depot-lawful b) (depot-local b) (λ g. refl) (bad b) (starts b) {n = suc k}
-            (λ g h. on-level-out k (drive .R) (direct x) g (omega arith) ∙ drive .none g (omega arith)) next-upto

@@ -4,4 +4,5 @@ pub mod RuleParts
 pub mod WithinLaws
 pub mod SubjectLaws
 pub mod DriveLaws
+pub mod PersonLaws
 pub mod StepLaws

@@ -1,41 +1,49 @@
--- One level's step, over plain values.
-use mathlib.Core.Path.{_≡_, refl, ap, sym, subst, _∙_}
+-- One level's step, for any query over plain values: the same rules serve the query of every person.
+use mathlib.Core.Path.{_≡_, refl, ap, sym, subst, fun-ext, _∙_}
 use mathlib.Core.Logic.{dite}
-use mathlib.Core.Bool.{Bool, true, false, not, _&&_, _||_}
-use mathlib.Core.List.{List, map, _++_}
+use mathlib.Core.Bool.{Bool, true, false, not, _&&_, _||_, and-true}
+use mathlib.Core.List.{List, [], map, _++_}
 use Prim.Native.Nat.{ℕ, _+_, _*_, _-_, _≤_, _<_}
 use native.Mathlib.Numerals.{add-one}
 use native.Mathlib.Decide.{ℕ-discrete}
 use native.Mathlib.Omega.{arith}
 use lib.Dec.{eqb}
-use borrow.Author.Tests.{not-true, not-false}
-use Rattle.inherit.specs.Inheritance.{isJunior, downward}
+use lib.ListN.{length, getD}
+use borrow.Author.Tests.{lt-ltb, not-true, not-false}
+use Rattle.sizes.specs.Sizes.{isPerson}
+use Rattle.inherit.specs.Inheritance.{isJunior, downward, personHolds}
 use Rattle.inherit.proofs.InheritanceLaws.{downward-step}
 use Rattle.quantifiers.proofs.BelowLaws.{any-same}
-use lib.ListN.{length, getD}
+use Rattle.frames.specs.declared.Rules.{Rules}
 use Rattle.frames.specs.declared.Book.{Book}
-use Rattle.frames.specs.Book.{Contents, contentsOf, listed}
+use Rattle.frames.specs.Book.{Contents, withQuery, contentsOf, listed}
 use Rattle.frames.specs.Inner.Fits.{Admitted}
-use Rattle.theory.specs.Inner.Facts.{State, _⊆_}
+use Rattle.theory.specs.Inner.Facts.{State, _⊆_, minus}
+use Rattle.theory.specs.Inner.Plan.{Ask, end, addThenDelete, Best}
 use Rattle.level.specs.Inner.Moves.{Moves, movesIn}
 use Rattle.shown.specs.Inner.Shown.{direct}
 use Rattle.level.specs.Inner.World.{world}
 use Rattle.level.specs.Inner.Chosen.{GoodRules, MovesOf}
-use Rattle.level.proofs.Levels.{toWhole, Within}
+use Rattle.level.proofs.Levels.{onLevel, toWhole, Within}
 use Rattle.level.specs.Inner.Notes.{asks}
 use Rattle.build.specs.Inner.Build.{Built}
 use Rattle.level.specs.Inner.Settle.{Result}
 use Rattle.shown.proofs.ShownLaws.{direct-low, direct-in}
 use Rattle.level.proofs.ChosenLaws.{moves-sound}
-use Rattle.reach.specs.Inner.Tracked.{personLevel}
+use Rattle.level.proofs.TermLaws.{visible-effective}
+use Rattle.reach.specs.Inner.Tracked.{personLevel, lift}
+use Rattle.reach.specs.Inner.Goal.{bad}
 use Rattle.reach.specs.Inner.Depot.{depot}
 use Rattle.flags.specs.Inner.Flags as flags
-use Rattle.search.specs.Inner.Drive.{Driving}
-use Rattle.search.specs.Inner.Scan.{SideMoves, AllAllowed, BlankTable, Scanned, Searched}
-use Rattle.search.proofs.Tables.{CrewTableRight}
+use Rattle.search.specs.Inner.Drive.{starts, Driving}
+use Rattle.search.specs.Inner.Scan.{SideMoves, NoRun, AllAllowed, BlankTable, toPerson, Serves, Scanned, Searched}
+use Rattle.search.proofs.Tables.{CrewTableRight, PersonTableRight}
+use Rattle.search.proofs.TermBridge.{person-effective}
 use Rattle.search.proofs.WithinLaws.{within, all-good}
 use Rattle.search.proofs.SubjectLaws.{crew-level, crew-terms, crew-adds, crew-dels, person-level, person-terms, person-adds, person-dels}
-use Rattle.search.proofs.DriveLaws.{Handed, crew-table, person-table, rows-next, drive-stuck, drive-next, drive-best, up-next, down-next}
+use Rattle.search.proofs.PersonLaws.{to-admitted, start-for, bad-for}
+use Rattle.search.proofs.DriveLaws.{Handed, drive-first, crew-table, person-table, rows-next, drive-stuck, drive-next}
+use Rattle.search.proofs.DriveLaws.{drive-best, drive-ends, up-next, down-next}
 
 -- What is told by the negation.
 pub no-found : (x : Bool) → not x ≡ true → x ≡ false
@@ -72,141 +80,177 @@ table-same {k = k} {rows} {before} {table} e made = subst (λ (js : List ℕ). f
 pub row-same : {js js′ : List ℕ} {k : ℕ} {x rows rows′ : List Bool} → js ≡ js′ → flags.FilledRow js k x rows rows′ → flags.FilledRow js′ k x rows rows′
 row-same {k = k} {x} {rows} {rows′} e filled = subst (λ (js : List ℕ). flags.FilledRow js k x rows rows′) e filled
 
-module _ (bk : Book) (ok : Admitted (contentsOf bk)) where
-  few : bk .rules .count ≤ 512
-  unfolding contentsOf
-  few = ok .rules-few
+-- The rules of an accepted book are in order, and so are the moves chosen from them.
+pub book-good : (bk : Book) → Admitted (contentsOf bk) → length (bk .rules .rules) ≡ 512 → GoodRules (bk .rules)
+unfolding contentsOf
+book-good bk ok room = all-good (contentsOf bk) ok (bk .rules) refl (ok .rules-few) room
 
-  same-rules : contentsOf bk .rules ≡ listed (bk .rules)
-  unfolding contentsOf
-  same-rules = refl
+pub side-moves : {rs : Rules} {roles : ℕ} → GoodRules rs → length (rs .rules) ≡ 512 → {adds dels : List ℕ} {add₁ add₂ del₁ del₂ : ℕ}
+    → MovesOf rs add₁ add₂ roles (movesIn adds) (rs .count) → MovesOf rs del₁ del₂ roles (movesIn dels) (rs .count)
+    → SideMoves rs roles add₁ add₂ del₁ del₂ (movesIn adds) (movesIn dels)
+side-moves good room more less =
+    record { room = room; more = more; less = less; sound-adds = moves-sound good more; sound-dels = moves-sound good less }
 
-  module _ {adds dels : Moves} {add₁ add₂ del₁ del₂ : ℕ} (mv : SideMoves bk add₁ add₂ del₁ del₂ adds dels) where
-    moves-more : MovesOf (bk .rules) add₁ add₂ (contentsOf bk .query .roles) adds (bk .rules .count)
-    unfolding contentsOf
-    moves-more = mv .more
+-- The best plan of a query, and flags that are what its person effectively holds at the plan's end.
+pub record PersonEnds (b : Contents) (x : List Bool) : Type 0 where
+  pub us : List Ask
+  pub ds : List Ask
+  pub best : Best (depot b) (bad b) (starts b) us ds
+  pub shows : (a v : ℕ) → a < 8 → v < 16 → getD x (160 + (16 * a + v)) false
+      ≡ personHolds (b .juniors) (lift b (end (starts b) (addThenDelete us ds))) (b .query .person) (record { 0 = a }) v
 
-    moves-less : MovesOf (bk .rules) del₁ del₂ (contentsOf bk .query .roles) dels (bk .rules .count)
-    unfolding contentsOf
-    moves-less = mv .less
+-- One query's level: settled, or no run ends clear.
+pub record Stepped (b : Contents) (k : ℕ) (rows : List Bool) (up down : List ℕ) (found : Bool) (ups at : ℕ) : Type 0 where
+  pub settled : found ≡ true → Driving b k rows ups up at down
+  pub stuck : found ≡ false → NoRun b
 
-  -- The rules of an accepted book are in order, and so are the moves chosen from them.
-  pub book-good : length (bk .rules .rules) ≡ 512 → GoodRules (bk .rules)
-  book-good room = all-good (contentsOf bk) ok (bk .rules) same-rules few room
-
-  pub side-moves : {adds dels : List ℕ} {add₁ add₂ del₁ del₂ : ℕ} → length (bk .rules .rules) ≡ 512
-      → MovesOf (bk .rules) add₁ add₂ (bk .query .roles) (movesIn adds) (bk .rules .count)
-      → MovesOf (bk .rules) del₁ del₂ (bk .query .roles) (movesIn dels) (bk .rules .count)
-      → SideMoves bk add₁ add₂ del₁ del₂ (movesIn adds) (movesIn dels)
-  side-moves room more less =
-      record { room = room; more = more; less = less; sound-adds = moves-sound (book-good room) more; sound-dels = moves-sound (book-good room) less }
-
-  row-of : {k : ℕ} {x rows rows′ : List Bool} → flags.FilledRow (bk .juniors) k x rows rows′ → flags.FilledRow (contentsOf bk .juniors) k x rows rows′
-  unfolding contentsOf
-  row-of filled = filled
-
+module _ (b : Contents) (ok : Admitted b) (rs : Rules) (same-rules : b .rules ≡ listed rs) (few : rs .count ≤ 512) where
   -- ---------------------------------------------------------------- a crew's level
 
-  module _ (k : ℕ) (is-crew : k < bk .sizes .crews) {adds dels : Moves} (mv : SideMoves bk 3 3 4 4 adds dels)
+  module _ (k : ℕ) (is-crew : k < b .sizes .crews) {adds dels : Moves} (mv : SideMoves rs (b .query .roles) 3 3 4 4 adds dels)
       {rows before table bads s u : List Bool} {ups : ℕ} {up₀ : List ℕ} {at : ℕ} {down₀ : List ℕ}
-      (drive : Driving (contentsOf bk) k rows ups up₀ at down₀) (blank : BlankTable before) (made : flags.CrewTable (bk .juniors) k rows before table)
-      (badf : flags.BadFlags (contentsOf bk) k bads) (start : flags.StartFlags (contentsOf bk) k s) (all : AllAllowed u) where
-    crew-is : k < contentsOf bk .sizes .crews
-    unfolding contentsOf
-    crew-is = is-crew
+      (drive : Driving b k rows ups up₀ at down₀) (blank : BlankTable before) (made : flags.CrewTable (b .juniors) k rows before table)
+      (badf : flags.BadFlags b k bads) (start : flags.StartFlags b k s) (all : AllAllowed u) where
+    table-right : CrewTableRight b (drive .R) k table
+    table-right = crew-table b ok (drive .rows-right) is-crew made (blank .blank)
 
-    right-table : flags.CrewTable (contentsOf bk .juniors) k rows before table
-    unfolding contentsOf
-    right-table = made
-
-    table-right : CrewTableRight (contentsOf bk) (drive .R) k table
-    table-right = crew-table (contentsOf bk) ok (drive .rows-right) crew-is right-table (blank .blank)
-
-    inside : Within (depot (contentsOf bk)) (world table adds dels k) k (drive .R)
+    inside : Within (depot b) (world table adds dels k) k (drive .R)
     inside =
-        within (contentsOf bk) ok (bk .rules) same-rules few (mv .room) table (drive .R)
-        (crew-level (contentsOf bk) ok (bk .rules) same-rules few (mv .room) k crew-is)
-        (crew-terms (contentsOf bk) ok (bk .rules) same-rules few (mv .room) k crew-is table (drive .R) table-right)
+        within b ok rs same-rules few (mv .room) table (drive .R)
+        (crew-level b ok rs same-rules few (mv .room) k is-crew)
+        (crew-terms b ok rs same-rules few (mv .room) k is-crew table (drive .R) table-right)
         adds dels
-        (crew-adds (contentsOf bk) ok (bk .rules) same-rules few (mv .room))
-        (crew-dels (contentsOf bk) ok (bk .rules) same-rules few (mv .room))
-        (moves-more mv) (moves-less mv)
+        (crew-adds b ok rs same-rules few (mv .room))
+        (crew-dels b ok rs same-rules few (mv .room))
+        (mv .more) (mv .less)
 
-    handed : Handed (contentsOf bk) ok (bk .rules) same-rules few (mv .room) k bads s u
+    handed : Handed b ok rs same-rules few (mv .room) k bads s u
     handed = record { bad-at = badf .at; start-at = start .at; all-at = all .at }
 
-    pub crew-scanned : {x rows′ : List Bool} {up down : List ℕ} {found : Bool} {n at′ : ℕ}
+    pub crew-stepped : {x rows′ : List Bool} {up down : List ℕ} {found : Bool} {n at′ : ℕ}
         → Result adds dels k table bads s u x ups up₀ up at down₀ down found n at′
-        → flags.FilledRow (bk .juniors) k x rows rows′ → length up ≡ 26400 → length down ≡ 26400
-        → Scanned (contentsOf bk) (k + 1) rows′ up down found (ups + n) at′
-    crew-scanned {x} {rows′} {up} {down} {found} {n} {at′} result filled size-up size-down =
+        → flags.FilledRow (b .juniors) k x rows rows′ → length up ≡ 26400 → length down ≡ 26400
+        → Stepped b (k + 1) rows′ up down found (ups + n) at′
+    crew-stepped {x} {rows′} {up} {down} {found} {n} {at′} result filled size-up size-down =
         record {
           settled = λ e.
               let done = result .found e in
-              subst (λ (i : ℕ). Driving (contentsOf bk) i rows′ (ups + n) up at′ down) (sym (add-one k))
-              (drive-next (contentsOf bk) ok (bk .rules) same-rules few (mv .room) drive (omega (arith, crew-is)) inside handed done
-              (rows-next (contentsOf bk) ok (drive .rows-right) crew-is table-right (done .whole) right-row) size-up size-down);
+              subst (λ (i : ℕ). Driving b i rows′ (ups + n) up at′ down) (sym (add-one k))
+              (drive-next b ok rs same-rules few (mv .room) drive (omega (arith, is-crew)) inside handed done
+              (rows-next b ok (drive .rows-right) is-crew table-right (done .whole) filled) size-up size-down);
           stuck = λ e. record {
-            never = drive-stuck (contentsOf bk) ok (bk .rules) same-rules few (mv .room) drive (omega (arith, crew-is)) inside handed (result .none e);
+            never = drive-stuck b ok rs same-rules few (mv .room) drive (omega (arith, is-crew)) inside handed (result .none e);
           };
         }
-      where
-        right-row : flags.FilledRow (contentsOf bk .juniors) k x rows rows′
-        right-row = row-of filled
 
+-- Before the first level nothing is settled, whoever the person is.
+pub serves-first : {b : Contents} → Admitted b → {rows : List Bool} {up down : List ℕ} → flags.FirstRows rows → length up ≡ 26400 → length down ≡ 26400
+    → Serves b 0 rows 0 up 5280 down
+serves-first {b} ok {rows} {up} {down} first size-up size-down =
+    record { each = λ p is. drive-first (toPerson b p) (to-admitted b p ok is) rows up down first size-up size-down }
+
+-- Made once with the book's own query, a crew's level serves every person's: table, flags and row are the same for all.
+module _ (bk : Book) (ok : Admitted (contentsOf bk)) (k : ℕ) (is-crew : k < bk .sizes .crews) {adds dels : Moves}
+    (mv : SideMoves (bk .rules) (bk .query .roles) 3 3 4 4 adds dels)
+    {rows before table bads s u : List Bool} {ups : ℕ} {up₀ : List ℕ} {at : ℕ} {down₀ : List ℕ}
+    (serves : Serves (contentsOf bk) k rows ups up₀ at down₀) (blank : BlankTable before) (made : flags.CrewTable (bk .juniors) k rows before table)
+    (badf : flags.BadFlags (contentsOf bk) k bads) (start : flags.StartFlags (contentsOf bk) k s) (all : AllAllowed u)
+    {x rows′ : List Bool} {up down : List ℕ} {found : Bool} {n at′ : ℕ} (result : Result adds dels k table bads s u x ups up₀ up at down₀ down found n at′)
+    (filled : flags.FilledRow (bk .juniors) k x rows rows′) (size-up : length up ≡ 26400) (size-down : length down ≡ 26400) where
+  for-each : (p : ℕ) → isPerson (contentsOf bk .sizes) p ≡ true → Stepped (toPerson (contentsOf bk) p) (k + 1) rows′ up down found (ups + n) at′
+  unfolding contentsOf toPerson withQuery
+  for-each p is =
+      crew-stepped (toPerson (contentsOf bk) p) (to-admitted (contentsOf bk) p ok is) (bk .rules) refl (ok .rules-few) k is-crew mv
+      (serves .each p is) blank made (bad-for (contentsOf bk) p k is-crew badf) (start-for (contentsOf bk) p k is-crew start) all result filled size-up size-down
+
+  pub crew-scanned : Scanned (contentsOf bk) (k + 1) rows′ up down found (ups + n) at′
+  crew-scanned = record { settled = λ e. record { each = λ p is. for-each p is .settled e }; stuck = λ e p is. for-each p is .stuck e }
+
+module _ (b : Contents) (ok : Admitted b) (rs : Rules) (same-rules : b .rules ≡ listed rs) (few : rs .count ≤ 512) where
   -- ---------------------------------------------------------------- the query's person's level
 
-  module _ {adds dels : Moves} (mv : SideMoves bk 1 5 2 6 adds dels)
+  module _ {adds dels : Moves} (mv : SideMoves rs (b .query .roles) 1 5 2 6 adds dels)
       {rows table bads s u : List Bool} {ups : ℕ} {up₀ : List ℕ} {at : ℕ} {down₀ : List ℕ}
-      (drive : Driving (contentsOf bk) (bk .sizes .crews) rows ups up₀ at down₀) (made : flags.PersonTable rows table)
-      (badf : flags.BadFlags (contentsOf bk) (bk .sizes .crews) bads) (start : flags.StartFlags (contentsOf bk) (bk .sizes .crews) s) (all : AllAllowed u) where
-    person-inside : Within (depot (contentsOf bk)) (world table adds dels (bk .query .person .0)) (bk .sizes .crews) (drive .R)
-    unfolding contentsOf
-    person-inside =
-        within (contentsOf bk) ok (bk .rules) same-rules few (mv .room) table (drive .R)
-        (person-level (contentsOf bk) ok (bk .rules) same-rules few (mv .room))
-        (person-terms (contentsOf bk) ok (bk .rules) same-rules few (mv .room) table (drive .R) (person-table (contentsOf bk) ok (drive .rows-right) made))
-        adds dels
-        (person-adds (contentsOf bk) ok (bk .rules) same-rules few (mv .room))
-        (person-dels (contentsOf bk) ok (bk .rules) same-rules few (mv .room))
-        (moves-more mv) (moves-less mv)
+      (drive : Driving b (b .sizes .crews) rows ups up₀ at down₀) (made : flags.PersonTable rows table)
+      (badf : flags.BadFlags b (b .sizes .crews) bads) (start : flags.StartFlags b (b .sizes .crews) s) (all : AllAllowed u) where
+    person-right : PersonTableRight b (drive .R) table
+    person-right = person-table b ok (drive .rows-right) made
 
-    person-handed : Handed (contentsOf bk) ok (bk .rules) same-rules few (mv .room) (bk .sizes .crews) bads s u
+    person-inside : Within (depot b) (world table adds dels (b .query .person .0)) (b .sizes .crews) (drive .R)
+    person-inside =
+        within b ok rs same-rules few (mv .room) table (drive .R)
+        (person-level b ok rs same-rules few (mv .room))
+        (person-terms b ok rs same-rules few (mv .room) table (drive .R) person-right)
+        adds dels
+        (person-adds b ok rs same-rules few (mv .room))
+        (person-dels b ok rs same-rules few (mv .room))
+        (mv .more) (mv .less)
+
+    person-handed : Handed b ok rs same-rules few (mv .room) (b .sizes .crews) bads s u
     person-handed = record { bad-at = badf .at; start-at = start .at; all-at = all .at }
 
-    last-level : bk .sizes .crews ≡ personLevel (contentsOf bk)
-    unfolding contentsOf
-    last-level = refl
-
-    at-last : bk .sizes .crews ≤ personLevel (contentsOf bk)
-    at-last = omega (arith, last-level)
-
-    crews-few : bk .sizes .crews ≤ 32
-    unfolding contentsOf
-    crews-few = ok .sized .crews-most
+    at-last : b .sizes .crews ≤ personLevel b
+    at-last = omega arith
 
     pub person-searched : {x : List Bool} {up down : List ℕ} {found : Bool} {n at′ : ℕ}
-        → Result adds dels (bk .query .person .0) table bads s u x ups up₀ up at down₀ down found n at′
-        → length up ≡ 26400 → length down ≡ 26400 → Searched (contentsOf bk) up down found (ups + n) at′
+        → Result adds dels (b .query .person .0) table bads s u x ups up₀ up at down₀ down found n at′
+        → length up ≡ 26400 → length down ≡ 26400 → Searched b up down found (ups + n) at′
     person-searched {x} {up} {down} {found} {n} {at′} result size-up size-down =
         record {
           written = λ e.
               let done = result .found e in
               record {
-                us = drive .us ++ map (toWhole (bk .sizes .crews)) (asks up ups n);
-                ds = map (toWhole (bk .sizes .crews)) (asks down at′ (at - at′)) ++ drive .ds;
-                best = drive-best (contentsOf bk) ok (bk .rules) same-rules few (mv .room) drive at-last person-inside person-handed done last-level;
-                bytes-up = up-next (contentsOf bk) ok (bk .rules) same-rules few (mv .room) drive at-last person-inside person-handed done;
-                bytes-down = down-next (contentsOf bk) ok (bk .rules) same-rules few (mv .room) drive at-last person-inside person-handed done;
-                few-up = omega (arith, drive .few-up, done .few-up, crews-few);
+                us = drive .us ++ map (toWhole (b .sizes .crews)) (asks up ups n);
+                ds = map (toWhole (b .sizes .crews)) (asks down at′ (at - at′)) ++ drive .ds;
+                best = drive-best b ok rs same-rules few (mv .room) drive at-last person-inside person-handed done refl;
+                bytes-up = up-next b ok rs same-rules few (mv .room) drive at-last person-inside person-handed done;
+                bytes-down = down-next b ok rs same-rules few (mv .room) drive at-last person-inside person-handed done;
+                few-up = omega (arith, drive .few-up, done .few-up, ok .sized .crews-most);
                 most-down = omega (arith, drive .most-down, done .down-to);
                 size-up = size-up;
                 size-down = size-down;
               };
           stuck = λ e. record {
-            never = drive-stuck (contentsOf bk) ok (bk .rules) same-rules few (mv .room) drive at-last person-inside person-handed (result .none e);
+            never = drive-stuck b ok rs same-rules few (mv .room) drive at-last person-inside person-handed (result .none e);
           };
         }
+
+    -- Where nothing is forbidden, a level settled in any two buffers gives the best plan's end: its flags are what the person
+    -- effectively holds there.
+    pub person-ends : ((g : ℕ) → bad b g ≡ false) → {x : List Bool} {first : ℕ} {up₁ up : List ℕ} {n last : ℕ} {down₁ down : List ℕ} {found : Bool} {at′ : ℕ}
+        → Result adds dels (b .query .person .0) table bads s u x first up₁ up last down₁ down found n at′ → PersonEnds b x
+    person-ends free {x} {first} {up₁} {up} {n} {last} {down₁} {down} {found} {at′} result = by-found found refl
+      where
+        same-end : minus (onLevel (b .sizes .crews) (drive .R) (direct x)) (bad b) ≡ onLevel (b .sizes .crews) (drive .R) (direct x)
+        same-end = fun-ext λ g. ap (λ (t : Bool). onLevel (b .sizes .crews) (drive .R) (direct x) g && not t) (free g) ∙ and-true _
+
+        by-found : (t : Bool) → found ≡ t → PersonEnds b x
+        by-found false e =
+            absurd (drive-stuck b ok rs same-rules few (mv .room) drive at-last person-inside person-handed (result .none e) [] tt
+            (λ g held. free g))
+        by-found true e =
+            let done = result .found e in
+            let ends = drive-ends b ok rs same-rules few (mv .room) drive at-last person-inside person-handed done refl in
+            record {
+              us = drive .us ++ map (toWhole (b .sizes .crews)) (asks up first n);
+              ds = map (toWhole (b .sizes .crews)) (asks down at′ (last - at′)) ++ drive .ds;
+              best = drive-best b ok rs same-rules few (mv .room) drive at-last person-inside person-handed done refl;
+              shows = λ a v l h.
+                  done .whole .shows (160 + (16 * a + v)) (omega arith)
+                  ∙ visible-effective table (direct x) (16 * a + v) (omega arith)
+                  ∙ person-effective b (drive .R) (direct x) table person-right (record { 0 = a }) v l h
+                  ∙ ap (λ (S : State). personHolds (b .juniors) (lift b S) (b .query .person) (record { 0 = a }) v) (sym (ends ∙ same-end));
+            }
+
+-- Where nothing is forbidden for person 0 no crew is stuck: the empty chain ends clear.
+pub free-serves : {b : Contents} → Admitted b → ((g : ℕ) → bad (toPerson b 0) g ≡ false)
+    → {k : ℕ} {rows : List Bool} {up down : List ℕ} {found : Bool} {ups at : ℕ}
+    → Scanned b k rows up down found ups at → Serves b k rows ups up at down
+free-serves {b} ok free {k} {rows} {up} {down} {found} {ups} {at} s = by-found found refl
+  where
+    by-found : (t : Bool) → found ≡ t → Serves b k rows ups up at down
+    by-found true e = s .settled e
+    by-found false e = absurd (s .stuck e 0 (lt-ltb 0 (b .sizes .persons) (omega (arith, ok .sized .persons-some))) .never [] tt (λ g held. free g))
 
 -- ---------------------------------------------------------------- which crews each crew reaches
 

@@ -129,7 +129,8 @@ module _ (b : Contents) (R S : State) where
     abbrev in-by : ℕ → ℕ → Bool
     in-by a d = in-crew d && downward (b .juniors) (λ y. eqb y a) d
 
-    person-effective : (a : Attr) (v : ℕ) → a .0 < 8 → v < 16
+    -- What the query's person effectively holds.
+    pub person-effective : (a : Attr) (v : ℕ) → a .0 < 8 → v < 16
         → effective T S (16 * a .0 + v) ≡ personHolds (b .juniors) (lift b (onLevel (personLevel b) R S)) (b .query .person) a v
     unfolding effective inherited
     person-effective a v s t =

@@ -1,4 +1,5 @@
 // The search over the levels: what each crew in rising number, and then the query's person, can come to, and the requests of the best plan.
+// What the crews come to is the same for every person, and is promised for all of them at once.
 ghost use mathlib.Core.Path.{_≡_};
 ghost use mathlib.Core.Bool.{true, false};
 ghost use Prim.Native.Nat.{_+_, _*_, _<_};
@@ -8,7 +9,7 @@ ghost use Rattle.frames.specs.Inner.Fits.{Admitted};
 ghost use Rattle.flags.specs.Inner.Flags.{Reaching};
 ghost use Rattle.level.specs.Inner.Moves.{movesIn};
 ghost use Rattle.search.specs.Inner.Drive.{Driving};
-ghost use Rattle.search.specs.Inner.Scan.{SideMoves, AllAllowed, BlankTable, Scanned, Searched};
+ghost use Rattle.search.specs.Inner.Scan.{SideMoves, AllAllowed, BlankTable, Serves, Scanned, Searched};
 ghost use Rattle.search.specs.Inner.Given.{Names, CrewsGiven, PersonGiven, LevelGiven, LevelSettled};
 ghost use Rattle.widths.specs.Inner.Widths.{levelSize, rowsSize, depotSize, draftSize};
 use frames::Book;
@@ -35,7 +36,7 @@ fn allow_all(u: &mut [bool])
 }
 
 // What a level comes to, once its table stands: its forbidden and its starting facts, their flags, leave to add every fact, and the rounds.
-fn settle_level(
+pub fn settle_level(
     q: Query,
     crews: u8,
     facts: &[u8],
@@ -108,7 +109,7 @@ fn crew_level(
 ) -> LevelOutcome
     requires { ⌜ CrewsGiven b (now facts) (now juniors) (now adds) (now dels) (now reach) × (k < b .sizes .crews) ⌝ }
     requires { ⌜ Names (now added) (now deleted) × BlankTable (now table) ⌝ }
-    requires { ⌜ Driving (contentsOf b) k (now rows) ups (now up) at (now down) ⌝ }
+    requires { ⌜ Serves (contentsOf b) k (now rows) ups (now up) at (now down) ⌝ }
     ensures { λ r. ⌜ Scanned (contentsOf b) (k + 1) (now (rows .exit)) (now (up .exit)) (now (down .exit)) (r .found) (ups + r .ups) (r .at) ×
         BlankTable (now (table .exit)) ⌝ }
 {
@@ -172,7 +173,7 @@ fn crew_levels(
 ) -> LevelOutcome
     requires { ⌜ CrewsGiven b (now facts) (now juniors) (now adds) (now dels) (now reach) ⌝ }
     requires { ⌜ Names (now added) (now deleted) × BlankTable (now table) ⌝ }
-    requires { ⌜ Driving (contentsOf b) 0 (now rows) 0 (now up) depotSize (now down) ⌝ }
+    requires { ⌜ Serves (contentsOf b) 0 (now rows) 0 (now up) depotSize (now down) ⌝ }
     ensures { λ r. ⌜ Scanned (contentsOf b) (b .sizes .crews) (now (rows .exit)) (now (up .exit)) (now (down .exit)) (r .found) (r .ups) (r .at) ⌝ }
 {
     let n = b.sizes.crews;
@@ -213,6 +214,45 @@ fn crew_levels(
         ups,
         at,
     }
+}
+
+// The levels of all crews, from nothing: which crews each crew reaches, rows that have the crews alone, then crew after crew. The same for whoever
+// the query's person is.
+pub fn settle_crews(
+    b: Book,
+    facts: &[u8],
+    gains: &[u16],
+    losses: &[u16],
+    rows: &mut [bool],
+    table: &mut [bool],
+    up: &mut [u8],
+    down: &mut [u8],
+) -> LevelOutcome
+    requires { ⌜ Admitted (contentsOf b) × SideMoves (b .rules) (b .query .roles) 3 3 4 4 (movesIn (now gains)) (movesIn (now losses)) ⌝ }
+    requires { ⌜ (now facts ≡ b .facts) × ((length (now rows) ≡ rowsSize) × BlankTable (now table)) ⌝ }
+    requires { ⌜ (length (now up) ≡ draftSize) × (length (now down) ≡ draftSize) ⌝ }
+    ensures { λ r. ⌜ Scanned (contentsOf b) (b .sizes .crews) (now (rows .exit)) (now (up .exit)) (now (down .exit)) (r .found) (r .ups) (r .at) ⌝ }
+{
+    let juniors = b.juniors;
+    let mut reach = [false; ROWS_SIZE];
+    let mut added = [512u16; LEVEL_SIZE];
+    let mut deleted = [512u16; LEVEL_SIZE];
+    fill_reach(&juniors, &mut reach);
+    flags::first_rows(rows);
+    crew_levels(
+        b,
+        facts,
+        &juniors,
+        gains,
+        losses,
+        &mut added,
+        &mut deleted,
+        &reach,
+        rows,
+        table,
+        up,
+        down,
+    )
 }
 
 // The level of the query's person, above all crews.
@@ -270,33 +310,15 @@ fn all_levels(
     down: &mut [u8],
 ) -> LevelOutcome
     requires { ⌜ Admitted (contentsOf b) ×
-        (SideMoves b 3 3 4 4 (movesIn (now gains)) (movesIn (now losses)) × SideMoves b 1 5 2 6 (movesIn (now adds)) (movesIn (now dels))) ⌝ }
+        (SideMoves (b .rules) (b .query .roles) 3 3 4 4 (movesIn (now gains)) (movesIn (now losses)) ×
+        SideMoves (b .rules) (b .query .roles) 1 5 2 6 (movesIn (now adds)) (movesIn (now dels))) ⌝ }
     requires { ⌜ (length (now up) ≡ draftSize) × (length (now down) ≡ draftSize) ⌝ }
     ensures { λ r. ⌜ Searched (contentsOf b) (now (up .exit)) (now (down .exit)) (r .found) (r .ups) (r .at) ⌝ }
 {
     let facts = b.facts;
-    let juniors = b.juniors;
-    let mut reach = [false; ROWS_SIZE];
     let mut rows = [false; ROWS_SIZE];
     let mut table = [false; TABLE_SIZE];
-    let mut added = [512u16; LEVEL_SIZE];
-    let mut deleted = [512u16; LEVEL_SIZE];
-    fill_reach(&juniors, &mut reach);
-    flags::first_rows(&mut rows);
-    let r = crew_levels(
-        b,
-        &facts,
-        &juniors,
-        gains,
-        losses,
-        &mut added,
-        &mut deleted,
-        &reach,
-        &mut rows,
-        &mut table,
-        up,
-        down,
-    );
+    let r = settle_crews(b, &facts, gains, losses, &mut rows, &mut table, up, down);
     if !r.found {
         return r;
     }

@@ -1,5 +1,5 @@
 -- `search::crew_level` meets its contract: the table is the crew's, the level comes to a settled set or is stuck, and the crew's row is filled from
--- what was settled (`crew-scanned`). Assumes nothing.
+-- what was settled; it is made with the book's own query, and serves every person's (`crew-scanned`). Assumes nothing.
 use mathlib.Core.Path.{refl, ap, _∙_}
 use Prim.Native.Nat.{_≤_}
 use native.Mathlib.Omega.{arith}
@@ -8,6 +8,7 @@ use borrow.Author.Needs.{needs}
 use Rattle.frames.specs.Book.{contentsOf}
 use Rattle.flags.proofs.FlagLaws.{small-wants, start-flags, filled-row}
 use Rattle.flags.proofs.BadLaws.{bad-all}
+use Rattle.search.proofs.PersonLaws.{serves-own}
 use Rattle.search.proofs.StepLaws.{room-up, room-below, room-down, table-same, row-same, crew-scanned, starts-built}
 use Rattle.search.proofs.crew_level.Statement.{statement}
 use Rattle.search.proofs.crew_level.Tie as tie
@@ -43,7 +44,10 @@ crew-table-requires c κs =
     let pre = entry (after-is-below-listed c .before) .pre in
     let given = pre .0 .0 in (
       omega (arith, pre .0 .1, given .accepted .sized .crews-most),
-      (ap length (given .same-juniors) ∙ given .accepted .edge-room, (pre .1 .1 .rows-right .size, pre .1 .0 .1 .size)),
+      (
+        ap length (given .same-juniors) ∙ given .accepted .edge-room,
+        (serves-own (given .accepted) (pre .1 .1) .rows-right .size, pre .1 .0 .1 .size),
+      ),
     )
 
 slice-aggregate-settle-level : tie.Need-slice-aggregate-settle-level
@@ -55,7 +59,7 @@ settle-level-requires c κs =
     let start = entry (after-is-below-listed (after-crew-table c .before) .before) in
     let pre = start .pre in
     let given = pre .0 .0 in
-    let drive = pre .1 .1 in
+    let drive = serves-own (given .accepted) (pre .1 .1) in
     let low : start .args .k ≤ 32 = omega (arith, given .accepted .sized .crews-most, pre .0 .1) in
     record {
       wants = small-wants (given .accepted);
@@ -78,7 +82,10 @@ fill-row-requires c κs =
     let at-crew-table = after-crew-table (after-settle-level c .before) in
     let pre = entry (after-is-below-listed (at-crew-table .before) .before) .pre in (
       omega (arith, pre .0 .1, pre .0 .0 .accepted .sized .crews-most),
-      (after-up c .before .x2 .given, (at-crew-table .crew-table .ensures .size, pre .1 .1 .rows-right .size)),
+      (
+        after-up c .before .x2 .given,
+        (at-crew-table .crew-table .ensures .size, serves-own (pre .0 .0 .accepted) (pre .1 .1) .rows-right .size),
+      ),
     )
 
 same-length : tie.Need-same-length
@@ -109,13 +116,13 @@ returns c =
     let start = entry (at-below .before) in
     let pre = start .pre in
     let given = pre .0 .0 in
-    let drive = pre .1 .1 in
+    let drive = serves-own (given .accepted) (pre .1 .1) in
     let made = at-crew-table .crew-table .ensures in
     let level = at-settle-level .settle-level .ensures in
     let bads = bad-all (contentsOf (start .args .b)) (small-wants (given .accepted)) (start .args .k) (at-below .is-below-listed .result)
     (omega (arith, pre .0 .1)) (λ h. at-below .is-below-listed .ensures) (level .size) (level .forbidden) in
-    let begun = starts-built (start-flags (start .args .b) (given .same-facts) (omega (arith, pre .0 .1)) (level .started)) (level .built) in (
-      crew-scanned (start .args .b) (given .accepted) (start .args .k) (pre .0 .1) (given .moves) drive (pre .1 .0 .1)
+    let begun = starts-built (start-flags (contentsOf (start .args .b)) (given .same-facts) (omega (arith, pre .0 .1)) (level .started)) (level .built) in (
+      crew-scanned (start .args .b) (given .accepted) (start .args .k) (pre .0 .1) (given .moves) (pre .1 .1) (pre .1 .0 .1)
           (table-same (given .same-juniors) made) bads begun (level .allowed) (level .result)
           (row-same (given .same-juniors) (filled-row (drive .rows-right .size) made (c .before .before .fill-row .ensures)))
           (after-up filling .up .given ∙ drive .size-up) (after-down filling .down .given ∙ drive .size-down),

@@ -1,12 +1,14 @@
--- `search::crew_levels` meets its contract: crew after crew, until one is stuck. The names that the crews hand on stay 160. Assumes nothing.
+-- `search::crew_levels` meets its contract: crew after crew, until one is stuck; what is settled serves every person. The names that the crews
+-- hand on stay 160. Assumes nothing.
 use mathlib.Core.Path.{_≡_, sym, subst, _∙_}
 use mathlib.Core.Bool.{Bool, true, true≢false}
 use mathlib.Core.List.{List}
 use Prim.Native.Nat.{ℕ, _+_, _-_, _*_, _≤_, _<_}
 use Rattle.frames.specs.Book.{Contents, contentsOf}
 use Rattle.search.specs.Inner.Drive.{Driving}
-use Rattle.search.specs.Inner.Scan.{BlankTable, Scanned}
+use Rattle.search.specs.Inner.Scan.{BlankTable, Serves, Scanned}
 use Rattle.search.specs.Inner.Given.{Names}
+use Rattle.search.proofs.PersonLaws.{serves-own}
 use Rattle.search.proofs.StepLaws.{no-found, was-found}
 use borrow.Author.Needs.{needs}
 use native.Mathlib.Omega.{arith}
@@ -20,14 +22,14 @@ small : {k crews : ℕ} → k < crews → crews ≤ 32 → k + 1 < 256
 small h b = omega arith
 
 -- After the last crew.
-scanned : {b : Contents} {k n : ℕ} {rows : List Bool} {ups at : ℕ} {up down : List ℕ} → Driving b k rows ups up at down → k ≡ n
+scanned : {b : Contents} {k n : ℕ} {rows : List Bool} {ups at : ℕ} {up down : List ℕ} → Serves b k rows ups up at down → k ≡ n
     → Scanned b n rows up down true ups at
 scanned {b} {k} {n} {rows} {ups} {at} {up} {down} d e =
-    record { settled = λ f. subst (λ (i : ℕ). Driving b i rows ups up at down) e d; stuck = λ f. absurd (true≢false f) }
+    record { settled = λ f. subst (λ (i : ℕ). Serves b i rows ups up at down) e d; stuck = λ f. absurd (true≢false f) }
 
 abbrev Inv-loop : tie.InvT-loop
 Inv-loop b facts juniors adds dels added₀ deleted₀ reach rows₀ table₀ up₀ down₀ n ups₀ at₀ k₀ added deleted rows table up down ups at k =
-    (k ≤ n) × ((Names added deleted × BlankTable table) × Driving (contentsOf b) k rows ups up at down)
+    (k ≤ n) × ((Names added deleted × BlankTable table) × Serves (contentsOf b) k rows ups up at down)
 
 abbrev μ-loop : tie.MeasureT-loop
 μ-loop b facts juniors adds dels added₀ deleted₀ reach rows₀ table₀ up₀ down₀ n ups₀ at₀ k₀ added deleted rows table up down ups at k = n - k
@@ -57,6 +59,14 @@ after-up c = c .before .before .before .before
 abbrev after-rows : tie.Then1 Inv-loop μ-loop → tie.After-rows Inv-loop μ-loop
 after-rows c = c .before .before .before .before .before .before .before .before .before
 
+-- The lengths of what is lent, by what is settled for the query's own person: at the start of the loop, and at its head.
+settled-at-first : (c : tie.Start Inv-loop μ-loop) → Driving (contentsOf (c .args .b)) 0 (c .args .rows .now) 0 (c .args .up .now) 5280 (c .args .down .now)
+settled-at-first c = serves-own (c .pre .0 .accepted) (c .pre .1 .1)
+
+settled-so-far : (c : tie.At-loop Inv-loop μ-loop)
+    → Driving (contentsOf (start (c .before) .args .b)) (c .loop .k) (c .loop .rows) (c .loop .ups) (c .loop .up) (c .loop .at) (c .loop .down)
+settled-so-far c = serves-own (start (c .before) .pre .0 .accepted) (c .loop .inv .1 .1)
+
 loop-holds : tie.Need-loop-holds Inv-loop μ-loop
 loop-holds c = (omega arith, start c .pre .1)
 
@@ -77,7 +87,7 @@ same-length-2 c =
 same-length-3 : tie.Need-same-length-3 Inv-loop μ-loop
 same-length-3 c =
     after-rows c .rows .given ∙
-    (loop-head (c .before) .loop .inv .1 .1 .rows-right .size ∙ sym (entry (c .before) .pre .1 .1 .rows-right .size))
+    (settled-so-far (loop-head (c .before)) .rows-right .size ∙ sym (settled-at-first (entry (c .before)) .rows-right .size))
 
 same-length-4 : tie.Need-same-length-4 Inv-loop μ-loop
 same-length-4 c =
@@ -87,12 +97,12 @@ same-length-4 c =
 same-length-5 : tie.Need-same-length-5 Inv-loop μ-loop
 same-length-5 c =
     after-up (c .before) .up .given ∙
-    (loop-head (c .before) .loop .inv .1 .1 .size-up ∙ sym (entry (c .before) .pre .1 .1 .size-up))
+    (settled-so-far (loop-head (c .before)) .size-up ∙ sym (settled-at-first (entry (c .before)) .size-up))
 
 same-length-6 : tie.Need-same-length-6 Inv-loop μ-loop
 same-length-6 c =
     c .before .before .before .down .given ∙
-    (loop-head (c .before) .loop .inv .1 .1 .size-down ∙ sym (entry (c .before) .pre .1 .1 .size-down))
+    (settled-so-far (loop-head (c .before)) .size-down ∙ sym (settled-at-first (entry (c .before)) .size-down))
 
 returns : tie.Need-returns Inv-loop μ-loop
 returns c =
@@ -107,10 +117,11 @@ unfolding contentsOf
 add-ups c =
     let at-crew-level = after-crew-level (after-deleted (c .before .before)) in
     let at-loop-turn = loop-turn (at-crew-level .before) in
+    let accepted = start (at-loop-turn .before .before) .pre .0 .accepted in
     omega (
       arith,
-      few (at-crew-level .crew-level .ensures .0 .settled (was-found _ (c .before .if1 .left)) .few-up)
-          (at-loop-turn .loop-test .taken) (start (at-loop-turn .before .before) .pre .0 .accepted .sized .crews-most),
+      few (serves-own accepted (at-crew-level .crew-level .ensures .0 .settled (was-found _ (c .before .if1 .left))) .few-up)
+          (at-loop-turn .loop-test .taken) (accepted .sized .crews-most),
     )
 
 add-k : tie.Need-add-k Inv-loop μ-loop
@@ -149,16 +160,16 @@ same-length-8 : tie.Need-same-length-8 Inv-loop μ-loop
 same-length-8 c = c .before .loop .inv .1 .0 .0 .room-deleted ∙ sym (start (c .before .before) .pre .1 .0 .0 .room-deleted)
 
 same-length-9 : tie.Need-same-length-9 Inv-loop μ-loop
-same-length-9 c = c .before .loop .inv .1 .1 .rows-right .size ∙ sym (start (c .before .before) .pre .1 .1 .rows-right .size)
+same-length-9 c = settled-so-far (c .before) .rows-right .size ∙ sym (settled-at-first (start (c .before .before)) .rows-right .size)
 
 same-length-10 : tie.Need-same-length-10 Inv-loop μ-loop
 same-length-10 c = c .before .loop .inv .1 .0 .1 .size ∙ sym (start (c .before .before) .pre .1 .0 .1 .size)
 
 same-length-11 : tie.Need-same-length-11 Inv-loop μ-loop
-same-length-11 c = c .before .loop .inv .1 .1 .size-up ∙ sym (start (c .before .before) .pre .1 .1 .size-up)
+same-length-11 c = settled-so-far (c .before) .size-up ∙ sym (settled-at-first (start (c .before .before)) .size-up)
 
 same-length-12 : tie.Need-same-length-12 Inv-loop μ-loop
-same-length-12 c = c .before .loop .inv .1 .1 .size-down ∙ sym (start (c .before .before) .pre .1 .1 .size-down)
+same-length-12 c = settled-so-far (c .before) .size-down ∙ sym (settled-at-first (start (c .before .before)) .size-down)
 
 returns-2 : tie.Need-returns-2 Inv-loop μ-loop
 returns-2 c = scanned (c .before .loop .inv .1 .1) (omega (arith, c .before .loop .inv .0, c .loop-test .left))

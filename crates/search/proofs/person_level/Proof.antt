@@ -71,8 +71,9 @@ returns c =
     let level = after-settle-level c .settle-level .ensures in
     let bads = bad-all (contentsOf (start .args .b)) (small-wants (given .accepted)) (start .args .b .sizes .crews) false (omega arith)
     (λ h. absurd (omega arith)) (level .size) (level .forbidden) in
-    let begun = starts-built (start-flags (start .args .b) (given .same-facts) (omega arith) (level .started)) (level .built) in
-    person-searched (start .args .b) (given .accepted) (given .moves) drive (at-person-table .person-table .ensures)
+    let begun = starts-built (start-flags (contentsOf (start .args .b)) (given .same-facts) (omega arith) (level .started)) (level .built) in
+    person-searched (contentsOf (start .args .b)) (given .accepted) (start .args .b .rules) refl (given .accepted .rules-few) (given .moves)
+    drive (at-person-table .person-table .ensures)
     bads begun (level .allowed) (level .result)
     (c .before .before .before .up .given ∙ drive .size-up) (c .before .down .given ∙ drive .size-down)
 

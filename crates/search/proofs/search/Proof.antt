@@ -91,8 +91,9 @@ all-levels-requires c κs =
     let at-start = start (at-moves-listed .before) in
     let pre = at-start .pre in
     let room = simp length-map at (at-start .good .0 .1 .1 .1 .1 .0 .1 .1 .1 .0 .1 .0 .1) in
-    let crews = side-moves (at-start .args .b) (pre .0) room (sides .crew-more) (sides .crew-less) in
-    let person = side-moves (at-start .args .b) (pre .0) room (sides .more) (sides .less) in
+    let good = book-good (at-start .args .b) (pre .0) room in
+    let crews = side-moves good room (sides .crew-more) (sides .crew-less) in
+    let person = side-moves good room (sides .more) (sides .less) in
     ((pre .0, (crews, person)), (pre .1 .0, pre .1 .1))
 
 same-length : tie.Need-same-length

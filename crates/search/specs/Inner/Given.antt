@@ -23,7 +23,7 @@ pub record Names (added deleted : List ℕ) : Type 0 where
 -- The levels of the crews: an accepted book with its facts and juniors, the moves on crews, and which crews each crew reaches.
 pub record CrewsGiven (b : Book) (facts juniors adds dels : List ℕ) (reach : List Bool) : Type 0 where
   pub accepted : Admitted (contentsOf b)
-  pub moves : SideMoves b 3 3 4 4 (movesIn adds) (movesIn dels)
+  pub moves : SideMoves (b .rules) (b .query .roles) 3 3 4 4 (movesIn adds) (movesIn dels)
   pub reach-size : length reach ≡ rowsSize
   pub reaching : Reaching (b .juniors) reach
   pub same-juniors : juniors ≡ b .juniors
@@ -32,7 +32,7 @@ pub record CrewsGiven (b : Book) (facts juniors adds dels : List ℕ) (reach : L
 -- The level of the query's person: an accepted book with its facts, the moves on the person, and room for a table.
 pub record PersonGiven (b : Book) (facts adds dels : List ℕ) (table : List Bool) : Type 0 where
   pub accepted : Admitted (contentsOf b)
-  pub moves : SideMoves b 1 5 2 6 (movesIn adds) (movesIn dels)
+  pub moves : SideMoves (b .rules) (b .query .roles) 1 5 2 6 (movesIn adds) (movesIn dels)
   pub rows : length table ≡ tableSize
   pub same-facts : facts ≡ b .facts
 

@@ -5,8 +5,9 @@ use mathlib.Core.List.{List, map}
 use Prim.Native.Nat.{ℕ, _-_, _<_, _≤_}
 use lib.ListN.{length, getD}
 use Rattle.widths.specs.Inner.Widths.{levelSize, rowsSize, tableSize, depotSize, draftSize}
-use Rattle.frames.specs.declared.Book.{Book}
-use Rattle.frames.specs.Book.{Contents}
+use Rattle.sizes.specs.Sizes.{isPerson}
+use Rattle.frames.specs.declared.Rules.{Rules}
+use Rattle.frames.specs.Book.{Contents, withQuery}
 use Rattle.theory.specs.Inner.Facts.{Clear}
 use Rattle.theory.specs.Inner.Plan.{Ask, Req, Runs, end, Best}
 use Rattle.level.specs.Inner.Moves.{Moves, Sound}
@@ -18,10 +19,10 @@ use Rattle.reach.specs.Inner.Depot.{depot}
 use Rattle.search.specs.Inner.Drive.{starts, Driving}
 
 -- The moves of a level's two sides, out of the rules with the query's roles.
-pub record SideMoves (b : Book) (add₁ add₂ del₁ del₂ : ℕ) (adds dels : Moves) : Type 0 where
-  pub room : length (b .rules .rules) ≡ 512
-  pub more : MovesOf (b .rules) add₁ add₂ (b .query .roles) adds (b .rules .count)
-  pub less : MovesOf (b .rules) del₁ del₂ (b .query .roles) dels (b .rules .count)
+pub record SideMoves (rs : Rules) (roles : ℕ) (add₁ add₂ del₁ del₂ : ℕ) (adds dels : Moves) : Type 0 where
+  pub room : length (rs .rules) ≡ 512
+  pub more : MovesOf rs add₁ add₂ roles adds (rs .count)
+  pub less : MovesOf rs del₁ del₂ roles dels (rs .count)
   pub sound-adds : Sound adds
   pub sound-dels : Sound dels
 
@@ -39,10 +40,28 @@ pub record BlankTable (table : List Bool) : Type 0 where
   pub size : length table ≡ tableSize
   pub blank : (j : ℕ) → j < rowsSize → getD table j false ≡ false
 
--- The levels below k are settled, or no run ends clear.
+-- The book with its query put for another person.
+unfoldable pub toPerson : Contents → ℕ → Contents
+toPerson b p =
+    withQuery b
+    (record {
+      mode = b .query .mode;
+      person = record { 0 = p };
+      roles = b .query .roles;
+      q = b .query .q;
+      wants = b .query .wants;
+      crews = b .query .crews;
+    })
+
+-- "What crews can come to hold doesn't depend on the person": the levels below k are settled whoever of the book's persons the query
+-- is for, with the same rows and by the same requests.
+pub record Serves (b : Contents) (k : ℕ) (rows : List Bool) (ups : ℕ) (up : List ℕ) (at : ℕ) (down : List ℕ) : Type 0 where
+  pub each : (p : ℕ) → isPerson (b .sizes) p ≡ true → Driving (toPerson b p) k rows ups up at down
+
+-- The levels below k are settled for every person, or no run ends clear, for none of them.
 pub record Scanned (b : Contents) (k : ℕ) (rows : List Bool) (up down : List ℕ) (found : Bool) (ups at : ℕ) : Type 0 where
-  pub settled : found ≡ true → Driving b k rows ups up at down
-  pub stuck : found ≡ false → NoRun b
+  pub settled : found ≡ true → Serves b k rows ups up at down
+  pub stuck : found ≡ false → (p : ℕ) → isPerson (b .sizes) p ≡ true → NoRun (toPerson b p)
 
 -- All levels are settled: the requests written are the best plan's.
 pub record BestWritten (b : Contents) (up down : List ℕ) (ups at : ℕ) : Type 0 where

@@ -1,0 +1,4 @@
+pub mod PageLaws
+pub mod PersonLaws
+pub mod RowLaws
+pub mod PageOne

@@ -1,0 +1,252 @@
+-- The table, filled bit by bit and row by row.
+use mathlib.Core.Path.{_≡_, refl, ap, sym, subst, _∙_}
+use mathlib.Core.Logic.{dite}
+use mathlib.Core.Bool.{Bool, true, false, cond, _&&_, true≢false}
+use mathlib.Core.List.{List}
+use Prim.Native.Nat.{ℕ, _+_, _*_, _/_, _%_, _≤_, _<_}
+use native.Mathlib.Decide.{ℕ-discrete, decLt}
+use native.Mathlib.Omega.{arith}
+use lib.ListN.{length, getD, set, length-set, List·getD-eq-default}
+use lib.Seq.{getD-set-same, getD-set-other}
+use borrow.Author.Tests.{lt-ltb, ltb-true}
+use Rattle.quantifiers.proofs.BoolLaws.{and-both, not-on}
+use Rattle.sets.specs.Sets.{byteOf, memberAt, putAt}
+use Rattle.sets.proofs.SetLaws.{member-zero, member-at-out, member-at-put-same, member-at-put-other, put-at-length, put-at-bytes}
+use Rattle.sizes.specs.declared.Sizes.{Sizes}
+use Rattle.sizes.specs.Sizes.{isPerson, isValue}
+use Rattle.sizes.proofs.SizeLaws.{value-bounds}
+use Rattle.frames.specs.declared.Refusal as frames
+use Rattle.frames.specs.Book.{Contents, withQuery, refused, accepted, bookOf}
+use Rattle.frames.specs.Inner.Fits.{Admitted}
+use Rattle.ledger.specs.Ledger.{done, refusal, noPlace}
+use Rattle.planner.specs.Promise.{NoWay}
+use Rattle.page.specs.declared.Paged.{Paged}
+use Rattle.page.specs.declared.Paged.the-variants.{Refused}
+use Rattle.page.specs.declared.Refusal.the-variants.{BadBook}
+use Rattle.page.specs.Page.{said, asking, Reachable, PageGiven, PageAnswered, PagePromise}
+use Rattle.page.specs.Inner.Rows.{roaming, bitOf, shownValue, valuePut, RowPut, RowClear, RowsRight, Cleared}
+use Rattle.page.proofs.PageLaws.{roams-asking}
+
+-- ---------------------------------------------------------------- a table of nothing
+
+pub cleared-none : (out : List ℕ) → length out ≡ 1024 → Cleared 0 out
+cleared-none out size = record { size = size; zero = λ j h. absurd (omega arith) }
+
+pub cleared-more : {out : List ℕ} {i : ℕ} → i < 1024 → Cleared i out → Cleared (i + 1) (set out i 0)
+cleared-more {out} {i} room c = record {
+  size = length-set out i 0 ∙ c .size;
+  zero = λ j h. dite (ℕ-discrete j i)
+      (λ (e : j ≡ i). rw e (getD-set-same out i 0 0 (omega (arith, c .size))))
+      (λ (other : j ≡ i → ⊥). getD-set-other out i j 0 0 other ∙ c .zero j (omega arith));
+}
+
+pub cleared-all : {out : List ℕ} {i : ℕ} → Cleared i out → i ≡ 1024 → Cleared 1024 out
+cleared-all {out} c e = subst (λ (n : ℕ). Cleared n out) e c
+
+module _ {out : List ℕ} (c : Cleared 1024 out) where
+  -- A bit of the table, or one past its end, is clear.
+  bit-none : (p a v : ℕ) → bitOf out p a v ≡ false
+  unfolding memberAt
+  bit-none p a v =
+      dite (decLt (byteOf (16 * p + 2 * a) 2 v) 1024)
+      (λ (h : byteOf (16 * p + 2 * a) 2 v < 1024). rw (c .zero (byteOf (16 * p + 2 * a) 2 v) h) (member-zero (v % 8)))
+      (λ (h : byteOf (16 * p + 2 * a) 2 v < 1024 → ⊥). member-at-out out (16 * p + 2 * a) 2 v (omega (arith, c .size)))
+
+  byte-none : (j : ℕ) → getD out j 0 < 256
+  byte-none j =
+      dite (decLt j 1024) (λ (h : j < 1024). rw (c .zero j h) (omega arith))
+      (λ (h : j < 1024 → ⊥).
+      let past : getD out j 0 ≡ 0 = List·getD-eq-default out 0 (omega (arith, c .size)) in
+      rw past (omega arith))
+
+  -- No row is filled yet.
+  pub rows-none : (b : Contents) → RowsRight b 0 out
+  rows-none b =
+      record {
+        size = c .size;
+        bytes = byte-none;
+        set = λ p a v h. absurd (omega arith);
+        clear = λ p a v h. absurd (omega arith);
+        absent = λ p a v l m none. bit-none p a v;
+      }
+
+-- ---------------------------------------------------------------- one row
+
+-- A byte of the table and a place in it are those of one person, attribute and value.
+module _ (q a v p c w : ℕ) (l : a < 8) (h : v < 16) (m : c < 8) (k : w < 16) (byte : byteOf (16 * q + 2 * a) 2 v ≡ byteOf (16 * p + 2 * c) 2 w)
+    (bit : v % 8 ≡ w % 8) where
+  same-set : 8 * q + a ≡ 8 * p + c
+  same-set =
+      let one : byteOf (16 * q + 2 * a) 2 v / 2 ≡ 8 * q + a = omega arith in
+      let other : byteOf (16 * p + 2 * c) 2 w / 2 ≡ 8 * p + c = omega arith in
+      sym one ∙ ap (λ (n : ℕ). n / 2) byte ∙ other
+
+  one-person : q ≡ p
+  one-person =
+      let one : (8 * q + a) / 8 ≡ q = omega arith in
+      let other : (8 * p + c) / 8 ≡ p = omega arith in
+      sym one ∙ ap (λ (n : ℕ). n / 8) same-set ∙ other
+
+  one-value : 16 * a + v ≡ 16 * c + w
+  one-value =
+      let attr : a ≡ c = omega (arith, same-set, one-person) in
+      let half : v / 8 ≡ w / 8 = omega (arith, byte, attr, one-person) in
+      omega (arith, attr, half, bit)
+
+-- What one value's bit comes to, by the flag and the test.
+module _ (z : Sizes) (p : ℕ) (x : List Bool) (f : ℕ) (out : List ℕ) (value : Bool) (is : value ≡ isValue z (f / 16) (f % 16)) where
+  same-flag : shownValue z x (f / 16) (f % 16) ≡ getD x (160 + f) false && value
+  same-flag = let e : 16 * (f / 16) + f % 16 ≡ f = omega arith in rw (e, is) refl
+
+  pub value-shown : (getD x (160 + f) false && value) ≡ true → {after : List ℕ} → after ≡ putAt out (16 * p + 2 * (f / 16)) 2 (f % 16) true
+      → after ≡ valuePut z p x f out
+  unfolding valuePut
+  value-shown e put = put ∙ ap (λ (t : Bool). cond t (putAt out (16 * p + 2 * (f / 16)) 2 (f % 16) true) out) (sym (same-flag ∙ e))
+
+  pub value-hidden : (getD x (160 + f) false && value) ≡ false → out ≡ valuePut z p x f out
+  unfolding valuePut
+  value-hidden e = ap (λ (t : Bool). cond t (putAt out (16 * p + 2 * (f / 16)) 2 (f % 16) true) out) (sym (same-flag ∙ e))
+
+pub row-none : (z : Sizes) (p : ℕ) (x : List Bool) {out : List ℕ} → RowClear p out → RowPut z p x 0 out out
+row-none z p x c = record { size = c .size; bytes = c .bytes; own = λ a v l h low. absurd (omega arith); rest = λ q a v l h other. refl }
+
+module _ {z : Sizes} {p : ℕ} {x : List Bool} {f : ℕ} {before out : List ℕ} (person : p < 64) (low : f < 128) (blank : RowClear p before)
+    (so-far : RowPut z p x f before out) where
+  -- Another bit than that of value f % 16 of attribute f / 16 of person p.
+  apart : (q a v : ℕ) → a < 8 → v < 16 → (q ≡ p → 16 * a + v ≡ f → ⊥) → byteOf (16 * q + 2 * a) 2 v ≡ byteOf (16 * p + 2 * (f / 16)) 2 (f % 16)
+      → v % 8 ≡ f % 16 % 8 → ⊥
+  apart q a v l h other byte bit =
+      let value = one-value q a v p (f / 16) (f % 16) l h (omega arith) (omega arith) byte bit in
+      other (one-person q a v p (f / 16) (f % 16) l h (omega arith) (omega arith) byte bit) (omega (arith, value))
+
+  pub row-more : RowPut z p x (f + 1) before (valuePut z p x f out)
+  unfolding valuePut
+  row-more = by-shown (shownValue z x (f / 16) (f % 16)) refl
+    where
+      here : (a v : ℕ) → v < 16 → 16 * a + v ≡ f → (f / 16 ≡ a) × (f % 16 ≡ v)
+      here a v h e = (omega arith, omega arith)
+
+      by-shown : (t : Bool) → shownValue z x (f / 16) (f % 16) ≡ t
+          → RowPut z p x (f + 1) before (cond t (putAt out (16 * p + 2 * (f / 16)) 2 (f % 16) true) out)
+      by-shown false e =
+          record {
+            size = so-far .size;
+            bytes = so-far .bytes;
+            own = λ a v l h m. dite (ℕ-discrete (16 * a + v) f)
+                (λ (i : 16 * a + v ≡ f).
+                let at = here a v h i in
+                so-far .rest p a v l h (λ s. omega arith) ∙ blank .none a v l h
+                ∙ sym (subst (λ (w : ℕ). shownValue z x a w ≡ false) (at .1) (subst (λ (k : ℕ). shownValue z x k (f % 16) ≡ false) (at .0) e)))
+                (λ (i : 16 * a + v ≡ f → ⊥). so-far .own a v l h (omega arith));
+            rest = λ q a v l h other. so-far .rest q a v l h (λ s. omega (arith, other s));
+          }
+      by-shown true e =
+          record {
+            size = put-at-length out (16 * p + 2 * (f / 16)) 2 (f % 16) true ∙ so-far .size;
+            bytes = put-at-bytes out (16 * p + 2 * (f / 16)) 2 (f % 16) true (so-far .bytes);
+            own = λ a v l h m. dite (ℕ-discrete (16 * a + v) f)
+                (λ (i : 16 * a + v ≡ f).
+                let is = here a v h i in
+                subst (λ (w : ℕ). bitOf (putAt out (16 * p + 2 * (f / 16)) 2 (f % 16) true) p a w ≡ shownValue z x a w) (is .1)
+                (subst (λ (k : ℕ). bitOf (putAt out (16 * p + 2 * (f / 16)) 2 (f % 16) true) p k (f % 16) ≡ shownValue z x k (f % 16)) (is .0)
+                (member-at-put-same out (16 * p + 2 * (f / 16)) 2 (f % 16) true (omega (arith, so-far .size)) ∙ sym e)))
+                (λ (i : 16 * a + v ≡ f → ⊥).
+                member-at-put-other out (16 * p + 2 * (f / 16)) 2 (f % 16) true (16 * p + 2 * a) 2 v (apart p a v l h (λ s. i))
+                ∙ so-far .own a v l h (omega arith));
+            rest = λ q a v l h other.
+                member-at-put-other out (16 * p + 2 * (f / 16)) 2 (f % 16) true (16 * q + 2 * a) 2 v (apart q a v l h (λ s i. omega (arith, other s)))
+                ∙ so-far .rest q a v l h (λ s. omega (arith, other s));
+          }
+
+pub row-all : {z : Sizes} {p : ℕ} {x : List Bool} {f : ℕ} {before out : List ℕ} → RowPut z p x f before out → f ≡ 128 → RowPut z p x 128 before out
+row-all {z} {p} {x} {f} {before} {out} r e = subst (λ (i : ℕ). RowPut z p x i before out) e r
+
+-- ---------------------------------------------------------------- row after row
+
+-- The row of the next person is clear.
+pub next-clear : {b : Contents} {p : ℕ} {out : List ℕ} → RowsRight b p out → RowClear p out
+next-clear {b} {p} r = record { size = r .size; bytes = r .bytes; none = λ a v l h. r .absent p a v l h (λ m. absurd (omega arith)) }
+
+module _ {b : Contents} (ok : Admitted b) {p : ℕ} {x : List Bool} {before out : List ℕ} (rows : RowsRight b p before)
+    (put : RowPut (b .sizes) p x 128 before out)
+    (set-right : (a v : ℕ) → isValue (b .sizes) a v ≡ true → getD x (160 + (16 * a + v)) false ≡ true → Reachable (asking b p a v))
+    (clear-right : (a v : ℕ) → isValue (b .sizes) a v ≡ true → getD x (160 + (16 * a + v)) false ≡ false → NoWay (asking b p a v)) where
+  -- A bit of the new row is the flag, where the value is the book's.
+  own-bit : (a v : ℕ) → isValue (b .sizes) a v ≡ true → bitOf out p a v ≡ getD x (160 + (16 * a + v)) false
+  own-bit a v value =
+      let low = value-bounds (b .sizes) a v (ok .sized) value in
+      put .own a v (low .0) (low .1) (omega (arith, low .0, low .1)) ∙ ap (λ (t : Bool). getD x (160 + (16 * a + v)) false && t) value
+      ∙ and-on (getD x (160 + (16 * a + v)) false)
+    where
+      and-on : (t : Bool) → (t && true) ≡ t
+      and-on true = refl
+      and-on false = refl
+
+  other-bit : (q a v : ℕ) → isValue (b .sizes) a v ≡ true → (q ≡ p → ⊥) → bitOf out q a v ≡ bitOf before q a v
+  other-bit q a v value other =
+      let low = value-bounds (b .sizes) a v (ok .sized) value in put .rest q a v (low .0) (low .1) (λ s. absurd (other s))
+
+  pub rows-more : RowsRight b (p + 1) out
+  rows-more =
+      record {
+        size = put .size;
+        bytes = put .bytes;
+        set = λ q a v h value on. dite (ℕ-discrete q p)
+            (λ (e : q ≡ p). subst (λ (i : ℕ). Reachable (asking b i a v)) (sym e)
+            (set-right a v value (sym (own-bit a v value) ∙ subst (λ (i : ℕ). bitOf out i a v ≡ true) e on)))
+            (λ (e : q ≡ p → ⊥). rows .set q a v (omega arith) value (sym (other-bit q a v value e) ∙ on));
+        clear = λ q a v h value off. dite (ℕ-discrete q p)
+            (λ (e : q ≡ p). subst (λ (i : ℕ). NoWay (asking b i a v)) (sym e)
+            (clear-right a v value (sym (own-bit a v value) ∙ subst (λ (i : ℕ). bitOf out i a v ≡ false) e off)))
+            (λ (e : q ≡ p → ⊥). rows .clear q a v (omega arith) value (sym (other-bit q a v value e) ∙ off));
+        absent = λ q a v l h none. dite (ℕ-discrete q p)
+            (λ (e : q ≡ p).
+            subst (λ (i : ℕ). bitOf out i a v ≡ false) (sym e)
+            (put .own a v l h (omega arith) ∙ ap (λ (t : Bool). getD x (160 + (16 * a + v)) false && t) (none (omega arith))
+            ∙ and-off (getD x (160 + (16 * a + v)) false)))
+            (λ (e : q ≡ p → ⊥). put .rest q a v l h (λ s. absurd (e s)) ∙ rows .absent q a v l h (λ m. none (omega arith)));
+      }
+    where
+      and-off : (t : Bool) → (t && false) ≡ false
+      and-off true = refl
+      and-off false = refl
+
+pub rows-all : {b : Contents} {p n : ℕ} {out : List ℕ} → RowsRight b p out → p ≡ n → RowsRight b n out
+rows-all {b} {p} {n} {out} r e = subst (λ (i : ℕ). RowsRight b i out) e r
+
+-- The same rows, of a book that is the same.
+pub rows-same : {b t : Contents} {n : ℕ} {out : List ℕ} → b ≡ t → RowsRight b n out → RowsRight t n out
+rows-same {n = n} {out} e r = subst (λ (i : Contents). RowsRight i n out) e r
+
+-- All rows of the book with nothing asked are the page of the book.
+pub rows-given : (b : Contents) {out : List ℕ} → RowsRight (roaming b 0) (b .sizes .persons) out → PageGiven b out
+unfolding roaming withQuery
+rows-given b {out} r =
+    record {
+      size = r .size;
+      bytes = r .bytes;
+      set = λ p a v is value on.
+          subst Reachable (roams-asking b p a v) (r .set p a v (ltb-true p (b .sizes .persons) is) value on);
+      clear = λ p a v is value off.
+          subst NoWay (roams-asking b p a v) (r .clear p a v (ltb-true p (b .sizes .persons) is) value off);
+      absent = λ p a v k l h none. r .absent p a v l h
+          (λ m. not-on (isValue (b .sizes) a v) (λ value. true≢false (sym (rw (lt-ltb p (b .sizes .persons) m, value) refl) ∙ none)));
+    }
+
+-- ---------------------------------------------------------------- the answer
+
+module _ (b : Contents) (before : List ℕ) where
+  -- A table of another length is refused, as it was.
+  pub answered-other : (length before ≡ 1024 → ⊥) → PageAnswered b before (refusal 10 noPlace) before
+  answered-other h = record { other = λ l. (refl, refl); filled = λ e. absurd (h e) }
+
+  pub answered-filled : length before ≡ 1024 → {out : List ℕ} → PageGiven b out → PageAnswered b before done out
+  answered-filled e given = record { other = λ h. absurd (h e); filled = λ l. (refl, given) }
+
+-- The promise, of a refused book and of an accepted one.
+pub promise-refused : (chars before : List ℕ) {r : frames.Refusal} → bookOf chars ≡ refused r → PagePromise chars before (Refused (BadBook r)) before
+promise-refused chars before e = record { kept = rw e (refl, refl) }
+
+pub promise-accepted : (chars before : List ℕ) (answer : Paged) (out : List ℕ) {b : Contents} → bookOf chars ≡ accepted b
+    → PageAnswered b before (said answer) out → PagePromise chars before answer out
+promise-accepted chars before answer out e answered = record { kept = rw e answered }

@@ -1,0 +1,183 @@
+-- `page::put_rows` meets its contract: the invariant says that the rows of the first p persons are right and all others clear; the measure is how many
+-- persons are left. Each level is settled above the same crews, with a query of its own person (`person-level-ends`); its flags decide the row
+-- (`flag-set`, `flag-clear`). Assumes nothing.
+use mathlib.Core.Path.{_≡_, refl, sym, subst, _∙_}
+use mathlib.Core.Bool.{true}
+use mathlib.Core.List.{List}
+use Prim.Native.Nat.{ℕ, _+_, _-_, _≤_, _<_}
+use native.Mathlib.Omega.{arith}
+use borrow.Author.Tests.{lt-ltb}
+use Rattle.sizes.specs.Sizes.{isPerson}
+use Rattle.frames.specs.Book.{contentsOf}
+use Rattle.page.specs.Inner.Rows.{LevelRoom, RowsRight}
+use Rattle.page.proofs.PageLaws.{flag-set, flag-clear}
+use Rattle.page.proofs.PersonLaws.{nothing-small, accepted-for, person-level-ends}
+use Rattle.page.proofs.RowLaws.{next-clear, rows-more, rows-all}
+use borrow.Author.Needs.{needs}
+use Rattle.page.proofs.put_rows.Statement.{statement}
+use Rattle.page.proofs.put_rows.Tie as tie
+
+abbrev Inv-loop : tie.InvT-loop
+Inv-loop b facts adds dels table out₀ z crews persons added₀ deleted₀ x₀ up₀ down₀ p₀ out added deleted x up down p =
+    (p ≤ persons) × (LevelRoom added deleted x up down × RowsRight (contentsOf b) p out)
+
+abbrev μ-loop : tie.MeasureT-loop
+μ-loop b facts adds dels table out₀ z crews persons added₀ deleted₀ x₀ up₀ down₀ p₀ out added deleted x up down p = persons - p
+
+few : {p persons : ℕ} → p < persons → persons ≤ 64 → p < 64
+few h m = omega arith
+
+small : {p persons : ℕ} → p < persons → persons ≤ 64 → p + 1 < 256
+small h m = omega arith
+
+-- The places that the answers name, each seen from a later one.
+abbrev entry : tie.After-z Inv-loop μ-loop → tie.Start Inv-loop μ-loop
+entry c = c .before .before .before .before .before .before
+
+abbrev loop-head : tie.After-deleted Inv-loop μ-loop → tie.At-loop Inv-loop μ-loop
+loop-head c = c .before .before .before .before
+
+abbrev after-asked-nothing : tie.After-deleted Inv-loop μ-loop → tie.After-asked-nothing Inv-loop μ-loop
+after-asked-nothing c = c .before .before
+
+abbrev after-asked-nothing-from-x2 : tie.After-x2 Inv-loop μ-loop → tie.After-asked-nothing Inv-loop μ-loop
+after-asked-nothing-from-x2 c = c .before .before .before .before .before .before .before .before .before
+
+abbrev after-deleted2 : tie.After-up2 Inv-loop μ-loop → tie.After-deleted2 Inv-loop μ-loop
+after-deleted2 c = c .before .before
+
+abbrev after-down2 : tie.After-put-row-arg Inv-loop μ-loop → tie.After-down2 Inv-loop μ-loop
+after-down2 c = c .before .before
+
+loop-holds : tie.Need-loop-holds Inv-loop μ-loop
+loop-holds c = (
+  omega arith,
+  (
+    record { added-size = refl; deleted-size = refl; flags-size = refl; up-size = refl; down-size = refl },
+    entry c .pre .1 .1 .1,
+  ),
+)
+
+asked-nothing-requires : tie.Need-asked-nothing-requires Inv-loop μ-loop
+asked-nothing-requires c κs = search needs
+
+slice-aggregate-settle-level : tie.Need-slice-aggregate-settle-level Inv-loop μ-loop
+slice-aggregate-settle-level c = sym (c .before .before .before .loop .inv .1 .0 .added-size)
+
+slice-aggregate-settle-level-2 : tie.Need-slice-aggregate-settle-level-2 Inv-loop μ-loop
+slice-aggregate-settle-level-2 c = sym (loop-head c .loop .inv .1 .0 .deleted-size)
+
+slice-aggregate-settle-level-3 : tie.Need-slice-aggregate-settle-level-3 Inv-loop μ-loop
+slice-aggregate-settle-level-3 c = sym (loop-head (c .before) .loop .inv .1 .0 .flags-size)
+
+slice-aggregate-settle-level-4 : tie.Need-slice-aggregate-settle-level-4 Inv-loop μ-loop
+slice-aggregate-settle-level-4 c = sym (loop-head (c .before .before) .loop .inv .1 .0 .up-size)
+
+slice-aggregate-settle-level-5 : tie.Need-slice-aggregate-settle-level-5 Inv-loop μ-loop
+slice-aggregate-settle-level-5 c = sym (loop-head (c .before .before .before) .loop .inv .1 .0 .down-size)
+
+settle-level-requires : tie.Need-settle-level-requires Inv-loop μ-loop
+settle-level-requires c κs =
+    let at-loop = loop-head (c .before .before .before) in
+    let start = entry (at-loop .before) in
+    let room = at-loop .loop .inv .1 .0 in
+    let moves = start .pre .1 .0 .0 in
+    record {
+      wants = nothing-small (start .args .b .query .roles) (at-loop .loop .p)
+          (after-asked-nothing (c .before .before .before) .asked-nothing .ensures);
+      sound-adds = moves .sound-adds;
+      sound-dels = moves .sound-dels;
+      names = record { room-added = room .added-size; room-deleted = room .deleted-size };
+      rows = start .pre .1 .1 .0 .made .size;
+      size-x = room .flags-size;
+      room-up = omega (arith, room .up-size);
+      room-below = omega arith;
+      room-down = omega (arith, room .down-size);
+    }
+
+slice-aggregate-put-row : tie.Need-slice-aggregate-put-row Inv-loop μ-loop
+slice-aggregate-put-row c = sym (c .before .before .before .x2 .given)
+
+put-row-requires : tie.Need-put-row-requires Inv-loop μ-loop
+unfolding contentsOf
+put-row-requires c κs =
+    let at-asked-nothing = after-asked-nothing-from-x2 (after-down2 c .before .before) in (
+      (
+        few (at-asked-nothing .before .loop-test .taken)
+            (entry (at-asked-nothing .before .before .before) .pre .0 .0 .sized .persons-most),
+        after-down2 c .before .before .x2 .given,
+      ),
+      next-clear (at-asked-nothing .before .before .loop .inv .1 .1),
+    )
+
+add-p : tie.Need-add-p Inv-loop μ-loop
+unfolding contentsOf
+add-p c =
+    let at-asked-nothing = after-asked-nothing-from-x2 (after-down2 (c .before .before .before) .before .before) in
+    omega (
+      arith,
+      small (at-asked-nothing .before .loop-test .taken)
+          (entry (at-asked-nothing .before .before .before) .pre .0 .0 .sized .persons-most),
+    )
+
+loop-less : tie.Need-loop-less Inv-loop μ-loop
+loop-less c = search needs
+
+loop-again : tie.Need-loop-again Inv-loop μ-loop
+unfolding contentsOf
+loop-again c =
+    let at-down2 = after-down2 (c .before .before .before) in
+    let at-asked-nothing = after-asked-nothing-from-x2 (at-down2 .before .before) in
+    let at-deleted2 = after-deleted2 (at-down2 .before) in
+    let start = entry (at-asked-nothing .before .before .before) in
+    let head = at-asked-nothing .before .before in
+    let pre = start .pre in
+    let is : isPerson (start .args .b .sizes) (head .loop .p) ≡ true = lt-ltb (head .loop .p) (start .args .b .sizes .persons)
+    (at-asked-nothing .before .loop-test .taken) in
+    let ended = person-level-ends (start .args .b) (pre .0 .0) (pre .0 .1) (pre .1 .0 .0) (pre .1 .0 .1) (pre .1 .1 .0)
+    (head .loop .p) is
+    (at-asked-nothing .asked-nothing .ensures) (at-deleted2 .before .before .settle-level .ensures) in
+    let ok = accepted-for (start .args .b) (pre .0 .0) (pre .0 .1) (pre .1 .0 .0) (pre .1 .0 .1) (pre .1 .1 .0)
+    (head .loop .p) is in (
+      omega (arith, at-asked-nothing .before .loop-test .taken),
+      (
+        record {
+          added-size = at-deleted2 .before .added2 .given;
+          deleted-size = at-deleted2 .deleted2 .given;
+          flags-size = at-down2 .before .before .x2 .given;
+          up-size = at-down2 .before .up2 .given;
+          down-size = at-down2 .down2 .given;
+        },
+        rows-more (pre .0 .0) (head .loop .inv .1 .1) (c .before .before .put-row .ensures)
+            (flag-set (contentsOf (start .args .b)) (head .loop .p) ok ended)
+            (flag-clear (contentsOf (start .args .b)) (head .loop .p) ok ended),
+      ),
+    )
+
+same-length : tie.Need-same-length Inv-loop μ-loop
+same-length c = c .before .loop .inv .1 .1 .size ∙ sym (entry (c .before .before) .pre .1 .1 .1 .size)
+
+returns : tie.Need-returns Inv-loop μ-loop
+returns c = rows-all (c .before .loop .inv .1 .1) (omega (arith, c .before .loop .inv .0, c .loop-test .left))
+
+pub put-rows-spec : {M : Type 1} → statement M
+put-rows-spec =
+    tie.close
+    (tie.spec
+    Inv-loop
+    μ-loop
+    loop-holds
+    asked-nothing-requires
+    slice-aggregate-settle-level
+    slice-aggregate-settle-level-2
+    slice-aggregate-settle-level-3
+    slice-aggregate-settle-level-4
+    slice-aggregate-settle-level-5
+    settle-level-requires
+    slice-aggregate-put-row
+    put-row-requires
+    add-p
+    loop-less
+    loop-again
+    same-length
+    returns)

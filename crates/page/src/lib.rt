@@ -1,0 +1,227 @@
+// The page: a table with a bit for each person and value, set where a plan reaches it. What the crews can come to is worked out once; then each
+// person has one level above them. No request of any plan is given.
+ghost use mathlib.Core.Path.{_≡_};
+ghost use Prim.Native.Nat.{_+_, _*_, _<_};
+ghost use lib.ListN.{length};
+ghost use Rattle.frames.specs.Book.{contentsOf};
+ghost use Rattle.frames.specs.Inner.Fits.{Admitted};
+ghost use Rattle.level.specs.Inner.Moves.{movesIn};
+ghost use Rattle.search.specs.Inner.Scan.{SideMoves};
+ghost use Rattle.widths.specs.Inner.Widths.{flagsSize};
+ghost use Rattle.page.specs.Page.{refusalNumber, told, said, pageSize, PageGiven, PageAnswered, PagePromise};
+ghost use Rattle.page.specs.Inner.Rows.{askedNothing, Roams, CrewsSettled, valuePut, RowPut, RowClear, RowsRight, Cleared};
+use facts::Attr;
+use facts::Person;
+use frames::Book;
+use frames::Query;
+use frames::Want;
+use sizes::Sizes;
+use widths::DRAFT_SIZE;
+use widths::FLAGS_SIZE;
+use widths::LEVEL_SIZE;
+use widths::MOVE_SIZE;
+use widths::MOVES_SIZE;
+use widths::ROWS_SIZE;
+use widths::TABLE_SIZE;
+
+pub const PAGE_SIZE: usize = 1024;
+
+// What page answers.
+pub enum Paged {
+    Filled,
+    Refused(Refusal),
+}
+
+// The refusals 1-10.
+pub enum Refusal {
+    BadBook(frames::Refusal),
+    BadTable,
+}
+
+// The table's number of a refusal.
+pub fn refusal_number(r: Refusal) -> u8
+    ensures { λ n. ⌜ n ≡ refusalNumber r ⌝ }
+{
+    match r {
+        Refusal::BadBook(b) => frames::refusal_number(b),
+        Refusal::BadTable => 10,
+    }
+}
+
+// A query of mode 01 for a person that asks for nothing.
+fn asked_nothing(roles: u32, p: u8) -> Query
+    ensures { λ q. ⌜ q ≡ askedNothing roles p ⌝ }
+{
+    Query {
+        mode: 1,
+        person: Person(p),
+        roles,
+        q: 0,
+        wants: [Want {
+            attr: Attr(0),
+            set: 0,
+        }; 8],
+        crews: 0,
+    }
+}
+
+// Sets the bit of value f % 16 of attribute f / 16 for person p, where it is a value of the book and the flags show it.
+fn put_value(z: Sizes, p: u8, x: &[bool], f: u8, out: &mut [u8])
+    requires { ⌜ (f < 128) × (length (now x) ≡ flagsSize) ⌝ }
+    ensures { λ _. ⌜ now (out .exit) ≡ valuePut z p (now (x .entry)) f (now (out .entry)) ⌝ }
+{
+    let a = f / 16;
+    let v = f % 16;
+    let shown = x[LEVEL_SIZE + (f as usize)];
+    let value = sizes::is_value(z, a, v);
+    if shown & value {
+        sets::put_at(out, 16 * (p as usize) + 2 * (a as usize), 2, v, true);
+    }
+}
+
+// The row of person p, from the flags of the person's level.
+fn put_row(z: Sizes, p: u8, x: &[bool], out: &mut [u8])
+    requires { ⌜ (p < 64) × (length (now x) ≡ flagsSize) ⌝ }
+    requires { ⌜ RowClear p (now out) ⌝ }
+    ensures { λ _. ⌜ RowPut z p (now (x .entry)) 128 (now (out .entry)) (now (out .exit)) ⌝ }
+{
+    let mut f: u8 = 0;
+    while f < 128 {
+        put_value(z, p, x, f, out);
+        f += 1;
+    }
+}
+
+// The rows of all persons. Each begins with the crews as they are settled; each tries first the moves of the one before.
+fn put_rows(b: Book, facts: &[u8], adds: &[u16], dels: &[u16], table: &[bool], out: &mut [u8])
+    requires { ⌜ Admitted (contentsOf b) × Roams (contentsOf b) ⌝ }
+    requires { ⌜ SideMoves (b .rules) (b .query .roles) 1 5 2 6 (movesIn (now adds)) (movesIn (now dels)) × (now facts ≡ b .facts) ⌝ }
+    requires { ⌜ CrewsSettled (contentsOf b) (now table) × RowsRight (contentsOf b) 0 (now out) ⌝ }
+    ensures { λ _. ⌜ RowsRight (contentsOf b) (b .sizes .persons) (now (out .exit)) ⌝ }
+{
+    let z = b.sizes;
+    let crews = z.crews;
+    let persons = z.persons;
+    let mut added = [512u16; LEVEL_SIZE];
+    let mut deleted = [512u16; LEVEL_SIZE];
+    let mut x = [false; FLAGS_SIZE];
+    let mut up = [0u8; 800];
+    let mut down = [0u8; 800];
+    let mut p: u8 = 0;
+    while p < persons {
+        let q = asked_nothing(b.query.roles, p);
+        search::settle_level(
+            q,
+            crews,
+            facts,
+            crews,
+            p,
+            false,
+            adds,
+            dels,
+            &mut added,
+            &mut deleted,
+            table,
+            &mut x,
+            0,
+            &mut up,
+            160,
+            &mut down,
+        );
+        put_row(z, p, &x, out);
+        p += 1;
+    }
+}
+
+// Every byte of the table is 0.
+fn clear(out: &mut [u8])
+    requires { ⌜ length (now out) ≡ pageSize ⌝ }
+    ensures { λ _. ⌜ Cleared pageSize (now (out .exit)) ⌝ }
+{
+    let mut i: usize = 0;
+    while i < PAGE_SIZE {
+        out[i] = 0;
+        i += 1;
+    }
+}
+
+// The crews once, then the persons, with the moves of both.
+fn fill_by(b: Book, gains: &[u16], losses: &[u16], adds: &[u16], dels: &[u16], out: &mut [u8])
+    requires { ⌜ Admitted (contentsOf b) × Roams (contentsOf b) ⌝ }
+    requires { ⌜ SideMoves (b .rules) (b .query .roles) 3 3 4 4 (movesIn (now gains)) (movesIn (now losses)) ×
+        SideMoves (b .rules) (b .query .roles) 1 5 2 6 (movesIn (now adds)) (movesIn (now dels)) ⌝ }
+    requires { ⌜ length (now out) ≡ pageSize ⌝ }
+    ensures { λ _. ⌜ RowsRight (contentsOf b) (b .sizes .persons) (now (out .exit)) ⌝ }
+{
+    let facts = b.facts;
+    let mut rows = [false; ROWS_SIZE];
+    let mut table = [false; TABLE_SIZE];
+    let mut up = [0u8; DRAFT_SIZE];
+    let mut down = [0u8; DRAFT_SIZE];
+    search::settle_crews(
+        b,
+        &facts,
+        gains,
+        losses,
+        &mut rows,
+        &mut table,
+        &mut up,
+        &mut down,
+    );
+    flags::person_table(&rows, &mut table);
+    clear(out);
+    put_rows(b, &facts, adds, dels, &table, out);
+}
+
+// The moves out of the accepted rules, then the crews and the persons.
+fn fill(b: Book, out: &mut [u8])
+    requires { ⌜ Admitted (contentsOf b) × Roams (contentsOf b) ⌝ }
+    requires { ⌜ length (now out) ≡ pageSize ⌝ }
+    ensures { λ _. ⌜ RowsRight (contentsOf b) (b .sizes .persons) (now (out .exit)) ⌝ }
+{
+    let roles = b.query.roles;
+    let rules = b.rules;
+    let mut buffer = [0u16; MOVES_SIZE];
+    let n = moves::moves_listed(rules, roles, &mut buffer);
+    let ms: &[u16] = &buffer;
+    let gains = MOVE_SIZE * n.gains;
+    let losses = MOVE_SIZE * n.losses;
+    let adds = MOVE_SIZE * n.adds;
+    let dels = MOVE_SIZE * n.dels;
+    fill_by(
+        b,
+        &ms[..gains],
+        &ms[gains..losses],
+        &ms[losses..adds],
+        &ms[adds..dels],
+        out,
+    )
+}
+
+// The page of an accepted book. Of its query the roles alone are used.
+fn page_in(b: Book, out: &mut [u8]) -> Paged
+    requires { ⌜ Admitted (contentsOf b) ⌝ }
+    ensures { λ r. ⌜ PageAnswered (contentsOf b) (now (out .entry)) (said r) (now (out .exit)) ⌝ }
+{
+    if out.len() != PAGE_SIZE {
+        return Paged::Refused(Refusal::BadTable);
+    }
+    let roles = b.query.roles;
+    let mut nothing = b;
+    nothing.query = asked_nothing(roles, 0);
+    fill(nothing, out);
+    Paged::Filled
+}
+
+// Fills the table with the page of a book, given as characters.
+pub fn page(book: &[u8], out: &mut [u8]) -> Paged
+    ensures { λ r. ⌜ PagePromise (now (book .entry)) (now (out .entry)) r (now (out .exit)) ⌝ }
+{
+    let reading = frames::read(book);
+    let outcome = reading.outcome;
+    if let frames::Outcome::Refused(r) = outcome {
+        return Paged::Refused(Refusal::BadBook(r));
+    }
+    let b = reading.book;
+    page_in(b, out)
+}
