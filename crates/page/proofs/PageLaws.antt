@@ -42,28 +42,28 @@ use Rattle.search.specs.Inner.Scan.{toPerson}
 use Rattle.search.proofs.StepLaws.{PersonEnds}
 use Rattle.planner.specs.Promise.{NoWay, Works}
 use Rattle.planner.proofs.PromiseLaws.{lastLedger, done, best-leads, best-works}
-use Rattle.page.specs.Page.{plainQuery, alone, asking, Reachable}
-use Rattle.page.specs.Inner.Rows.{askedNothing, roaming, Roams}
+use Rattle.page.specs.Page.{asking, Reachable}
+use Rattle.page.specs.Inner.Rows.{roaming, Roams}
 
 -- ---------------------------------------------------------------- a query that asks for nothing
 
 -- Put for another person it is that person's.
 pub to-roaming : (b : Contents) (p : ℕ) → Roams b → toPerson b p ≡ roaming b p
-unfolding toPerson roaming withQuery plainQuery
+unfolding toPerson roaming withQuery
 to-roaming b p roams = ap (λ (t : Contents). toPerson t p) (sym (roams .same))
 
 -- What a value's query asks does not depend on the query that it takes the place of, but for its roles.
 pub roams-asking : (b : Contents) (p a v : ℕ) → asking (roaming b 0) p a v ≡ asking b p a v
-unfolding asking roaming withQuery plainQuery
+unfolding asking roaming withQuery
 roams-asking b p a v = refl
 
 pub roams-itself : (b : Contents) → Roams (roaming b 0)
-unfolding roaming withQuery plainQuery
+unfolding roaming withQuery
 roams-itself b = record { same = refl }
 
 -- The book stays accepted with it.
 pub roaming-admitted : (b : Contents) (p : ℕ) → Admitted b → isPerson (b .sizes) p ≡ true → Admitted (roaming b p)
-unfolding roaming withQuery plainQuery allBelow
+unfolding roaming withQuery allBelow
 roaming-admitted b p ok is =
     record {
       sized = ok .sized;
@@ -81,7 +81,7 @@ roaming-admitted b p ok is =
 
 -- Mode 01 forbids nothing.
 pub roaming-free : (b : Contents) (p g : ℕ) → bad (roaming b p) g ≡ false
-unfolding bad forbidden roaming withQuery plainQuery
+unfolding bad forbidden roaming withQuery
 roaming-free b p g = none (isNumber (roaming b p) g)
   where
     none : (x : Bool) → (x && false) ≡ false
@@ -91,7 +91,7 @@ roaming-free b p g = none (isNumber (roaming b p) g)
 module _ (b : Contents) (p : ℕ) where
   -- A chain leads alike whatever the query asks, as long as its roles are the same.
   leads-alike : (a v : ℕ) (chain : List (List ℕ)) (l : List ℕ) → Leads (roaming b p) chain l → Leads (asking b p a v) chain l
-  unfolding roaming asking withQuery plainQuery
+  unfolding roaming asking withQuery
   leads-alike a v chain l leads =
       record {
         led = run-standing (asking b p a v) (b .query .roles) (b .facts) 1 chain
@@ -99,7 +99,7 @@ module _ (b : Contents) (p : ℕ) where
       }
 
   leads-back : (a v : ℕ) (chain : List (List ℕ)) (l : List ℕ) → Leads (asking b p a v) chain l → Leads (roaming b p) chain l
-  unfolding roaming asking withQuery plainQuery
+  unfolding roaming asking withQuery
   leads-back a v chain l leads =
       record {
         led = run-standing (roaming b p) (b .query .roles) (b .facts) 1 chain
@@ -108,7 +108,7 @@ module _ (b : Contents) (p : ℕ) where
 
   -- Nothing is asked, so every ledger meets it.
   roaming-met : (F : Fact → Bool) → met (roaming b p) F ≡ true
-  unfolding roaming withQuery plainQuery met metAtLeast wants all
+  unfolding roaming withQuery met metAtLeast wants all
   roaming-met F = refl
 
   -- ---------------------------------------------------------------- one value asked
@@ -116,7 +116,7 @@ module _ (b : Contents) (p : ℕ) where
   module _ (a v : ℕ) (value : isValue (b .sizes) a v ≡ true) where
     -- The one value is met exactly where the person effectively holds it.
     asking-met : (F : Fact → Bool) → personHolds (b .juniors) F (record { 0 = p }) (record { 0 = a }) v ≡ true → met (asking b p a v) F ≡ true
-    unfolding asking withQuery plainQuery met metAtLeast wants all
+    unfolding asking withQuery met metAtLeast wants all
     asking-met F e =
         let values = valueSet (b .sizes) (b .juniors) F (record { 0 = p }) a in
         let held : member values v ≡ true = member-value-set (b .sizes) (b .juniors) (record { 0 = p }) a F v ∙ rw (value, e) refl in
@@ -127,7 +127,7 @@ module _ (b : Contents) (p : ℕ) where
         rw sub refl
 
     met-asking : (F : Fact → Bool) → met (asking b p a v) F ≡ true → personHolds (b .juniors) F (record { 0 = p }) (record { 0 = a }) v ≡ true
-    unfolding asking withQuery plainQuery met metAtLeast wants all
+    unfolding asking withQuery met metAtLeast wants all
     met-asking F e =
         let values = valueSet (b .sizes) (b .juniors) F (record { 0 = p }) a in
         let sub = and-both (subset (put 0 v true) values) true e .0 in
@@ -145,7 +145,7 @@ module _ (b : Contents) (p : ℕ) where
     by-state : (l : List ℕ) → ((f : Fact) → holds l f ≡ true → inSizes (b .sizes) f ≡ true) → (a v : ℕ)
         → personHolds (b .juniors) (holds l) (record { 0 = p }) (record { 0 = a }) v
         ≡ personHolds (b .juniors) (lift (roaming b p) (track (roaming b p) (holds l))) (record { 0 = p }) (record { 0 = a }) v
-    unfolding roaming withQuery plainQuery
+    unfolding roaming withQuery
     by-state l inside a v =
         let same = person-held (roaming b p) ok (holds l) inside (record { 0 = p }) refl in
         person-holds-local (b .juniors) (holds l) (lift (roaming b p) (track (roaming b p) (holds l))) (record { 0 = p }) (record { 0 = a }) v
@@ -154,7 +154,7 @@ module _ (b : Contents) (p : ℕ) where
     -- In the last ledger it is what it is at the plan's end.
     at-end : (a v : ℕ) → personHolds (b .juniors) (holds last) (record { 0 = p }) (record { 0 = a }) v
         ≡ personHolds (b .juniors) (lift (roaming b p) (end (starts (roaming b p)) (addThenDelete us ds))) (record { 0 = p }) (record { 0 = a }) v
-    unfolding roaming withQuery plainQuery
+    unfolding roaming withQuery
     at-end a v =
         by-state last (done (roaming b p) ok best .kept .inside) a v
         ∙ ap (λ (S : State). personHolds (b .juniors) (lift (roaming b p) S) (record { 0 = p }) (record { 0 = a }) v) (done (roaming b p) ok best .ends-at)
@@ -163,7 +163,7 @@ module _ (b : Contents) (p : ℕ) where
       -- Where the best plan ends with the value, the query for it gets a plan.
       page-works : personHolds (b .juniors) (holds last) (record { 0 = p }) (record { 0 = a }) v ≡ true
           → Works (asking b p a v) (map bytesOf us ++ map bytesOf ds)
-      unfolding roaming asking withQuery plainQuery
+      unfolding roaming asking withQuery
       page-works e =
           let w = best-works (roaming b p) ok best (roaming-met (holds last)) in
           record {
@@ -177,7 +177,7 @@ module _ (b : Contents) (p : ℕ) where
 
       -- Where it ends without it, there is no way.
       page-no-way : personHolds (b .juniors) (holds last) (record { 0 = p }) (record { 0 = a }) v ≡ false → NoWay (asking b p a v)
-      unfolding roaming withQuery plainQuery
+      unfolding roaming withQuery
       page-no-way e =
           record {
             none = λ chain l leads m.
@@ -198,7 +198,7 @@ module _ (b : Contents) (p : ℕ) (ok : Admitted (roaming b p)) {x : List Bool} 
   -- The flag of a value is what the person effectively holds in the last ledger.
   flag-held : getD x (160 + (16 * a + v)) false
       ≡ personHolds (b .juniors) (holds (lastLedger (roaming b p) ok (ended .best))) (record { 0 = p }) (record { 0 = a }) v
-  unfolding roaming withQuery plainQuery
+  unfolding roaming withQuery
   flag-held = let low = value-bounds (b .sizes) a v (ok .sized) value in ended .shows a v (low .0) (low .1) ∙ sym (at-end b p ok (ended .best) a v)
 
   pub flag-set : getD x (160 + (16 * a + v)) false ≡ true → Reachable (asking b p a v)

@@ -19,17 +19,15 @@ use Rattle.search.specs.Inner.Drive.{Driving}
 use Rattle.search.specs.Inner.Scan.{SideMoves, Scanned}
 use Rattle.search.specs.Inner.Given.{LevelSettled}
 use Rattle.search.proofs.StepLaws.{PersonEnds, starts-built, person-ends, free-serves}
-use Rattle.page.specs.Page.{plainQuery}
 use Rattle.page.specs.Inner.Rows.{askedNothing, roaming, Roams, CrewsSettled}
 use Rattle.page.proofs.PageLaws.{to-roaming, roaming-admitted, roaming-free}
 
 -- A query that asks for nothing has room for eight sets, as every query has.
-pub nothing-small : {q : Query} (roles p : ℕ) → q ≡ askedNothing roles p → SmallWants q
-unfolding plainQuery
-nothing-small roles p e = subst SmallWants (sym e) (record { few = omega arith; room = refl })
+pub nothing-small : {q : Query} {roles p : ℕ} → q ≡ askedNothing 1 roles p → SmallWants q
+nothing-small e = subst SmallWants (sym e) (record { few = omega arith; room = refl })
 
 -- A book with such a query in the place of its own.
-pub nothing-asked : (b : Contents) {q : Query} → q ≡ askedNothing (b .query .roles) 0 → withQuery b q ≡ roaming b 0
+pub nothing-asked : (b : Contents) {q : Query} → q ≡ askedNothing 1 (b .query .roles) 0 → withQuery b q ≡ roaming b 0
 unfolding roaming
 nothing-asked b e = ap (withQuery b) e
 
@@ -65,13 +63,13 @@ module _ (bk : Book) (ok : Admitted (contentsOf bk)) (roams : Roams (contentsOf 
       subst (λ (t : Contents). Driving t (contentsOf bk .sizes .crews) (crews .rows) (crews .ups) (crews .up) (crews .at) (crews .down))
       (to-roaming (contentsOf bk) p roams) (crews .serves .each p is)
 
-  pub person-level-ends : {q : Query} → q ≡ askedNothing (bk .query .roles) p → {x : List Bool} {first : ℕ} {up₀ up : List ℕ} {last : ℕ} {down₀ down : List ℕ}
+  pub person-level-ends : {q : Query} → q ≡ askedNothing 1 (bk .query .roles) p → {x : List Bool} {first : ℕ} {up₀ up : List ℕ} {last : ℕ} {down₀ down : List ℕ}
       {found : Bool} {n at : ℕ}
       → LevelSettled q (bk .sizes .crews) facts (bk .sizes .crews) false adds dels p table x first up₀ up last down₀ down found n at
       → PersonEnds (roaming (contentsOf bk) p) x
-  unfolding contentsOf roaming withQuery plainQuery
+  unfolding contentsOf roaming withQuery
   person-level-ends {q} asked {x} {first} {up₀} {up} {last} {down₀} {down} {found} {n} {at} settled =
-      let level : LevelSettled (askedNothing (bk .query .roles) p) (bk .sizes .crews) facts (bk .sizes .crews) false adds dels p table x first up₀ up last
+      let level : LevelSettled (askedNothing 1 (bk .query .roles) p) (bk .sizes .crews) facts (bk .sizes .crews) false adds dels p table x first up₀ up last
       down₀ down found n at =
       subst (λ (t : Query). LevelSettled t (bk .sizes .crews) facts (bk .sizes .crews) false adds dels p table x first up₀ up last down₀ down found n at)
       asked settled in

@@ -8,7 +8,6 @@ use lib.ListN.{length, getD, replicate}
 use Rattle.sets.specs.Sets.{put, memberAt}
 use Rattle.sizes.specs.Sizes.{isPerson, isValue}
 use Rattle.frames.specs.declared.Want.{Want}
-use Rattle.frames.specs.declared.Query.{Query}
 use Rattle.frames.specs.Book.{Contents, withQuery, noWant, Answer, refused, accepted, bookOf}
 use Rattle.frames.specs.Book as frames
 use Rattle.ledger.specs.Ledger.{Said, done, refusal, Told, noPlace, onLine}
@@ -36,17 +35,22 @@ said (Refused r) = refusal (refusalNumber r) (told r)
 
 -- ---------------------------------------------------------------- one query for each bit
 
--- A query of mode 01 for a person: it names q sets, and no crews.
-unfoldable pub plainQuery : ℕ → ℕ → ℕ → List Want → Query
-plainQuery roles p q wants = record { mode = 1; person = record { 0 = p }; roles = roles; q = q; wants = wants; crews = 0 }
-
 -- The named set of attribute a that has value v alone.
 abbrev pub alone : ℕ → ℕ → Want
 alone a v = record { attr = record { 0 = a }; set = put 0 v true }
 
 -- "the mode 01 query for that person, that value alone and the roles of the book's query", in the place of the book's own.
 unfoldable pub asking : Contents → ℕ → ℕ → ℕ → Contents
-asking b p a v = withQuery b (plainQuery (b .query .roles) p 1 (alone a v ∷ replicate 7 noWant))
+asking b p a v =
+    withQuery b
+    (record {
+      mode = 1;
+      person = record { 0 = p };
+      roles = b .query .roles;
+      q = 1;
+      wants = alone a v ∷ replicate 7 noWant;
+      crews = 0;
+    })
 
 -- A query "would get a plan": there is a list of requests that works, as demand 3 says it of a plan.
 pub record Reachable (b : Contents) : Type 0 where

@@ -48,12 +48,12 @@ pub fn refusal_number(r: Refusal) -> u8
     }
 }
 
-// A query of mode 01 for a person that asks for nothing.
-fn asked_nothing(roles: u32, p: u8) -> Query
-    ensures { λ q. ⌜ q ≡ askedNothing roles p ⌝ }
+// A query for a person that asks for nothing.
+fn asked_nothing(mode: u8, roles: u32, p: u8) -> Query
+    ensures { λ q. ⌜ q ≡ askedNothing mode roles p ⌝ }
 {
     Query {
-        mode: 1,
+        mode,
         person: Person(p),
         roles,
         q: 0,
@@ -109,7 +109,7 @@ fn put_rows(b: Book, facts: &[u8], adds: &[u16], dels: &[u16], table: &[bool], o
     let mut down = [0u8; 800];
     let mut p: u8 = 0;
     while p < persons {
-        let q = asked_nothing(b.query.roles, p);
+        let q = asked_nothing(1, b.query.roles, p);
         search::settle_level(
             q,
             crews,
@@ -206,9 +206,9 @@ fn page_in(b: Book, out: &mut [u8]) -> Paged
     if out.len() != PAGE_SIZE {
         return Paged::Refused(Refusal::BadTable);
     }
-    let roles = b.query.roles;
+    let query = asked_nothing(1, b.query.roles, 0);
     let mut nothing = b;
-    nothing.query = asked_nothing(roles, 0);
+    nothing.query = query;
     fill(nothing, out);
     Paged::Filled
 }

@@ -24,12 +24,6 @@ Inv-loop b facts adds dels table out₀ z crews persons added₀ deleted₀ x₀
 abbrev μ-loop : tie.MeasureT-loop
 μ-loop b facts adds dels table out₀ z crews persons added₀ deleted₀ x₀ up₀ down₀ p₀ out added deleted x up down p = persons - p
 
-few : {p persons : ℕ} → p < persons → persons ≤ 64 → p < 64
-few h m = omega arith
-
-small : {p persons : ℕ} → p < persons → persons ≤ 64 → p + 1 < 256
-small h m = omega arith
-
 -- The places that the answers name, each seen from a later one.
 abbrev entry : tie.After-z Inv-loop μ-loop → tie.Start Inv-loop μ-loop
 entry c = c .before .before .before .before .before .before
@@ -83,8 +77,7 @@ settle-level-requires c κs =
     let room = at-loop .loop .inv .1 .0 in
     let moves = start .pre .1 .0 .0 in
     record {
-      wants = nothing-small (start .args .b .query .roles) (at-loop .loop .p)
-          (after-asked-nothing (c .before .before .before) .asked-nothing .ensures);
+      wants = nothing-small (after-asked-nothing (c .before .before .before) .asked-nothing .ensures);
       sound-adds = moves .sound-adds;
       sound-dels = moves .sound-dels;
       names = record { room-added = room .added-size; room-deleted = room .deleted-size };
@@ -103,8 +96,11 @@ unfolding contentsOf
 put-row-requires c κs =
     let at-asked-nothing = after-asked-nothing-from-x2 (after-down2 c .before .before) in (
       (
-        few (at-asked-nothing .before .loop-test .taken)
-            (entry (at-asked-nothing .before .before .before) .pre .0 .0 .sized .persons-most),
+        omega (
+          arith,
+          at-asked-nothing .before .loop-test .taken,
+          entry (at-asked-nothing .before .before .before) .pre .0 .0 .sized .persons-most,
+        ),
         after-down2 c .before .before .x2 .given,
       ),
       next-clear (at-asked-nothing .before .before .loop .inv .1 .1),
@@ -116,8 +112,8 @@ add-p c =
     let at-asked-nothing = after-asked-nothing-from-x2 (after-down2 (c .before .before .before) .before .before) in
     omega (
       arith,
-      small (at-asked-nothing .before .loop-test .taken)
-          (entry (at-asked-nothing .before .before .before) .pre .0 .0 .sized .persons-most),
+      at-asked-nothing .before .loop-test .taken,
+      entry (at-asked-nothing .before .before .before) .pre .0 .0 .sized .persons-most,
     )
 
 loop-less : tie.Need-loop-less Inv-loop μ-loop
@@ -133,7 +129,7 @@ loop-again c =
     let head = at-asked-nothing .before .before in
     let pre = start .pre in
     let is : isPerson (start .args .b .sizes) (head .loop .p) ≡ true = lt-ltb (head .loop .p) (start .args .b .sizes .persons)
-    (at-asked-nothing .before .loop-test .taken) in
+    (omega (arith, at-asked-nothing .before .loop-test .taken)) in
     let ended = person-level-ends (start .args .b) (pre .0 .0) (pre .0 .1) (pre .1 .0 .0) (pre .1 .0 .1) (pre .1 .1 .0)
     (head .loop .p) is
     (at-asked-nothing .asked-nothing .ensures) (at-deleted2 .before .before .settle-level .ensures) in

@@ -13,16 +13,17 @@ use Rattle.frames.specs.Book.{Contents, withQuery, noWant}
 use Rattle.flags.specs.Inner.Flags.{PersonTable}
 use Rattle.search.specs.Inner.Scan.{Serves}
 use Rattle.planner.specs.Promise.{NoWay}
-use Rattle.page.specs.Page.{plainQuery, asking, Reachable, pageSize, pageAt}
+use Rattle.page.specs.Page.{asking, Reachable, pageSize, pageAt}
 
 -- ---------------------------------------------------------------- nothing asked
 
--- A query for a person that asks for nothing: what the person can come to hold is found once, for all values.
-abbrev pub askedNothing : ℕ → ℕ → Query
-askedNothing roles p = plainQuery roles p 0 (replicate 8 noWant)
+-- A query for a person that asks for nothing.
+abbrev pub askedNothing : ℕ → ℕ → ℕ → Query
+askedNothing mode roles p = record { mode = mode; person = record { 0 = p }; roles = roles; q = 0; wants = replicate 8 noWant; crews = 0 }
 
+-- The book with such a query, of mode 01: what the person can come to hold is found once, for all values.
 unfoldable pub roaming : Contents → ℕ → Contents
-roaming b p = withQuery b (askedNothing (b .query .roles) p)
+roaming b p = withQuery b (askedNothing 1 (b .query .roles) p)
 
 -- The book's own query is such a one.
 pub record Roams (b : Contents) : Type 0 where
