@@ -13,7 +13,7 @@ use Rattle.replay.specs.Replay.{Said as ReplaySaid, judged, refusal as replayRe
 use Rattle.planner.specs.declared.Planned.{Planned}
 use Rattle.planner.specs.Answer.{Said as PlanSaid, said80, said81, said8F, said as planSaid, PlanPromise}
 use Rattle.page.specs.declared.Paged.{Paged}
-use Rattle.page.specs.Page.{said as pageSaid, PagePromise}
+use Rattle.page.specs.Page.{Said as PageSaid, done as pageDone, refusal as pageRefusal, said as pageSaid, PagePromise}
 
 -- ---------------------------------------------------------------- one number
 
@@ -73,6 +73,10 @@ planCode said80 = code noWay 0 0
 planCode (said81 n) = code plan 0 n
 planCode (said8F number line) = code refused number line
 
+abbrev pub pageCode : PageSaid → ℕ
+pageCode pageDone = code done 0 0
+pageCode (pageRefusal number line) = code refused number line
+
 -- ---------------------------------------------------------------- answers with a lent buffer
 
 -- The answer's number, and every byte of the lent buffer afterwards.
@@ -125,5 +129,5 @@ pub record PlanCoded (chars before : List ℕ) (n : ℕ) (out : List ℕ) : Type
 -- page: the number of an answer that keeps the promise of page.
 pub record PageCoded (chars before : List ℕ) (n : ℕ) (out : List ℕ) : Type 0 where
   pub answer : Paged
-  pub is : n ≡ saidCode (pageSaid answer)
+  pub is : n ≡ pageCode (pageSaid answer)
   pub kept : PagePromise chars before answer out

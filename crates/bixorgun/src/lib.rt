@@ -7,8 +7,9 @@ ghost use Rattle.ledger.specs.Ledger.{refusalNumber, denialTold, told, refusal,
 ghost use Rattle.ledger.specs.Show.{showView};
 ghost use Rattle.replay.specs.Replay.{said as replaySaid, replayed};
 ghost use Rattle.planner.specs.Answer.{said as planSaid};
-ghost use Rattle.page.specs.Page.{told as pageTold, said as pageSaid};
-ghost use Rattle.bixorgun.specs.Codes.{code, toldValue, saidCode, judgementCode, replayCode, planCode, coded, replyCoded, putTwo, viewBytes, viewCoded, PlanCoded, PageCoded};
+ghost use Rattle.page.specs.Page.{said as pageSaid};
+ghost use Rattle.bixorgun.specs.Codes.{code, toldValue, saidCode, judgementCode, replayCode, planCode, pageCode};
+ghost use Rattle.bixorgun.specs.Codes.{coded, replyCoded, putTwo, viewBytes, viewCoded, PlanCoded, PageCoded};
 use denials::Denial;
 use facts::Person;
 
@@ -94,22 +95,12 @@ fn plan_code(a: planner::Planned) -> u64
     }
 }
 
-// The value beside a refusal's number, of page.
-fn page_value(r: page::Refusal) -> usize
-    ensures { λ n. ⌜ n ≡ toldValue (pageTold r) ⌝ }
-{
-    match r {
-        page::Refusal::BadBook(b) => frames::refusal_line(b),
-        page::Refusal::BadTable => 0,
-    }
-}
-
 fn page_code(a: page::Paged) -> u64
-    ensures { λ r. ⌜ r ≡ saidCode (pageSaid a) ⌝ }
+    ensures { λ r. ⌜ r ≡ pageCode (pageSaid a) ⌝ }
 {
     match a {
         page::Paged::Filled => code_of(0, 0, 0),
-        page::Paged::Refused(r) => code_of(1, page::refusal_number(r), page_value(r)),
+        page::Paged::Refused(r) => code_of(1, page::refusal_number(r), page::refusal_line(r)),
     }
 }
 

@@ -13,10 +13,9 @@ use Rattle.sets.specs.Sets.{member, byteOf, memberAt}
 use Rattle.sets.proofs.SetLaws.{same-members}
 use Rattle.sizes.specs.Sizes.{isPerson, isValue}
 use Rattle.frames.specs.Book.{Contents, Answer, refused, accepted, bookOf}
-use Rattle.ledger.specs.Ledger.{Said}
 use Rattle.planner.proofs.PromiseLaws.{never-both}
 use Rattle.page.specs.declared.Paged.{Paged}
-use Rattle.page.specs.Page.{said, PageGiven, PageAnswered, PageAnsweredFor, PagePromise}
+use Rattle.page.specs.Page.{Said, said, PageGiven, PageAnswered, PageAnsweredFor, PagePromise}
 
 module _ {b : Contents} {one two : List ℕ} (g : PageGiven b one) (h : PageGiven b two) where
   -- A bit of one is that of the other: it is never both a plan and no way.

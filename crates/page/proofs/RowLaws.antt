@@ -18,12 +18,11 @@ use Rattle.sizes.proofs.SizeLaws.{value-bounds}
 use Rattle.frames.specs.declared.Refusal as frames
 use Rattle.frames.specs.Book.{Contents, withQuery, refused, accepted, bookOf}
 use Rattle.frames.specs.Inner.Fits.{Admitted}
-use Rattle.ledger.specs.Ledger.{done, refusal, noPlace}
 use Rattle.planner.specs.Promise.{NoWay}
 use Rattle.page.specs.declared.Paged.{Paged}
 use Rattle.page.specs.declared.Paged.the-variants.{Refused}
 use Rattle.page.specs.declared.Refusal.the-variants.{BadBook}
-use Rattle.page.specs.Page.{said, asking, Reachable, PageGiven, PageAnswered, PagePromise}
+use Rattle.page.specs.Page.{done, refusal, said, asking, Reachable, PageGiven, PageAnswered, PagePromise}
 use Rattle.page.specs.Inner.Rows.{roaming, bitOf, shownValue, valuePut, RowPut, RowClear, RowsRight, Cleared}
 use Rattle.page.proofs.PageLaws.{roams-asking}
 
@@ -237,7 +236,7 @@ rows-given b {out} r =
 
 module _ (b : Contents) (before : List ℕ) where
   -- A table of another length is refused, as it was.
-  pub answered-other : (length before ≡ 1024 → ⊥) → PageAnswered b before (refusal 10 noPlace) before
+  pub answered-other : (length before ≡ 1024 → ⊥) → PageAnswered b before (refusal 10 0) before
   answered-other h = record { other = λ l. (refl, refl); filled = λ e. absurd (h e) }
 
   pub answered-filled : length before ≡ 1024 → {out : List ℕ} → PageGiven b out → PageAnswered b before done out

@@ -10,7 +10,6 @@ use Rattle.sizes.specs.Sizes.{isPerson, isValue}
 use Rattle.frames.specs.declared.Want.{Want}
 use Rattle.frames.specs.Book.{Contents, withQuery, noWant, Answer, refused, accepted, bookOf}
 use Rattle.frames.specs.Book as frames
-use Rattle.ledger.specs.Ledger.{Said, done, refusal, Told, noPlace, onLine}
 use Rattle.planner.specs.Promise.{NoWay, Works}
 use Rattle.page.specs.declared.Paged.{Paged}
 use Rattle.page.specs.declared.Paged.the-variants.{Filled, Refused}
@@ -19,19 +18,23 @@ use Rattle.page.specs.declared.Refusal.the-variants.{BadBook, BadTable}
 
 -- ---------------------------------------------------------------- what page says
 
--- The table's number of each refusal, and what it tells: "A table of another length is refused under 10."
+-- The table's number of each refusal, and its line: "A table of another length is refused under 10."
 abbrev pub refusalNumber : Refusal → ℕ
 refusalNumber (BadBook r) = frames.refusalNumber r
 refusalNumber BadTable = 10
 
-abbrev pub told : Refusal → Told
-told (BadBook r) = onLine (frames.refusalLine r)
-told BadTable = noPlace
+abbrev pub refusalLine : Refusal → ℕ
+refusalLine (BadBook r) = frames.refusalLine r
+refusalLine BadTable = 0
 
--- What page says, in the paper's numbers.
+-- What page says, in the paper's numbers: done, or a refusal's number and line.
+pub data Said : Type 0 where
+  done : Said
+  refusal : ℕ → ℕ → Said
+
 abbrev pub said : Paged → Said
 said Filled = done
-said (Refused r) = refusal (refusalNumber r) (told r)
+said (Refused r) = refusal (refusalNumber r) (refusalLine r)
 
 -- ---------------------------------------------------------------- one query for each bit
 
@@ -77,12 +80,12 @@ pub record PageGiven (b : Contents) (out : List ℕ) : Type 0 where
 
 -- Under an accepted book: 10 where the table is not 1,024 bytes long, and the table as it was; else it is filled.
 pub record PageAnswered (b : Contents) (before : List ℕ) (answer : Said) (out : List ℕ) : Type 0 where
-  pub other : (length before ≡ pageSize → ⊥) → (answer ≡ refusal 10 noPlace) × (out ≡ before)
+  pub other : (length before ≡ pageSize → ⊥) → (answer ≡ refusal 10 0) × (out ≡ before)
   pub filled : length before ≡ pageSize → (answer ≡ done) × PageGiven b out
 
 -- Refusals 1-9 come first.
 abbrev pub PageAnsweredFor : Answer → List ℕ → Said → List ℕ → Type 0
-PageAnsweredFor (refused r) before answer out = (answer ≡ refusal (frames.refusalNumber r) (onLine (frames.refusalLine r))) × (out ≡ before)
+PageAnsweredFor (refused r) before answer out = (answer ≡ refusal (frames.refusalNumber r) (frames.refusalLine r)) × (out ≡ before)
 PageAnsweredFor (accepted b) before answer out = PageAnswered b before answer out
 
 -- The promise of page, on the book's characters.

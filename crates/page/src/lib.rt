@@ -8,7 +8,7 @@ ghost use Rattle.frames.specs.Inner.Fits.{Admitted};
 ghost use Rattle.level.specs.Inner.Moves.{movesIn};
 ghost use Rattle.search.specs.Inner.Scan.{SideMoves};
 ghost use Rattle.widths.specs.Inner.Widths.{flagsSize};
-ghost use Rattle.page.specs.Page.{refusalNumber, told, said, pageSize, PageGiven, PageAnswered, PagePromise};
+ghost use Rattle.page.specs.Page.{refusalNumber, refusalLine, said, pageSize, PageAnswered, PagePromise};
 ghost use Rattle.page.specs.Inner.Rows.{askedNothing, Roams, CrewsSettled, valuePut, RowPut, RowClear, RowsRight, Cleared};
 use facts::Attr;
 use facts::Person;
@@ -45,6 +45,16 @@ pub fn refusal_number(r: Refusal) -> u8
     match r {
         Refusal::BadBook(b) => frames::refusal_number(b),
         Refusal::BadTable => 10,
+    }
+}
+
+// The line of a refusal, 0 for 10.
+pub fn refusal_line(r: Refusal) -> usize
+    ensures { λ n. ⌜ n ≡ refusalLine r ⌝ }
+{
+    match r {
+        Refusal::BadBook(b) => frames::refusal_line(b),
+        Refusal::BadTable => 0,
     }
 }
 

@@ -16,8 +16,8 @@ enum-known-a c = search needs
 refusal-number-requires : tie.Need-refusal-number-requires
 refusal-number-requires c κs = search needs
 
-page-value-requires : tie.Need-page-value-requires
-page-value-requires c κs = search needs
+refusal-line-requires : tie.Need-refusal-line-requires
+refusal-line-requires c κs = search needs
 
 code-of-requires-2 : tie.Need-code-of-requires-2
 code-of-requires-2 c κs = search needs
@@ -29,7 +29,7 @@ returns-2 : tie.Need-returns-2
 returns-2 c =
     let refused = c .before .before .before .before in
     rw (refused .a .given .1)
-    (c .code-of2 .ensures ∙ rw (c .before .before .refusal-number .ensures, c .before .page-value .ensures) refl)
+    (c .code-of2 .ensures ∙ rw (c .before .before .refusal-number .ensures, c .before .refusal-line .ensures) refl)
 
 pub page-code-spec : {M : Type 1} → statement M
 page-code-spec =
@@ -39,7 +39,7 @@ page-code-spec =
     code-of-requires
     enum-known-a
     refusal-number-requires
-    page-value-requires
+    refusal-line-requires
     code-of-requires-2
     returns
     returns-2)
