@@ -1,9 +1,9 @@
-/* Bixorgun for C and C++: the five operations on a book, a ledger and a plan. docs/BOOK.md says how to write a book.
+/* Bixorgun for C and C++: the six operations on a book, a ledger and a plan. docs/BOOK.md says how to write a book.
  *
  * Link with libbixorgun.a (x86-64). The functions keep no state, allocate nothing and write to the one lent buffer
  * alone, so any number of threads may call them at once; a buffer that one call writes is in no other call's hands
- * meanwhile. Give a thread 320 KB of stack or more (BIXORGUN_STACK). As measured with threads, plan needs 176 KB (of
- * 1,024 bytes), request 84 KB and each other operation 75 KB or less; the rest is room for later versions.
+ * meanwhile. Give a thread 320 KB of stack or more (BIXORGUN_STACK). As measured with threads, plan needs 160 KB (of
+ * 1,024 bytes), page 152 KB, request 84 KB and each other operation 75 KB or less; the rest is room for later versions.
  *
  * What the proofs take for granted, and a caller has to see to:
  *   - a pointer is valid for the length that follows it and is never NULL. For length 0 any non-null pointer will do;
@@ -26,9 +26,9 @@ extern "C" {
 
 /* The minor rises with every later change of a format or of this interface. */
 #define BIXORGUN_VERSION_MAJOR 0
-#define BIXORGUN_VERSION_MINOR 4
+#define BIXORGUN_VERSION_MINOR 5
 #define BIXORGUN_VERSION_PATCH 0
-#define BIXORGUN_VERSION "0.4.0"
+#define BIXORGUN_VERSION "0.5.0"
 
 /* ---------------------------------------------------------------- sizes, in bytes */
 
@@ -36,6 +36,7 @@ extern "C" {
 #define BIXORGUN_LEDGER_SIZE 1792
 #define BIXORGUN_REQUEST_SIZE 5
 #define BIXORGUN_VIEW_SIZE 20
+#define BIXORGUN_PAGE_SIZE 1024
 #define BIXORGUN_PLAN_MAX 42560 /* a plan buffer that is long enough for every book */
 #define BIXORGUN_STACK 327680   /* the stack that a thread is given, at least */
 
@@ -56,7 +57,7 @@ static inline size_t bixorgun_plan_size(size_t crews, size_t values)
  *               with STOPS the request at which replay stops, counted from 1; 0 with every other result.
  *               A value of 2^48 or more, which only replay of a plan of over 10^15 bytes could have, is given modulo 2^48.
  */
-#define BIXORGUN_DONE 0       /* open, request, show */
+#define BIXORGUN_DONE 0       /* open, request, show, page */
 #define BIXORGUN_REFUSED 1    /* all */
 #define BIXORGUN_NO_WAY 2     /* plan */
 #define BIXORGUN_PLAN 3       /* plan */
@@ -90,7 +91,7 @@ static inline uint64_t bixorgun_value(uint64_t answer)
 #define BIXORGUN_BAD_TERM 7          /* term 03 or 04 in ops 01-04 (01, 02 and 05 are legal in every op) */
 #define BIXORGUN_TOO_MANY_RULES 8    /* the 513th rule */
 #define BIXORGUN_NOT_RISING 9        /* the query's attributes */
-#define BIXORGUN_SHORT_PLAN_BUFFER 10 /* plan: under 10 x F bytes */
+#define BIXORGUN_SHORT_PLAN_BUFFER 10 /* plan: under 10 x F bytes; page: table not 1,024 bytes */
 #define BIXORGUN_BAD_LEDGER 11       /* open: not 1,792 bytes; request, show: or a bit outside the sizes, counts too */
 #define BIXORGUN_BAD_REQUEST 12      /* request: not five bytes or a field out of range; show: no such person */
 #define BIXORGUN_NO_RULE 13          /* request: no rule has its op, role, a and v */
@@ -146,6 +147,29 @@ uint64_t bixorgun_replay(const uint8_t *book, size_t book_len, const uint8_t *pl
  * bytes of `out` are requests that replay answers REACHES to; bytes behind them keep their content.
  * REFUSED with 1-9 or 10; a refusal leaves every byte of `out` as it was. */
 uint64_t bixorgun_plan(const uint8_t *book, size_t book_len, uint8_t *out, size_t out_len);
+
+/* Fills the page of the whole depot: what each person of the book can come to hold by the roles of the book's query.
+ * DONE: all 1,024 bytes of `table` are written, whatever was there. Person p's attribute a is the set of two bytes at
+ * 16 x p + 2 x a, as in a ledger: big-endian, weight 2^v for value v. A bit is set exactly when the mode 01 query for
+ * that person, that value alone and the roles of the book's query would get a plan. The plan may be empty, so what the
+ * person effectively holds at the start is set. Persons, attributes and values that the book lacks are 0. Of the book's
+ * query the roles alone count: its mode, person, sets and crews do not matter.
+ * REFUSED with 1-9, then 10 for a `table` of any length but 1,024; a refusal leaves every byte of `table` as it was. */
+uint64_t bixorgun_page(const uint8_t *book, size_t book_len, uint8_t *table, size_t table_len);
+
+/* Of a table that bixorgun_page has filled: the set of an attribute's values that a person can come to hold, weight 2^v
+ * for value v. 0 where the book has no such person or attribute. */
+static inline unsigned bixorgun_page_set(const uint8_t *table, unsigned person, unsigned attr)
+{
+    return person < 64 && attr < 8 ? 256U * table[16 * person + 2 * attr] + table[16 * person + 2 * attr + 1] : 0;
+}
+
+/* Of such a table: 1 where the person can come to hold the value, else 0, also where the book has no such person,
+ * attribute or value. */
+static inline int bixorgun_page_has(const uint8_t *table, unsigned person, unsigned attr, unsigned value)
+{
+    return value < 16 && (bixorgun_page_set(table, person, attr) >> value & 1) == 1;
+}
 
 #ifdef __cplusplus
 }

@@ -1,7 +1,9 @@
 /* Plans a book, from a file or standard input, carries the plan out on a ledger and shows the query's person before and
- * after. With requests, ten digits each, it makes these in the plan's place and says of each what came of it.
+ * after. With requests, ten digits each, it makes these in the plan's place and says of each what came of it. With
+ * --page it lists what each person can come to hold by the roles of the query.
  *
  *     plan_book [FILE [REQUEST...]]
+ *     plan_book --page [FILE]
  *     plan_book --version
  */
 #include <inttypes.h>
@@ -14,6 +16,7 @@
 static uint8_t book[BIXORGUN_BOOK_MAX + 1];
 static uint8_t plan[BIXORGUN_PLAN_MAX];
 static uint8_t ledger[BIXORGUN_LEDGER_SIZE];
+static uint8_t table[BIXORGUN_PAGE_SIZE];
 
 static void print_bytes(const uint8_t *bytes, size_t n)
 {
@@ -136,17 +139,45 @@ static int carry_out_plan(size_t book_len)
     return show(book_len, person);
 }
 
+/* Lists the whole depot: a line for each person and attribute with the values, or "nobody" where there is none. */
+static int list_page(size_t book_len)
+{
+    uint64_t answer = bixorgun_page(book, book_len, table, sizeof table);
+    if (bixorgun_result(answer) != BIXORGUN_DONE)
+        return refused("page", answer);
+    int lines = 0;
+    for (unsigned person = 0; person < 64; person++) {
+        for (unsigned attr = 0; attr < 8; attr++) {
+            if (bixorgun_page_set(table, person, attr) == 0)
+                continue;
+            printf("person %u, attribute %u: values", person, attr);
+            for (unsigned value = 0; value < 16; value++)
+                if (bixorgun_page_has(table, person, attr, value))
+                    printf(" %u", value);
+            putchar('\n');
+            lines++;
+        }
+    }
+    if (lines == 0)
+        puts("nobody");
+    return 0;
+}
+
 int main(int argc, char **argv)
 {
     if (argc > 1 && strcmp(argv[1], "--version") == 0) {
         puts(BIXORGUN_VERSION);
         return 0;
     }
-    FILE *in = argc > 1 ? fopen(argv[1], "rb") : stdin;
+    int page = argc > 1 && strcmp(argv[1], "--page") == 0;
+    int at = page ? 2 : 1;
+    FILE *in = argc > at ? fopen(argv[at], "rb") : stdin;
     if (!in) {
-        perror(argv[1]);
+        perror(argv[at]);
         return 2;
     }
     size_t book_len = fread(book, 1, sizeof book, in);
+    if (page)
+        return list_page(book_len);
     return argc > 2 ? make_requests(book_len, argv + 2, argc - 2) : carry_out_plan(book_len);
 }

@@ -1,5 +1,6 @@
 use crate::bytes::Planned;
-use crate::{bytes, Answer, Judgement, Ledger, Plan, Refusal, Request, LEDGER_SIZE, PLAN_MAX, REQUEST_SIZE};
+use crate::{bytes, Answer, Judgement, Ledger, Page, Plan, Refusal, Request};
+use crate::{LEDGER_SIZE, PAGE_SIZE, PLAN_MAX, REQUEST_SIZE};
 
 /// A book's characters, borrowed.
 ///
@@ -95,6 +96,40 @@ impl<'a> Book<'a> {
     pub fn replay(&self, requests: impl IntoIterator<Item = Request>) -> Result<Judgement, Refusal> {
         let list: Vec<u8> = requests.into_iter().flat_map(|request| request.to_bytes()).collect();
         bytes::replay(self.characters, &list)
+    }
+
+    /// The whole depot on one page: what each person can come to hold by the roles of the query.
+    ///
+    /// Of the query the roles alone count; its mode, person, sets and crews do not matter.
+    ///
+    /// ```
+    /// use bixorgun::{Attr, Book, Person, Value};
+    ///
+    /// # fn main() -> Result<(), bixorgun::Refusal> {
+    /// // The pilot depot. Role 0 lends the sorter to the returns crew, which holds grade 0 (of attribute 0); role 1
+    /// // raises who has grade 0 to grade 1; role 2 gives lane control (value 0 of attribute 1) to who holds grade 1.
+    /// let rules = "030500000000\n030101000101020000\n030102010001010001\n";
+    /// let pilot = |roles| format!("010101020202\n{rules}0402000000\n050100{roles}01010001\n");
+    /// let (sorter, grade, lane) = (Person(0), Attr(0), Attr(1));
+    ///
+    /// let page = Book::new(&pilot("0007")).page()?;
+    /// assert!(page.reaches(sorter, lane, Value(0)));
+    /// assert!(page.values(sorter, grade).iter().eq([Value(0), Value(1)]));
+    ///
+    /// // Without the third lead she comes to grade 1, and not to the lane.
+    /// let page = Book::new(&pilot("0003")).page()?;
+    /// assert!(page.iter().eq([(sorter, grade, Value(0)), (sorter, grade, Value(1))]));
+    /// # Ok(())
+    /// # }
+    /// ```
+    ///
+    /// # Errors
+    ///
+    /// 1-9.
+    pub fn page(&self) -> Result<Page, Refusal> {
+        let mut table = [0; PAGE_SIZE];
+        bytes::page(self.characters, &mut table)?;
+        Ok(Page::from(table))
     }
 }
 

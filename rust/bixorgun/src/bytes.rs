@@ -1,4 +1,4 @@
-//! The five operations on slices of any lengths, each as the library has it.
+//! The six operations on slices of any lengths, each as the library has it.
 //!
 //! Here every refusal of the table can fall. On a refusal every byte of the buffer that was lent is as it was.
 
@@ -206,6 +206,35 @@ pub fn plan_into(book: &[u8], out: &mut [u8]) -> Result<Planned, Refusal> {
         Reply::Plan(count) => Some(Planned::Plan(count)),
         _ => None,
     })
+}
+
+/// Fills the page of the whole depot: what each person can come to hold by the roles of the book's query.
+///
+/// Every byte of a table of 1,024 bytes is written: person p's attribute a is a two-byte set at 16·p + 2·a, big-endian.
+/// [`Page::from`](crate::Page) reads it. Here alone a page can be refused by 10.
+///
+/// ```
+/// use bixorgun::{bytes, Refusal};
+///
+/// # fn main() -> Result<(), Refusal> {
+/// // Role 0 adds value 1 to anybody; person 1 holds value 0.
+/// let book = b"0102000102\n030100000100\n0401010000\n050100000100\n";
+/// let mut table = [0xAA; 1_024];
+/// bytes::page(book, &mut table)?;
+/// assert_eq!((table[1], table[17]), (0b10, 0b11));
+///
+/// let mut short = [0xAA; 1_023];
+/// assert_eq!(bytes::page(book, &mut short), Err(Refusal::ShortPlanBuffer));
+/// assert_eq!(short, [0xAA; 1_023]);
+/// # Ok(())
+/// # }
+/// ```
+///
+/// # Errors
+///
+/// 1-9, then 10 for a table of any other length.
+pub fn page(book: &[u8], table: &mut [u8]) -> Result<(), Refusal> {
+    read("page", sys::page(book, table), |reply| matches!(reply, Reply::Done).then_some(()))
 }
 
 #[cfg(test)]

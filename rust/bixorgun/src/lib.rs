@@ -1,6 +1,6 @@
 //! Bixorgun for Rust: who may come to hold which right in a parcel depot.
 //!
-//! A carrier writes a **book**: crews, rules, starting facts and one query. This crate wraps the five operations on it,
+//! A carrier writes a **book**: crews, rules, starting facts and one query. This crate wraps the six operations on it,
 //! which stand in `libbixorgun.a` and are proved there for every input:
 //!
 //! | Operation | By type | By slice |
@@ -10,6 +10,7 @@
 //! | show: what a person effectively holds and is effectively in | [`Ledger::show`] | [`bytes::show`] |
 //! | plan: no way, or requests that lead to the query | [`Book::plan`] | [`bytes::plan_into`] |
 //! | replay: judge a list of requests | [`Book::replay`] | [`bytes::replay`] |
+//! | page: all that each person can come to hold | [`Book::page`] | [`bytes::page`] |
 //!
 //! ```
 //! use bixorgun::{Answer, Attr, Book, Judgement, Person, Value};
@@ -68,6 +69,7 @@ pub mod bytes;
 mod book;
 mod ledger;
 mod numbers;
+mod page;
 mod plan;
 mod refusal;
 mod request;
@@ -77,17 +79,18 @@ mod sys;
 pub use book::Book;
 pub use ledger::{Ledger, View};
 pub use numbers::{Attr, Crew, Crews, Numbers, Person, Role, Value, Values};
+pub use page::{Page, Reached};
 pub use plan::{Answer, Judgement, Plan, Requests};
 pub use refusal::Refusal;
 pub use request::{Act, Request};
 
 /// The version of the library's interface, as `include/bixorgun.h` has it. The minor rises with every later change of a
 /// format or of the interface.
-pub const VERSION: &str = "0.4.0";
+pub const VERSION: &str = "0.5.0";
 /// The first number of [`VERSION`].
 pub const VERSION_MAJOR: u32 = 0;
 /// The second number of [`VERSION`].
-pub const VERSION_MINOR: u32 = 4;
+pub const VERSION_MINOR: u32 = 5;
 /// The third number of [`VERSION`].
 pub const VERSION_PATCH: u32 = 0;
 
@@ -99,10 +102,12 @@ pub const LEDGER_SIZE: usize = 1_792;
 pub const REQUEST_SIZE: usize = 5;
 /// The bytes that show writes.
 pub const VIEW_SIZE: usize = 20;
+/// The bytes of a page.
+pub const PAGE_SIZE: usize = 1_024;
 /// The bytes of a plan buffer that is long enough for every book.
 pub const PLAN_MAX: usize = plan_size(32, 128);
-/// The bytes of stack that a thread is given, at least. As measured with threads, plan needs 176 KB (of 1,024 bytes),
-/// request 84 KB and each other operation 75 KB or less; the rest is room for later versions.
+/// The bytes of stack that a thread is given, at least. As measured with threads, plan needs 160 KB (of 1,024 bytes),
+/// page 152 KB, request 84 KB and each other operation 75 KB or less; the rest is room for later versions.
 pub const STACK: usize = 320 * 1_024;
 
 /// The bytes of a plan buffer that is long enough for a book whose first line is `01 P G A` and a count for each

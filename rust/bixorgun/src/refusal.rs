@@ -67,7 +67,7 @@ pub enum Refusal {
         /// Counted from 1.
         line: usize,
     },
-    /// 10: "plan buffer under 10 × F"
+    /// 10: "plan buffer under 10 × F"; and of a page "a table of another length" than 1,024 bytes
     ShortPlanBuffer,
     /// 11: "ledger not 1,792 bytes or a bit outside the sizes", of an attribute's set outside its own count
     BadLedger,
@@ -154,7 +154,8 @@ impl Refusal {
         }
     }
 
-    /// Says when the refusal falls, in the table's words, of 4 with the A of frame 01; of 13 and 15 in a lead's.
+    /// Says when the refusal falls, in the table's words, of 4 with the A of frame 01, of 10 with the page's table; of
+    /// 13 and 15 in a lead's.
     fn say_when(&self, f: &mut fmt::Formatter<'_>) -> fmt::Result {
         f.write_str(match self {
             Refusal::BookTooLong => "over 65,536 characters",
@@ -169,7 +170,7 @@ impl Refusal {
             Refusal::BadTerm { .. } => "term 03 or 04 in ops 01-04",
             Refusal::TooManyRules { .. } => "the 513th rule",
             Refusal::NotRising { .. } => "query attributes not rising",
-            Refusal::ShortPlanBuffer => "plan buffer under 10 × F",
+            Refusal::ShortPlanBuffer => "plan buffer under 10 × F; page table not 1,024 bytes",
             Refusal::BadLedger => "ledger not 1,792 bytes or a bit outside the sizes",
             Refusal::BadRequest => "request not five bytes or field out of range; no such person to show",
             Refusal::NoRule => "no rule of the book matches the request's op, role, a and v",

@@ -1,4 +1,4 @@
-//! The five functions of `include/bixorgun.h`, and their calls: the only unsafe code of the crate.
+//! The six functions of `include/bixorgun.h`, and their calls: the only unsafe code of the crate.
 //!
 //! The header asks two things of a caller. A pointer is valid for the length that follows it and is never null: a slice's
 //! is, an empty slice's too. The buffer that a call writes shares no byte with what that call reads: an exclusive
@@ -26,6 +26,7 @@ mod declared {
         ) -> u64;
         pub fn bixorgun_replay(book: *const u8, book_len: usize, plan: *const u8, plan_len: usize) -> u64;
         pub fn bixorgun_plan(book: *const u8, book_len: usize, out: *mut u8, out_len: usize) -> u64;
+        pub fn bixorgun_page(book: *const u8, book_len: usize, table: *mut u8, table_len: usize) -> u64;
     }
 }
 
@@ -75,4 +76,10 @@ pub(crate) fn plan(book: &[u8], out: &mut [u8]) -> u64 {
     // SAFETY: both pointers are non-null and valid for their slices' lengths; `out` alone is written, and it is
     // exclusive, so it shares no byte with `book`.
     unsafe { declared::bixorgun_plan(book.as_ptr(), book.len(), out.as_mut_ptr(), out.len()) }
+}
+
+pub(crate) fn page(book: &[u8], table: &mut [u8]) -> u64 {
+    // SAFETY: both pointers are non-null and valid for their slices' lengths; `table` alone is written, and it is
+    // exclusive, so it shares no byte with `book`.
+    unsafe { declared::bixorgun_page(book.as_ptr(), book.len(), table.as_mut_ptr(), table.len()) }
 }

@@ -1,5 +1,5 @@
-//! The programs `plan` and `judge` as `rt check` builds them, run on the stored books and on books around the lengths of
-//! their buffers. What they print is proved but for the few lines that read and write; these lines are what is tried here.
+//! The programs `plan`, `depot_page` and `judge` as `rt check` builds them, run on the stored books and on books around
+//! the lengths of their buffers. What they print is proved but for the few lines that read and write; these lines are what is tried here.
 
 use std::fs;
 use std::io::Write as _;
@@ -7,6 +7,8 @@ use std::path::PathBuf;
 use std::process::{Command, Stdio};
 use std::thread;
 use std::time::Duration;
+
+use bixorgun::Book;
 
 mod printed;
 use printed::printed;
@@ -87,6 +89,16 @@ fn facts_of(sizes: &str) -> usize {
 /// Lengths around the ends of the programs' buffers and of the longest book.
 const LENGTHS: [usize; 9] = [64, 128, 18_688, 18_699, 65_525, 65_536, 65_547, 93_639, 131_072];
 
+/// The lines of a book's page, sixteen bytes each, or its refusal, by this crate's own answer.
+fn lines_of_page(book: &[u8]) -> String {
+    let page = match Book::new(book).page() {
+        Ok(page) => page,
+        Err(refusal) => return format!("8F{:02X}{:04X}\n", refusal.number(), refusal.line().expect("1 to 9")),
+    };
+    let digits = |bytes: &[u8]| bytes.iter().map(|byte| format!("{byte:02X}")).collect::<String>();
+    page.as_bytes().chunks(16).map(|person| digits(person) + "\n").collect()
+}
+
 fn compare(name: &str, book: &[u8]) {
     assert_eq!(output("plan", &[book]), printed(book), "{name}");
 }
@@ -140,6 +152,33 @@ fn plan_reads_what_comes_in_parts() {
             for cut in [1, 10, 23, 24, 25, 63, 64, 65, book.len() / 2] {
                 let (first, rest) = book.split_at(cut.min(book.len()));
                 assert_eq!(output("plan", &[first, rest]), printed(&book), "F = {facts}, {length}, cut at {cut}");
+            }
+        }
+    }
+}
+
+#[test]
+fn depot_page_prints_what_the_library_answers_to_each_stored_book() {
+    let books = stored();
+    assert!(books.len() >= 476, "{} books", books.len());
+    for (name, book) in &books {
+        assert_eq!(output("depot_page", &[book]), lines_of_page(book), "{name}");
+    }
+}
+
+/// Up to the longest book and beyond it, and where the input comes in two parts.
+#[test]
+fn depot_page_reads_books_of_every_length() {
+    for (sizes, _) in SIZES {
+        for length in [0, 64, 65_525, 65_536, 65_547, 131_072] {
+            for more in 0..12 {
+                let book = filled(sizes, length + more);
+                let (first, rest) = book.split_at(book.len() / 2);
+                let name = format!("{sizes}, {} characters", book.len());
+                assert_eq!(output("depot_page", &[&book]), lines_of_page(&book), "{name}");
+                if more == 0 {
+                    assert_eq!(output("depot_page", &[first, rest]), lines_of_page(&book), "{name}, in two parts");
+                }
             }
         }
     }

@@ -413,7 +413,7 @@ pub fn book(rng: &mut Rng, shape: &Shape) -> Draft {
         frames.swap(end, rng.below(end + 1));
     }
     frames.insert(0, first_frame(&sizes));
-    frames.push(query(rng, shape));
+    frames.push(query(rng, &sizes));
     Draft { sizes, frames }
 }
 
@@ -463,8 +463,8 @@ fn fact(rng: &mut Rng, sizes: &Sizes) -> Vec<u8> {
     }
 }
 
-fn query(rng: &mut Rng, shape: &Shape) -> Vec<u8> {
-    let sizes = &shape.sizes;
+/// A query of either mode, of all roles or of any.
+pub fn query(rng: &mut Rng, sizes: &Sizes) -> Vec<u8> {
     let mode = if rng.percent(70) { 2 } else { 1 };
     let roles = if rng.percent(60) { u16::MAX } else { rng.bits() as u16 };
     let mut frame = vec![5, mode, rng.byte(0, sizes.persons - 1)];
@@ -487,6 +487,24 @@ fn query(rng: &mut Rng, shape: &Shape) -> Vec<u8> {
         frame.extend(crews.to_be_bytes());
     }
     frame
+}
+
+/// Gives a depot so many persons, no fewer than it has, and so many more starting facts to any of them: a value, or a
+/// place in a crew.
+pub fn staff(rng: &mut Rng, draft: &mut Draft, persons: u8, facts: usize) {
+    draft.sizes.persons = persons;
+    let sizes = draft.sizes;
+    draft.frames[0] = first_frame(&sizes);
+    for _ in 0..facts {
+        let person = rng.byte(0, persons - 1);
+        let frame = if sizes.crews > 0 && rng.percent(50) {
+            vec![4, 3, person, rng.byte(0, sizes.crews - 1), 0]
+        } else {
+            let [attr, value] = pair(rng, &sizes);
+            vec![4, 1, person, attr, value]
+        };
+        draft.put(rng, frame);
+    }
 }
 
 /// Walks from the starting facts by permitted requests of all roles, on the query's person and the crews.
