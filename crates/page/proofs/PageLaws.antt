@@ -1,35 +1,34 @@
 -- One closure for a person decides each of the person's values: the best plan of a query that asks for nothing ends with all that any chain
 -- ends with, and so with each value that the person can come to hold.
-use mathlib.Core.Path.{_≡_, refl, ap, sym, subst, _∙_}
+use mathlib.Core.Path.{_≡_, refl, ap, sym, _∙_}
 use mathlib.Core.Logic.{dite}
-use mathlib.Core.Bool.{Bool, true, false, not, cond, _&&_, _||_, true≢false}
+use mathlib.Core.Bool.{Bool, true, false, _&&_, true≢false}
 use mathlib.Core.List.{List, [], _∷_, _++_, map}
-use Prim.Native.Nat.{ℕ, _+_, _*_, _/_, _%_, _≤_, _<_}
+use Prim.Native.Nat.{ℕ, _+_, _*_}
 use native.Mathlib.Decide.{ℕ-discrete}
 use native.Mathlib.Omega.{arith}
-use lib.Dec.{eqb}
-use lib.ListN.{length, getD, replicate}
+use lib.ListN.{getD, replicate}
 use Rattle.quantifiers.specs.Quantifiers.{all, allBelow}
 use Rattle.quantifiers.proofs.BoolLaws.{and-both}
-use Rattle.sets.specs.Sets.{member, put, subset}
+use Rattle.sets.specs.Sets.{member, put, subset, numberAt}
 use Rattle.sets.proofs.SetLaws.{member-put-same, member-put-other, member-zero, subset-member, subset-from}
 use Rattle.facts.specs.Facts.{holds}
-use Rattle.facts.specs.declared.Attr.{Attr}
 use Rattle.facts.specs.declared.Fact.{Fact}
-use Rattle.sizes.specs.Sizes.{isPerson, isAttr, isValue, valuesOf}
+use Rattle.lines.specs.Digits.{byteAt}
+use Rattle.gate.specs.Gate.{pairAt, quadAt}
+use Rattle.sizes.specs.Sizes.{isPerson, isValue}
 use Rattle.sizes.proofs.SizeLaws.{value-bounds}
-use Rattle.frames.specs.declared.Want.{Want}
-use Rattle.frames.specs.Book.{Contents, withQuery, noWant}
-use Rattle.frames.specs.Inner.Fits.{inSizes, wantOf, Admitted, GoodQuery}
-use Rattle.inherit.specs.Inheritance.{personHolds, Subset}
+use Rattle.frames.specs.declared.Query.{Query}
+use Rattle.frames.specs.Book.{Contents, withQuery, noWant, queryOf, wantsOf, wantAt}
+use Rattle.frames.specs.Inner.Fits.{inSizes, Admitted}
+use Rattle.inherit.specs.Inheritance.{personHolds}
 use Rattle.inherit.proofs.InheritanceLaws.{person-holds-mono, person-holds-local}
 use Rattle.ledger.specs.Show.{valueSet}
-use Rattle.ledger.proofs.LedgerLaws.{SameOf, member-value-set}
-use Rattle.replay.specs.Chains.{ends, run, Leads}
-use Rattle.replay.specs.Inner.Lent.{standing}
-use Rattle.replay.specs.Met.{wants, effectiveSet, metAtLeast, met}
+use Rattle.ledger.proofs.LedgerLaws.{member-value-set}
+use Rattle.replay.specs.Chains.{Leads}
+use Rattle.replay.specs.Met.{wants, metAtLeast, met}
 use Rattle.replay.proofs.LentLaws.{run-standing}
-use Rattle.theory.specs.Inner.Facts.{State, _⊆_, Clear}
+use Rattle.theory.specs.Inner.Facts.{State, _⊆_}
 use Rattle.theory.specs.Inner.Plan.{Ask, end, addThenDelete, Best}
 use Rattle.reach.specs.Inner.Tracked.{isNumber, lift, track, bytesOf}
 use Rattle.reach.specs.Inner.Goal.{forbidden, bad}
@@ -206,3 +205,26 @@ module _ (b : Contents) (p : ℕ) (ok : Admitted (roaming b p)) {x : List Bool} 
 
   pub flag-clear : getD x (160 + (16 * a + v)) false ≡ false → NoWay (asking b p a v)
   flag-clear e = page-no-way b p ok (ended .best) a v value (sym flag-held ∙ e)
+
+-- ---------------------------------------------------------------- the query of a bit, as a line of the book writes it
+
+-- A query of mode 01 that names one set.
+abbrev named : ℕ → ℕ → ℕ → ℕ → Query
+named p a roles set =
+    record {
+      mode = 1;
+      person = record { 0 = p };
+      roles = roles;
+      q = 1;
+      wants = record { attr = record { 0 = a }; set = set } ∷ replicate 7 noWant;
+      crews = 0;
+    }
+
+-- "05 mode person roles(2) q, then q of attribute set(2)": mode 01, the person, the roles, one set of one value.
+pub asking-frame : (b : Contents) (p a v r₁ r₀ s₁ s₀ : ℕ) → r₁ * 256 + r₀ ≡ b .query .roles → s₁ * 256 + s₀ ≡ put 0 v true
+    → withQuery b (queryOf (5 ∷ 1 ∷ p ∷ r₁ ∷ r₀ ∷ 1 ∷ a ∷ s₁ ∷ s₀ ∷ [])) ≡ asking b p a v
+unfolding asking queryOf wantsOf wantAt pairAt quadAt byteAt numberAt
+asking-frame b p a v r₁ r₀ s₁ s₀ roles set =
+    let is-roles : (0 + r₁) * 256 + r₀ ≡ b .query .roles = omega (arith, roles) in
+    let is-set : (0 + s₁) * 256 + s₀ ≡ put 0 v true = omega (arith, set) in
+    ap (λ (r : ℕ). withQuery b (named p a r ((0 + s₁) * 256 + s₀))) is-roles ∙ ap (λ (s : ℕ). withQuery b (named p a (b .query .roles) s)) is-set

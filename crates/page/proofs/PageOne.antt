@@ -1,5 +1,5 @@
 -- The promise leaves no byte open: two answers that keep it are the same, and so are their tables.
-use mathlib.Core.Path.{_≡_, refl, ap, sym, _∙_}
+use mathlib.Core.Path.{_≡_, refl, sym, _∙_}
 use mathlib.Core.Logic.{dite}
 use mathlib.Core.Bool.{Bool, true, false, _&&_}
 use mathlib.Core.List.{List}
@@ -9,13 +9,13 @@ use native.Mathlib.Omega.{arith}
 use lib.ListN.{length, getD}
 use lib.Seq.{ext-getD}
 use Rattle.quantifiers.proofs.BoolLaws.{and-both}
-use Rattle.sets.specs.Sets.{member, byteOf, memberAt}
+use Rattle.sets.specs.Sets.{byteOf, memberAt}
 use Rattle.sets.proofs.SetLaws.{same-members}
 use Rattle.sizes.specs.Sizes.{isPerson, isValue}
 use Rattle.frames.specs.Book.{Contents, Answer, refused, accepted, bookOf}
 use Rattle.planner.proofs.PromiseLaws.{never-both}
 use Rattle.page.specs.declared.Paged.{Paged}
-use Rattle.page.specs.Page.{Said, said, PageGiven, PageAnswered, PageAnsweredFor, PagePromise}
+use Rattle.page.specs.Page.{Said, said, PageGiven, PageAnsweredFor, PagePromise}
 
 module _ {b : Contents} {one two : List ℕ} (g : PageGiven b one) (h : PageGiven b two) where
   -- A bit of one is that of the other: it is never both a plan and no way.

@@ -3,17 +3,17 @@ use mathlib.Core.Path.{_≡_, refl, ap, sym, subst, _∙_}
 use mathlib.Core.Logic.{dite}
 use mathlib.Core.Bool.{Bool, true, false, cond, _&&_, true≢false}
 use mathlib.Core.List.{List}
-use Prim.Native.Nat.{ℕ, _+_, _*_, _/_, _%_, _≤_, _<_}
+use Prim.Native.Nat.{ℕ, _+_, _*_, _/_, _%_, _<_}
 use native.Mathlib.Decide.{ℕ-discrete, decLt}
 use native.Mathlib.Omega.{arith}
 use lib.ListN.{length, getD, set, length-set, List·getD-eq-default}
 use lib.Seq.{getD-set-same, getD-set-other}
 use borrow.Author.Tests.{lt-ltb, ltb-true}
-use Rattle.quantifiers.proofs.BoolLaws.{and-both, not-on}
+use Rattle.quantifiers.proofs.BoolLaws.{not-on}
 use Rattle.sets.specs.Sets.{byteOf, memberAt, putAt}
 use Rattle.sets.proofs.SetLaws.{member-zero, member-at-out, member-at-put-same, member-at-put-other, put-at-length, put-at-bytes}
 use Rattle.sizes.specs.declared.Sizes.{Sizes}
-use Rattle.sizes.specs.Sizes.{isPerson, isValue}
+use Rattle.sizes.specs.Sizes.{isValue}
 use Rattle.sizes.proofs.SizeLaws.{value-bounds}
 use Rattle.frames.specs.declared.Refusal as frames
 use Rattle.frames.specs.Book.{Contents, withQuery, refused, accepted, bookOf}

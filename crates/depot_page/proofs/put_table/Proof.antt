@@ -1,9 +1,8 @@
 -- `depot_page::put_table` meets its contract: the invariant says that the lines of the first p persons are written; the measure is how many are left.
 -- Assumes nothing.
-use mathlib.Core.Path.{_≡_}
 use Prim.Native.Nat.{_+_, _-_, _*_, _≤_}
 use native.Mathlib.Omega.{arith}
-use lib.ListN.{length, drop, length-take, length-drop}
+use lib.ListN.{drop, length-take, length-drop}
 use Rattle.depot_page.proofs.PrintedLaws.{Lines, lines-none, lines-more, lines-all}
 use borrow.Author.Needs.{needs}
 use Rattle.depot_page.proofs.put_table.Statement.{statement}

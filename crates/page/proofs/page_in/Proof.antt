@@ -1,11 +1,9 @@
 -- `page::page_in` meets its contract: a table of another length is refused; else the rows are those of the book with nothing asked, and so the page of
 -- the book (`rows-given`). Assumes nothing.
 use mathlib.Core.Path.{sym, subst}
-use Prim.Native.Nat.{ℕ}
-use mathlib.Core.List.{List}
 use Rattle.frames.specs.Book.{Contents, withQuery, contentsOf}
 use Rattle.frames.specs.Inner.Fits.{Admitted}
-use Rattle.page.specs.Inner.Rows.{roaming, Roams, RowsRight}
+use Rattle.page.specs.Inner.Rows.{Roams}
 use Rattle.page.proofs.PageLaws.{roams-itself}
 use Rattle.page.proofs.PersonLaws.{nothing-asked, nothing-accepted}
 use Rattle.page.proofs.RowLaws.{rows-same, rows-given, answered-other, answered-filled}

@@ -1,10 +1,9 @@
 -- `page::put_rows` meets its contract: the invariant says that the rows of the first p persons are right and all others clear; the measure is how many
 -- persons are left. Each level is settled above the same crews, with a query of its own person (`person-level-ends`); its flags decide the row
 -- (`flag-set`, `flag-clear`). Assumes nothing.
-use mathlib.Core.Path.{_≡_, refl, sym, subst, _∙_}
+use mathlib.Core.Path.{_≡_, refl, sym, _∙_}
 use mathlib.Core.Bool.{true}
-use mathlib.Core.List.{List}
-use Prim.Native.Nat.{ℕ, _+_, _-_, _≤_, _<_}
+use Prim.Native.Nat.{_-_, _≤_}
 use native.Mathlib.Omega.{arith}
 use borrow.Author.Tests.{lt-ltb}
 use Rattle.sizes.specs.Sizes.{isPerson}

@@ -1,5 +1,4 @@
 -- `page::put_value` meets its contract: the bit is put where the flag and the test are on. Assumes nothing.
-use mathlib.Core.Path.{sym}
 use native.Mathlib.Omega.{arith}
 use Rattle.page.proofs.RowLaws.{value-shown, value-hidden}
 use borrow.Author.Needs.{needs}
