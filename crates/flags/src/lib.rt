@@ -6,15 +6,12 @@ ghost use mathlib.Core.Bool.{false};
 ghost use Prim.Native.Nat.{_+_, _*_, _≤_, _<_};
 ghost use lib.ListN.{length, getD};
 ghost use Rattle.sets.specs.Sets.{member, memberAt};
-ghost use Rattle.frames.specs.Book.{contentsOf};
 ghost use Rattle.flags.specs.Inner.Flags.{FlagsWritten, startFlag, addedFlag, CrewTable, PersonTable, rowFlag, FirstRows, SmallWants, badFlag};
-ghost use Rattle.flags.specs.Inner.Flags.{listedReach, Reaching, valueAt, lackingFlag, wantFlag, bannedFlag};
-ghost use Rattle.reach.specs.Inner.Goal.{belowListed};
+ghost use Rattle.flags.specs.Inner.Flags.{listedReach, valueAt, lackingFlag, wantFlag, bannedFlag};
 ghost use Rattle.widths.specs.Inner.Widths.{levelSize, flagsSize, rowsSize, tableSize};
 use facts::CREWS_AT;
 use facts::MEMBERS_AT;
 use facts::Person;
-use frames::Book;
 use frames::Query;
 use frames::Want;
 use widths::LEVEL_SIZE;
@@ -229,7 +226,7 @@ pub fn bad_flags(q: Query, crews: u8, k: u8, below: bool, bad: &mut [bool])
 }
 
 // Whether the row of some listed crew reaches crew c.
-fn do_listed_reach(listed: u32, rows: &[bool], c: u8) -> bool
+pub fn do_listed_reach(listed: u32, rows: &[bool], c: u8) -> bool
     requires { ⌜ (c < 32) × (length (now rows) ≡ rowsSize) ⌝ }
     ensures { λ r. ⌜ r ≡ listedReach listed (now (rows .entry)) c ⌝ }
 {
@@ -243,13 +240,4 @@ fn do_listed_reach(listed: u32, rows: &[bool], c: u8) -> bool
         d += 1;
     }
     false
-}
-
-// Whether crew c is listed or lies below a listed crew, by rows that say which crews each crew reaches.
-pub fn is_below_listed(b: Book, rows: &[bool], c: u8) -> bool
-    requires { ⌜ (c < 32) × ((length (now rows) ≡ rowsSize) × Reaching (b .juniors) (now rows)) ⌝ }
-    ensures { λ r. ⌜ r ≡ belowListed (contentsOf b) c ⌝ }
-{
-    let q = b.query;
-    do_listed_reach(q.crews, rows, c)
 }

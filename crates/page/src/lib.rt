@@ -163,14 +163,18 @@ fn fill_by(b: Book, gains: &[u16], losses: &[u16], adds: &[u16], dels: &[u16], o
     requires { ⌜ length (now out) ≡ pageSize ⌝ }
     ensures { λ _. ⌜ RowsRight (contentsOf b) (b .sizes .persons) (now (out .exit)) ⌝ }
 {
+    let q = b.query;
     let facts = b.facts;
+    let juniors = b.juniors;
     let mut rows = [false; ROWS_SIZE];
     let mut table = [false; TABLE_SIZE];
     let mut up = [0u8; DRAFT_SIZE];
     let mut down = [0u8; DRAFT_SIZE];
     search::settle_crews(
-        b,
+        q,
+        b.sizes.crews,
         &facts,
+        &juniors,
         gains,
         losses,
         &mut rows,

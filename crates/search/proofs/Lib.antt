@@ -6,3 +6,4 @@ pub mod SubjectLaws
 pub mod DriveLaws
 pub mod PersonLaws
 pub mod StepLaws
+pub mod PartLaws

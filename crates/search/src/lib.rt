@@ -9,8 +9,8 @@ ghost use Rattle.frames.specs.Inner.Fits.{Admitted};
 ghost use Rattle.flags.specs.Inner.Flags.{Reaching};
 ghost use Rattle.level.specs.Inner.Moves.{movesIn};
 ghost use Rattle.search.specs.Inner.Drive.{Driving};
-ghost use Rattle.search.specs.Inner.Scan.{SideMoves, AllAllowed, BlankTable, Serves, Scanned, Searched};
-ghost use Rattle.search.specs.Inner.Given.{Names, CrewsGiven, PersonGiven, LevelGiven, LevelSettled};
+ghost use Rattle.search.specs.Inner.Scan.{SideMoves, AllAllowed, BlankTable, Searched};
+ghost use Rattle.search.specs.Inner.Given.{Names, CrewParts, CrewsGiven, ServesOf, ScannedOf, PersonGiven, LevelGiven, LevelSettled};
 ghost use Rattle.widths.specs.Inner.Widths.{levelSize, rowsSize, depotSize, draftSize};
 use frames::Book;
 use frames::Query;
@@ -91,7 +91,8 @@ pub fn settle_level(
 
 // The level of crew k.
 fn crew_level(
-    b: Book,
+    q: Query,
+    crews: u8,
     facts: &[u8],
     juniors: &[u32],
     k: u8,
@@ -107,15 +108,13 @@ fn crew_level(
     at: usize,
     down: &mut [u8],
 ) -> LevelOutcome
-    requires { ⌜ CrewsGiven b (now facts) (now juniors) (now adds) (now dels) (now reach) × (k < b .sizes .crews) ⌝ }
+    requires { ⌜ CrewsGiven q crews (now facts) (now juniors) (now adds) (now dels) (now reach) × (k < crews) ⌝ }
     requires { ⌜ Names (now added) (now deleted) × BlankTable (now table) ⌝ }
-    requires { ⌜ Serves (contentsOf b) k (now rows) ups (now up) at (now down) ⌝ }
-    ensures { λ r. ⌜ Scanned (contentsOf b) (k + 1) (now (rows .exit)) (now (up .exit)) (now (down .exit)) (r .found) (ups + r .ups) (r .at) ×
-        BlankTable (now (table .exit)) ⌝ }
+    requires { ⌜ ServesOf q crews (now facts) (now juniors) (now adds) (now dels) k (now rows) ups (now up) at (now down) ⌝ }
+    ensures { λ r. ⌜ ScannedOf q crews (now (facts .entry)) (now (juniors .entry)) (now (adds .entry)) (now (dels .entry)) (k + 1)
+        (now (rows .exit)) (now (up .exit)) (now (down .exit)) (r .found) (ups + r .ups) (r .at) × BlankTable (now (table .exit)) ⌝ }
 {
-    let below = flags::is_below_listed(b, reach, k);
-    let q = b.query;
-    let crews = b.sizes.crews;
+    let below = flags::do_listed_reach(q.crews, reach, k);
     let mut x = [false; FLAGS_SIZE];
     flags::crew_table(juniors, k, rows, table);
     let r = settle_level(
@@ -158,7 +157,8 @@ fn fill_reach(juniors: &[u32], reach: &mut [bool])
 
 // The levels of the crews, in rising number. Each crew tries first what the one before it did: `added` and `deleted` name those moves.
 fn crew_levels(
-    b: Book,
+    q: Query,
+    crews: u8,
     facts: &[u8],
     juniors: &[u32],
     adds: &[u16],
@@ -171,18 +171,19 @@ fn crew_levels(
     up: &mut [u8],
     down: &mut [u8],
 ) -> LevelOutcome
-    requires { ⌜ CrewsGiven b (now facts) (now juniors) (now adds) (now dels) (now reach) ⌝ }
+    requires { ⌜ CrewsGiven q crews (now facts) (now juniors) (now adds) (now dels) (now reach) ⌝ }
     requires { ⌜ Names (now added) (now deleted) × BlankTable (now table) ⌝ }
-    requires { ⌜ Serves (contentsOf b) 0 (now rows) 0 (now up) depotSize (now down) ⌝ }
-    ensures { λ r. ⌜ Scanned (contentsOf b) (b .sizes .crews) (now (rows .exit)) (now (up .exit)) (now (down .exit)) (r .found) (r .ups) (r .at) ⌝ }
+    requires { ⌜ ServesOf q crews (now facts) (now juniors) (now adds) (now dels) 0 (now rows) 0 (now up) depotSize (now down) ⌝ }
+    ensures { λ r. ⌜ ScannedOf q crews (now (facts .entry)) (now (juniors .entry)) (now (adds .entry)) (now (dels .entry)) crews
+        (now (rows .exit)) (now (up .exit)) (now (down .exit)) (r .found) (r .ups) (r .at) ⌝ }
 {
-    let n = b.sizes.crews;
     let mut ups: usize = 0;
     let mut at: usize = DEPOT_SIZE;
     let mut k: u8 = 0;
-    while k < n {
+    while k < crews {
         let r = crew_level(
-            b,
+            q,
+            crews,
             facts,
             juniors,
             k,
@@ -219,8 +220,10 @@ fn crew_levels(
 // The levels of all crews, from nothing: which crews each crew reaches, rows that have the crews alone, then crew after crew. The same for whoever
 // the query's person is.
 pub fn settle_crews(
-    b: Book,
+    q: Query,
+    crews: u8,
     facts: &[u8],
+    juniors: &[u32],
     gains: &[u16],
     losses: &[u16],
     rows: &mut [bool],
@@ -228,21 +231,22 @@ pub fn settle_crews(
     up: &mut [u8],
     down: &mut [u8],
 ) -> LevelOutcome
-    requires { ⌜ Admitted (contentsOf b) × SideMoves (b .rules) (b .query .roles) 3 3 4 4 (movesIn (now gains)) (movesIn (now losses)) ⌝ }
-    requires { ⌜ (now facts ≡ b .facts) × ((length (now rows) ≡ rowsSize) × BlankTable (now table)) ⌝ }
+    requires { ⌜ CrewParts q crews (now facts) (now juniors) (now gains) (now losses) ⌝ }
+    requires { ⌜ (length (now rows) ≡ rowsSize) × BlankTable (now table) ⌝ }
     requires { ⌜ (length (now up) ≡ draftSize) × (length (now down) ≡ draftSize) ⌝ }
-    ensures { λ r. ⌜ Scanned (contentsOf b) (b .sizes .crews) (now (rows .exit)) (now (up .exit)) (now (down .exit)) (r .found) (r .ups) (r .at) ⌝ }
+    ensures { λ r. ⌜ ScannedOf q crews (now (facts .entry)) (now (juniors .entry)) (now (gains .entry)) (now (losses .entry)) crews
+        (now (rows .exit)) (now (up .exit)) (now (down .exit)) (r .found) (r .ups) (r .at) ⌝ }
 {
-    let juniors = b.juniors;
     let mut reach = [false; ROWS_SIZE];
     let mut added = [512u16; LEVEL_SIZE];
     let mut deleted = [512u16; LEVEL_SIZE];
-    fill_reach(&juniors, &mut reach);
+    fill_reach(juniors, &mut reach);
     flags::first_rows(rows);
     crew_levels(
-        b,
+        q,
+        crews,
         facts,
-        &juniors,
+        juniors,
         gains,
         losses,
         &mut added,
@@ -315,10 +319,23 @@ fn all_levels(
     requires { ⌜ (length (now up) ≡ draftSize) × (length (now down) ≡ draftSize) ⌝ }
     ensures { λ r. ⌜ Searched (contentsOf b) (now (up .exit)) (now (down .exit)) (r .found) (r .ups) (r .at) ⌝ }
 {
+    let q = b.query;
     let facts = b.facts;
+    let juniors = b.juniors;
     let mut rows = [false; ROWS_SIZE];
     let mut table = [false; TABLE_SIZE];
-    let r = settle_crews(b, &facts, gains, losses, &mut rows, &mut table, up, down);
+    let r = settle_crews(
+        q,
+        b.sizes.crews,
+        &facts,
+        &juniors,
+        gains,
+        losses,
+        &mut rows,
+        &mut table,
+        up,
+        down,
+    );
     if !r.found {
         return r;
     }

@@ -4,6 +4,7 @@ use mathlib.Core.Bool.{false}
 use native.Mathlib.Omega.{arith}
 use lib.ListN.{getD-replicate}
 use Rattle.frames.specs.Book.{contentsOf}
+use Rattle.search.proofs.PartLaws.{parts-of, scanned-of}
 use Rattle.page.proofs.PersonLaws.{crews-settled}
 use Rattle.page.proofs.RowLaws.{rows-none}
 use borrow.Author.Needs.{needs}
@@ -12,10 +13,10 @@ use Rattle.page.proofs.fill_by.Tie as tie
 
 -- The places that the answers name, each seen from a later one.
 abbrev entry : tie.After-facts2 → tie.Start
-entry c = c .before .before .before .before .before .before .before
+entry c = c .before .before .before .before .before .before .before .before .before
 
 abbrev entry-from-down : tie.After-down → tie.Start
-entry-from-down c = c .before .before .before .before .before .before .before .before .before .before .before
+entry-from-down c = entry (c .before .before .before .before .before)
 
 abbrev after-settle-crews : tie.After-person-table → tie.After-settle-crews
 after-settle-crews c = c .before .before .before .before .before .before .before
@@ -33,7 +34,10 @@ slice-aggregate-settle-crews c =
     sym (start .pre .0 .0 .facts-room)
 
 slice-aggregate-settle-crews-2 : tie.Need-slice-aggregate-settle-crews-2
-slice-aggregate-settle-crews-2 c = refl
+unfolding contentsOf
+slice-aggregate-settle-crews-2 c =
+    let start = entry (c .before) in
+    sym (start .pre .0 .0 .edge-room)
 
 slice-aggregate-settle-crews-3 : tie.Need-slice-aggregate-settle-crews-3
 slice-aggregate-settle-crews-3 c = refl
@@ -44,11 +48,15 @@ slice-aggregate-settle-crews-4 c = refl
 slice-aggregate-settle-crews-5 : tie.Need-slice-aggregate-settle-crews-5
 slice-aggregate-settle-crews-5 c = refl
 
+slice-aggregate-settle-crews-6 : tie.Need-slice-aggregate-settle-crews-6
+slice-aggregate-settle-crews-6 c = refl
+
 settle-crews-requires : tie.Need-settle-crews-requires
 settle-crews-requires c κs =
-    let pre = entry-from-down c .pre in (
-      (pre .0 .0, pre .1 .0 .0),
-      ((refl, (refl, record { size = refl; blank = λ j h. getD-replicate 5280 j false false (omega arith) })), (refl, refl)),
+    let start = entry-from-down c in
+    let pre = start .pre in (
+      parts-of (start .args .b) (pre .0 .0) (pre .1 .0 .0),
+      ((refl, record { size = refl; blank = λ j h. getD-replicate 5280 j false false (omega arith) }), (refl, refl)),
     )
 
 slice-aggregate-person-table : tie.Need-slice-aggregate-person-table
@@ -80,13 +88,13 @@ put-rows-requires c κs =
     let at-clear = after-clear (c .before .before) in
     let at-settle-crews = after-settle-crews (at-clear .before .before .before) in
     let start = entry-from-down (at-settle-crews .before) in
-    let pre = start .pre in (
+    let pre = start .pre in
+    let scanned = scanned-of (start .args .b) (pre .0 .0) (pre .1 .0 .0) (at-settle-crews .settle-crews .ensures) in (
       pre .0,
       (
         (pre .1 .0 .1, refl),
         (
-          crews-settled (pre .0 .0) (pre .0 .1) (at-settle-crews .settle-crews .ensures)
-              (at-clear .before .before .before .person-table .ensures),
+          crews-settled (pre .0 .0) (pre .0 .1) scanned (at-clear .before .before .before .person-table .ensures),
           rows-none (at-clear .clear .ensures) (contentsOf (start .args .b)),
         ),
       ),
@@ -107,6 +115,7 @@ fill-by-spec =
     slice-aggregate-settle-crews-3
     slice-aggregate-settle-crews-4
     slice-aggregate-settle-crews-5
+    slice-aggregate-settle-crews-6
     settle-crews-requires
     slice-aggregate-person-table
     slice-aggregate-person-table-2

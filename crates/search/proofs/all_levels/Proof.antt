@@ -10,6 +10,7 @@ use Rattle.frames.specs.Inner.Fits.{Admitted}
 use Rattle.search.specs.Inner.Scan.{NoRun, Scanned, Searched}
 use Rattle.search.proofs.PersonLaws.{to-self, serves-own}
 use Rattle.search.proofs.StepLaws.{no-found, was-found}
+use Rattle.search.proofs.PartLaws.{parts-of, scanned-of}
 use borrow.Author.Needs.{needs}
 use Rattle.search.proofs.all_levels.Statement.{statement}
 use Rattle.search.proofs.all_levels.Tie as tie
@@ -24,10 +25,10 @@ own-stuck {b} ok s e = subst NoRun (to-self b) (s .stuck e (b .query .person .0)
 
 -- The places that the answers name, each seen from a later one.
 abbrev entry : tie.After-facts2 → tie.Start
-entry c = c .before .before .before .before .before .before .before .before
+entry c = c .before .before .before .before .before .before .before .before .before .before
 
 abbrev entry-from-settle-crews-arg2 : tie.After-settle-crews-arg2 → tie.Start
-entry-from-settle-crews-arg2 c = c .before .before .before .before .before .before .before .before .before .before .before .before
+entry-from-settle-crews-arg2 c = entry (c .before .before .before .before .before)
 
 abbrev after-settle-crews : tie.After-struct-known → tie.After-settle-crews
 after-settle-crews c = c .before .before .before .before .before .before .before
@@ -50,19 +51,28 @@ after-down2 c = c .before .before
 
 slice-aggregate-settle-crews : tie.Need-slice-aggregate-settle-crews
 unfolding contentsOf
-slice-aggregate-settle-crews c = sym (entry c .pre .0 .0 .facts-room)
+slice-aggregate-settle-crews c =
+    let start = entry c in
+    sym (start .pre .0 .0 .facts-room)
 
 slice-aggregate-settle-crews-2 : tie.Need-slice-aggregate-settle-crews-2
-slice-aggregate-settle-crews-2 c = refl
+unfolding contentsOf
+slice-aggregate-settle-crews-2 c =
+    let start = entry (c .before) in
+    sym (start .pre .0 .0 .edge-room)
 
 slice-aggregate-settle-crews-3 : tie.Need-slice-aggregate-settle-crews-3
 slice-aggregate-settle-crews-3 c = refl
 
+slice-aggregate-settle-crews-4 : tie.Need-slice-aggregate-settle-crews-4
+slice-aggregate-settle-crews-4 c = refl
+
 settle-crews-requires : tie.Need-settle-crews-requires
 settle-crews-requires c κs =
-    let pre = entry-from-settle-crews-arg2 c .pre in (
-      (pre .0 .0, pre .0 .1 .0),
-      ((refl, (refl, record { size = refl; blank = λ j h. getD-replicate 5280 j false false (omega arith) })), pre .1),
+    let start = entry-from-settle-crews-arg2 c in
+    let pre = start .pre in (
+      parts-of (start .args .b) (pre .0 .0) (pre .0 .1 .0),
+      ((refl, record { size = refl; blank = λ j h. getD-replicate 5280 j false false (omega arith) }), pre .1),
     )
 
 same-length : tie.Need-same-length
@@ -74,14 +84,15 @@ same-length-2 c = c .before .before .before .down .given
 returns : tie.Need-returns
 returns c =
     let at-settle-crews = after-settle-crews (c .before) in
-    none-found (no-found _ (c .if1 .taken))
-    (own-stuck (entry-from-settle-crews-arg2 (at-settle-crews .before) .pre .0 .0) (at-settle-crews .settle-crews .ensures)
-    (no-found _ (c .if1 .taken)))
+    let start = entry-from-settle-crews-arg2 (at-settle-crews .before) in
+    let scanned = scanned-of (start .args .b) (start .pre .0 .0) (start .pre .0 .1 .0) (at-settle-crews .settle-crews .ensures) in
+    none-found (no-found _ (c .if1 .taken)) (own-stuck (start .pre .0 .0) scanned (no-found _ (c .if1 .taken)))
 
 slice-aggregate-person-level : tie.Need-slice-aggregate-person-level
 unfolding contentsOf
 slice-aggregate-person-level c =
-    sym (entry-from-settle-crews-arg2 (after-settle-crews (c .before .before) .before) .pre .0 .0 .facts-room)
+    let start = entry-from-settle-crews-arg2 (after-settle-crews (c .before .before) .before) in
+    sym (start .pre .0 .0 .facts-room)
 
 slice-aggregate-person-level-2 : tie.Need-slice-aggregate-person-level-2
 slice-aggregate-person-level-2 c = sym (after-up (c .before .before .before) .before .before .rows2 .given)
@@ -93,14 +104,16 @@ person-level-requires : tie.Need-person-level-requires
 person-level-requires c κs =
     let at-else1 = else1 (c .before .before) in
     let at-settle-crews = after-settle-crews (at-else1 .before) in
-    let start = entry-from-settle-crews-arg2 (at-settle-crews .before) in (
+    let start = entry-from-settle-crews-arg2 (at-settle-crews .before) in
+    let pre = start .pre in
+    let scanned = scanned-of (start .args .b) (pre .0 .0) (pre .0 .1 .0) (at-settle-crews .settle-crews .ensures) in (
       record {
-        accepted = start .pre .0 .0;
-        moves = start .pre .0 .1 .1;
+        accepted = pre .0 .0;
+        moves = pre .0 .1 .1;
         rows = after-up (at-else1 .before) .before .table2 .given;
         same-facts = refl;
       },
-      serves-own (start .pre .0 .0) (at-settle-crews .settle-crews .ensures .settled (was-found _ (at-else1 .if1 .left))),
+      serves-own (pre .0 .0) (scanned .settled (was-found _ (at-else1 .if1 .left))),
     )
 
 same-length-3 : tie.Need-same-length-3
@@ -115,8 +128,8 @@ returns-2 c =
     none-found (no-found _ (c .if2 .taken))
     (after-person-level (c .before) .person-level .ensures .stuck (no-found _ (c .if2 .taken)))
 
-add-t34 : tie.Need-add-t34
-add-t34 c =
+add-t38 : tie.Need-add-t38
+add-t38 c =
     omega (
       arith,
       after-person-level (c .before .before .before) .person-level .ensures .written
@@ -146,6 +159,7 @@ all-levels-spec =
     slice-aggregate-settle-crews
     slice-aggregate-settle-crews-2
     slice-aggregate-settle-crews-3
+    slice-aggregate-settle-crews-4
     settle-crews-requires
     same-length
     same-length-2
@@ -157,7 +171,7 @@ all-levels-spec =
     same-length-3
     same-length-4
     returns-2
-    add-t34
+    add-t38
     same-length-5
     same-length-6
     returns-3)

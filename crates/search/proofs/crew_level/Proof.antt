@@ -1,15 +1,12 @@
 -- `search::crew_level` meets its contract: the table is the crew's, the level comes to a settled set or is stuck, and the crew's row is filled from
--- what was settled; it is made with the book's own query, and serves every person's (`crew-scanned`). Assumes nothing.
-use mathlib.Core.Path.{refl, ap, _∙_}
+-- what was settled; for every book of these parts, and every person of it (`parts-scanned`). Assumes nothing.
+use mathlib.Core.Path.{refl, _∙_}
 use Prim.Native.Nat.{_≤_}
 use native.Mathlib.Omega.{arith}
-use lib.ListN.{length}
 use borrow.Author.Needs.{needs}
-use Rattle.frames.specs.Book.{contentsOf}
-use Rattle.flags.proofs.FlagLaws.{small-wants, start-flags, filled-row}
-use Rattle.flags.proofs.BadLaws.{bad-all}
-use Rattle.search.proofs.PersonLaws.{serves-own}
-use Rattle.search.proofs.StepLaws.{room-up, room-below, room-down, table-same, row-same, crew-scanned, starts-built}
+use Rattle.flags.proofs.FlagLaws.{filled-row}
+use Rattle.search.proofs.StepLaws.{room-up, room-below, room-down}
+use Rattle.search.proofs.PartLaws.{crews-few, juniors-room, wants-small, own-drive, parts-scanned}
 use Rattle.search.proofs.crew_level.Statement.{statement}
 use Rattle.search.proofs.crew_level.Tie as tie
 
@@ -17,8 +14,8 @@ use Rattle.search.proofs.crew_level.Tie as tie
 abbrev entry : tie.After-slice-known6 → tie.Start
 entry c = c .before .before .before .before .before .before .before .before .before .before .before
 
-abbrev after-is-below-listed : tie.After-crew-table-arg2 → tie.After-is-below-listed
-after-is-below-listed c = c .before .before .before
+abbrev after-do-listed-reach : tie.After-crew-table-arg2 → tie.After-do-listed-reach
+after-do-listed-reach c = c .before .before
 
 abbrev after-crew-table : tie.After-settle-level-arg5 → tie.After-crew-table
 after-crew-table c = c .before .before .before .before .before .before .before .before
@@ -32,39 +29,33 @@ after-up c = after-down c .before .before
 abbrev after-settle-level : tie.After-fill-row-arg2 → tie.After-settle-level
 after-settle-level c = after-up c .before .before .before .before .before .before
 
-is-below-listed-requires : tie.Need-is-below-listed-requires
-unfolding contentsOf
-is-below-listed-requires c κs =
+do-listed-reach-requires : tie.Need-do-listed-reach-requires
+do-listed-reach-requires c κs =
     let pre = entry c .pre .0 in
-    (omega (arith, pre .1, pre .0 .accepted .sized .crews-most), (pre .0 .reach-size, pre .0 .reaching))
+    (omega (arith, pre .1, crews-few (pre .0 .parts)), pre .0 .reach-size)
 
 crew-table-requires : tie.Need-crew-table-requires
-unfolding contentsOf
 crew-table-requires c κs =
-    let pre = entry (after-is-below-listed c .before) .pre in
-    let given = pre .0 .0 in (
-      omega (arith, pre .0 .1, given .accepted .sized .crews-most),
-      (
-        ap length (given .same-juniors) ∙ given .accepted .edge-room,
-        (serves-own (given .accepted) (pre .1 .1) .rows-right .size, pre .1 .0 .1 .size),
-      ),
+    let pre = entry (after-do-listed-reach c .before) .pre in
+    let parts = pre .0 .0 .parts in (
+      omega (arith, pre .0 .1, crews-few parts),
+      (juniors-room parts, (own-drive parts (pre .1 .1) .rows-right .size, pre .1 .0 .1 .size)),
     )
 
 slice-aggregate-settle-level : tie.Need-slice-aggregate-settle-level
 slice-aggregate-settle-level c = refl
 
 settle-level-requires : tie.Need-settle-level-requires
-unfolding contentsOf
 settle-level-requires c κs =
-    let start = entry (after-is-below-listed (after-crew-table c .before) .before) in
+    let start = entry (after-do-listed-reach (after-crew-table c .before) .before) in
     let pre = start .pre in
-    let given = pre .0 .0 in
-    let drive = serves-own (given .accepted) (pre .1 .1) in
-    let low : start .args .k ≤ 32 = omega (arith, given .accepted .sized .crews-most, pre .0 .1) in
+    let parts = pre .0 .0 .parts in
+    let drive = own-drive parts (pre .1 .1) in
+    let low : start .args .k ≤ 32 = omega (arith, crews-few parts, pre .0 .1) in
     record {
-      wants = small-wants (given .accepted);
-      sound-adds = given .moves .sound-adds;
-      sound-dels = given .moves .sound-dels;
+      wants = wants-small parts;
+      sound-adds = parts .moves .sound-adds;
+      sound-dels = parts .moves .sound-dels;
       names = pre .1 .0 .0;
       rows = after-crew-table c .crew-table .ensures .size;
       size-x = refl;
@@ -77,15 +68,12 @@ slice-aggregate-fill-row : tie.Need-slice-aggregate-fill-row
 slice-aggregate-fill-row c = search needs
 
 fill-row-requires : tie.Need-fill-row-requires
-unfolding contentsOf
 fill-row-requires c κs =
     let at-crew-table = after-crew-table (after-settle-level c .before) in
-    let pre = entry (after-is-below-listed (at-crew-table .before) .before) .pre in (
-      omega (arith, pre .0 .1, pre .0 .0 .accepted .sized .crews-most),
-      (
-        after-up c .before .x2 .given,
-        (at-crew-table .crew-table .ensures .size, serves-own (pre .0 .0 .accepted) (pre .1 .1) .rows-right .size),
-      ),
+    let pre = entry (after-do-listed-reach (at-crew-table .before) .before) .pre in
+    let parts = pre .0 .0 .parts in (
+      omega (arith, pre .0 .1, crews-few parts),
+      (after-up c .before .x2 .given, (at-crew-table .crew-table .ensures .size, own-drive parts (pre .1 .1) .rows-right .size)),
     )
 
 same-length : tie.Need-same-length
@@ -107,24 +95,18 @@ same-length-6 : tie.Need-same-length-6
 same-length-6 c = search needs
 
 returns : tie.Need-returns
-unfolding contentsOf
 returns c =
     let filling = c .before .before .before in
     let at-settle-level = after-settle-level filling in
     let at-crew-table = after-crew-table (at-settle-level .before) in
-    let at-below = after-is-below-listed (at-crew-table .before) in
+    let at-below = after-do-listed-reach (at-crew-table .before) in
     let start = entry (at-below .before) in
     let pre = start .pre in
     let given = pre .0 .0 in
-    let drive = serves-own (given .accepted) (pre .1 .1) in
-    let made = at-crew-table .crew-table .ensures in
-    let level = at-settle-level .settle-level .ensures in
-    let bads = bad-all (contentsOf (start .args .b)) (small-wants (given .accepted)) (start .args .k) (at-below .is-below-listed .result)
-    (omega (arith, pre .0 .1)) (λ h. at-below .is-below-listed .ensures) (level .size) (level .forbidden) in
-    let begun = starts-built (start-flags (contentsOf (start .args .b)) (given .same-facts) (omega (arith, pre .0 .1)) (level .started)) (level .built) in (
-      crew-scanned (start .args .b) (given .accepted) (start .args .k) (pre .0 .1) (given .moves) (pre .1 .1) (pre .1 .0 .1)
-          (table-same (given .same-juniors) made) bads begun (level .allowed) (level .result)
-          (row-same (given .same-juniors) (filled-row (drive .rows-right .size) made (c .before .before .fill-row .ensures)))
+    let drive = own-drive (given .parts) (pre .1 .1) in
+    let made = at-crew-table .crew-table .ensures in (
+      parts-scanned (start .args .k) (pre .0 .1) (pre .1 .1) (pre .1 .0 .1) (given .reaching) (at-below .do-listed-reach .ensures) made
+          (at-settle-level .settle-level .ensures) (filled-row (drive .rows-right .size) made (c .before .before .fill-row .ensures))
           (after-up filling .up .given ∙ drive .size-up) (after-down filling .down .given ∙ drive .size-down),
       record { size = made .size; blank = λ j h. made .kept j h ∙ pre .1 .0 .1 .blank j h },
     )
@@ -133,7 +115,7 @@ pub crew-level-spec : {M : Type 1} → statement M
 crew-level-spec =
     tie.close
     (tie.spec
-    is-below-listed-requires
+    do-listed-reach-requires
     crew-table-requires
     slice-aggregate-settle-level
     settle-level-requires

@@ -1,15 +1,16 @@
 -- `search::crew_levels` meets its contract: crew after crew, until one is stuck; what is settled serves every person. The names that the crews
 -- hand on stay 160. Assumes nothing.
 use mathlib.Core.Path.{_≡_, sym, subst, _∙_}
-use mathlib.Core.Bool.{Bool, true, true≢false}
+use mathlib.Core.Bool.{Bool, true, false, true≢false}
 use mathlib.Core.List.{List}
 use Prim.Native.Nat.{ℕ, _+_, _-_, _*_, _≤_, _<_}
 use Rattle.frames.specs.Book.{Contents, contentsOf}
 use Rattle.search.specs.Inner.Drive.{Driving}
 use Rattle.search.specs.Inner.Scan.{BlankTable, Serves, Scanned}
-use Rattle.search.specs.Inner.Given.{Names}
+use Rattle.search.specs.Inner.Given.{Names, ServesOf}
 use Rattle.search.proofs.PersonLaws.{serves-own}
 use Rattle.search.proofs.StepLaws.{no-found, was-found}
+use Rattle.search.proofs.PartLaws.{crews-few, own-drive}
 use borrow.Author.Needs.{needs}
 use native.Mathlib.Omega.{arith}
 use Rattle.search.proofs.crew_levels.Statement.{statement}
@@ -27,12 +28,17 @@ scanned : {b : Contents} {k n : ℕ} {rows : List Bool} {ups at : ℕ} {up down 
 scanned {b} {k} {n} {rows} {ups} {at} {up} {down} d e =
     record { settled = λ f. subst (λ (i : ℕ). Serves b i rows ups up at down) e d; stuck = λ f. absurd (true≢false f) }
 
+-- Where one is stuck, so is the whole.
+stopped : {b : Contents} {k n : ℕ} {rows : List Bool} {up down : List ℕ} {found : Bool} {ups at ups′ at′ : ℕ} → Scanned b k rows up down found ups at
+    → found ≡ false → Scanned b n rows up down false ups′ at′
+stopped s e = record { settled = λ f. absurd (true≢false (sym f)); stuck = λ f. s .stuck e }
+
 abbrev Inv-loop : tie.InvT-loop
-Inv-loop b facts juniors adds dels added₀ deleted₀ reach rows₀ table₀ up₀ down₀ n ups₀ at₀ k₀ added deleted rows table up down ups at k =
-    (k ≤ n) × ((Names added deleted × BlankTable table) × Serves (contentsOf b) k rows ups up at down)
+Inv-loop q crews facts juniors adds dels added₀ deleted₀ reach rows₀ table₀ up₀ down₀ ups₀ at₀ k₀ added deleted rows table up down ups at k =
+    (k ≤ crews) × ((Names added deleted × BlankTable table) × ServesOf q crews facts juniors adds dels k rows ups up at down)
 
 abbrev μ-loop : tie.MeasureT-loop
-μ-loop b facts juniors adds dels added₀ deleted₀ reach rows₀ table₀ up₀ down₀ n ups₀ at₀ k₀ added deleted rows table up down ups at k = n - k
+μ-loop q crews facts juniors adds dels added₀ deleted₀ reach rows₀ table₀ up₀ down₀ ups₀ at₀ k₀ added deleted rows table up down ups at k = crews - k
 
 -- The places that the answers name, each seen from a later one.
 abbrev start : tie.After-slice-known6 Inv-loop μ-loop → tie.Start Inv-loop μ-loop
@@ -60,12 +66,13 @@ abbrev after-rows : tie.Then1 Inv-loop μ-loop → tie.After-rows Inv-loop μ-lo
 after-rows c = c .before .before .before .before .before .before .before .before .before
 
 -- The lengths of what is lent, by what is settled for the query's own person: at the start of the loop, and at its head.
-settled-at-first : (c : tie.Start Inv-loop μ-loop) → Driving (contentsOf (c .args .b)) 0 (c .args .rows .now) 0 (c .args .up .now) 5280 (c .args .down .now)
-settled-at-first c = serves-own (c .pre .0 .accepted) (c .pre .1 .1)
+settled-at-first : (c : tie.Start Inv-loop μ-loop)
+    → Driving (contentsOf (c .pre .0 .parts .book)) 0 (c .args .rows .now) 0 (c .args .up .now) 5280 (c .args .down .now)
+settled-at-first c = own-drive (c .pre .0 .parts) (c .pre .1 .1)
 
-settled-so-far : (c : tie.At-loop Inv-loop μ-loop)
-    → Driving (contentsOf (start (c .before) .args .b)) (c .loop .k) (c .loop .rows) (c .loop .ups) (c .loop .up) (c .loop .at) (c .loop .down)
-settled-so-far c = serves-own (start (c .before) .pre .0 .accepted) (c .loop .inv .1 .1)
+settled-so-far : (c : tie.At-loop Inv-loop μ-loop) → Driving (contentsOf (start (c .before) .pre .0 .parts .book)) (c .loop .k) (c .loop .rows)
+    (c .loop .ups) (c .loop .up) (c .loop .at) (c .loop .down)
+settled-so-far c = own-drive (start (c .before) .pre .0 .parts) (c .loop .inv .1 .1)
 
 loop-holds : tie.Need-loop-holds Inv-loop μ-loop
 loop-holds c = (omega arith, start c .pre .1)
@@ -106,30 +113,22 @@ same-length-6 c =
 
 returns : tie.Need-returns Inv-loop μ-loop
 returns c =
-    record {
-      settled = λ e. absurd (true≢false (sym e));
-      stuck = λ e. after-crew-level (after-deleted (c .before)) .crew-level .ensures .0 .stuck
-          (no-found _ (c .if1 .taken));
-    }
+    let at-crew-level = after-crew-level (after-deleted (c .before)) in
+    record { each = λ g. stopped (at-crew-level .crew-level .ensures .0 .each g) (no-found _ (c .if1 .taken)) }
 
 add-ups : tie.Need-add-ups Inv-loop μ-loop
-unfolding contentsOf
 add-ups c =
     let at-crew-level = after-crew-level (after-deleted (c .before .before)) in
     let at-loop-turn = loop-turn (at-crew-level .before) in
-    let accepted = start (at-loop-turn .before .before) .pre .0 .accepted in
-    omega (
-      arith,
-      few (serves-own accepted (at-crew-level .crew-level .ensures .0 .settled (was-found _ (c .before .if1 .left))) .few-up)
-          (at-loop-turn .loop-test .taken) (accepted .sized .crews-most),
-    )
+    let parts = start (at-loop-turn .before .before) .pre .0 .parts in
+    let settled = at-crew-level .crew-level .ensures .0 .each parts .settled (was-found _ (c .before .if1 .left)) in
+    omega (arith, few (serves-own (parts .accepted) settled .few-up) (at-loop-turn .loop-test .taken) (crews-few parts))
 
 add-k : tie.Need-add-k Inv-loop μ-loop
-unfolding contentsOf
 add-k c =
     let at-crew-level = after-crew-level (after-deleted (c .before .before)) in
     let at-loop-turn = loop-turn (at-crew-level .before) in
-    omega (arith, small (at-loop-turn .loop-test .taken) (start (at-loop-turn .before .before) .pre .0 .accepted .sized .crews-most))
+    omega (arith, small (at-loop-turn .loop-test .taken) (crews-few (start (at-loop-turn .before .before) .pre .0 .parts)))
 
 loop-less : tie.Need-loop-less Inv-loop μ-loop
 loop-less c = search needs
@@ -149,7 +148,7 @@ loop-again c =
           },
           at-crew-level .crew-level .ensures .1,
         ),
-        at-crew-level .crew-level .ensures .0 .settled (was-found _ (c .before .if1 .left)),
+        record { each = λ g. at-crew-level .crew-level .ensures .0 .each g .settled (was-found _ (c .before .if1 .left)) },
       ),
     )
 
@@ -172,7 +171,8 @@ same-length-12 : tie.Need-same-length-12 Inv-loop μ-loop
 same-length-12 c = settled-so-far (c .before) .size-down ∙ sym (settled-at-first (start (c .before .before)) .size-down)
 
 returns-2 : tie.Need-returns-2 Inv-loop μ-loop
-returns-2 c = scanned (c .before .loop .inv .1 .1) (omega (arith, c .before .loop .inv .0, c .loop-test .left))
+returns-2 c =
+    record { each = λ g. scanned (c .before .loop .inv .1 .1 .each g) (omega (arith, c .before .loop .inv .0, c .loop-test .left)) }
 
 pub crew-levels-spec : {M : Type 1} → statement M
 crew-levels-spec =

@@ -13,21 +13,37 @@ use Rattle.level.specs.Inner.Moves.{Moves, Sound, movesIn}
 use Rattle.build.specs.Inner.Build.{Built}
 use Rattle.level.specs.Inner.Settle.{Result}
 use Rattle.flags.specs.Inner.Flags.{FlagsWritten, Reaching, SmallWants, startFlag, badFlag}
-use Rattle.search.specs.Inner.Scan.{SideMoves, AllAllowed}
+use Rattle.search.specs.Inner.Scan.{SideMoves, AllAllowed, Serves, Scanned}
 
 -- Room for the names of the moves that a level tries first.
 pub record Names (added deleted : List ℕ) : Type 0 where
   pub room-added : length added ≡ levelSize
   pub room-deleted : length deleted ≡ levelSize
 
--- The levels of the crews: an accepted book with its facts and juniors, the moves on crews, and which crews each crew reaches.
-pub record CrewsGiven (b : Book) (facts juniors adds dels : List ℕ) (reach : List Bool) : Type 0 where
-  pub accepted : Admitted (contentsOf b)
-  pub moves : SideMoves (b .rules) (b .query .roles) 3 3 4 4 (movesIn adds) (movesIn dels)
+-- What the levels of the crews need of an accepted book: its query, how many crews it has, its facts and juniors, and the moves on crews.
+pub record CrewParts (q : Query) (crews : ℕ) (facts juniors adds dels : List ℕ) : Type 0 where
+  pub book : Book
+  pub accepted : Admitted (contentsOf book)
+  pub same-query : q ≡ book .query
+  pub same-crews : crews ≡ book .sizes .crews
+  pub same-facts : facts ≡ book .facts
+  pub same-juniors : juniors ≡ book .juniors
+  pub moves : SideMoves (book .rules) (book .query .roles) 3 3 4 4 (movesIn adds) (movesIn dels)
+
+-- These parts, and which crews each crew reaches.
+pub record CrewsGiven (q : Query) (crews : ℕ) (facts juniors adds dels : List ℕ) (reach : List Bool) : Type 0 where
+  pub parts : CrewParts q crews facts juniors adds dels
   pub reach-size : length reach ≡ rowsSize
-  pub reaching : Reaching (b .juniors) reach
-  pub same-juniors : juniors ≡ b .juniors
-  pub same-facts : facts ≡ b .facts
+  pub reaching : Reaching juniors reach
+
+-- What is settled below level k, for whichever book has these parts; and what the levels below k come to.
+pub record ServesOf (q : Query) (crews : ℕ) (facts juniors adds dels : List ℕ) (k : ℕ) (rows : List Bool) (ups : ℕ) (up : List ℕ) (at : ℕ)
+    (down : List ℕ) : Type 0 where
+  pub each : (g : CrewParts q crews facts juniors adds dels) → Serves (contentsOf (g .book)) k rows ups up at down
+
+pub record ScannedOf (q : Query) (crews : ℕ) (facts juniors adds dels : List ℕ) (k : ℕ) (rows : List Bool) (up down : List ℕ) (found : Bool)
+    (ups at : ℕ) : Type 0 where
+  pub each : (g : CrewParts q crews facts juniors adds dels) → Scanned (contentsOf (g .book)) k rows up down found ups at
 
 -- The level of the query's person: an accepted book with its facts, the moves on the person, and room for a table.
 pub record PersonGiven (b : Book) (facts adds dels : List ℕ) (table : List Bool) : Type 0 where
