@@ -1,10 +1,10 @@
 //! Both implementations give the same answer to everything that is measured; only the choice of a plan is left open.
 
 use bixorgun::bytes::{self, Planned};
-use bixorgun::{Attr, Judgement, Person, Refusal, LEDGER_SIZE, PLAN_MAX, REQUEST_SIZE};
+use bixorgun::{Attr, Judgement, Person, Refusal, LEDGER_SIZE, PAGE_SIZE, PLAN_MAX, REQUEST_SIZE};
 use reference::plan::Answer;
 use reference::replay::Verdict;
-use reference::{ledger, plan, replay};
+use reference::{ledger, page, plan, replay};
 
 use crate::job::Job;
 
@@ -16,12 +16,13 @@ pub enum Found {
     Plans(usize, usize),
 }
 
-/// Runs the five operations of a job by both.
+/// Runs the six operations of a job by both.
 pub fn check(job: &Job) -> Result<Found, String> {
     open(job)?;
     requests(job)?;
     show(job)?;
     let _ = judged(job, &job.list)?;
+    page(job)?;
     plans(job)
 }
 
@@ -75,6 +76,13 @@ fn judged(job: &Job, list: &[u8]) -> Result<Judgement, String> {
     };
     same("replay", ours, theirs)?;
     Ok(ours)
+}
+
+fn page(job: &Job) -> Result<(), String> {
+    let (mut ours, mut theirs) = ([0x55; PAGE_SIZE], [0xAA; PAGE_SIZE]);
+    let answer = bytes::page(&job.text, &mut ours).map_err(|refusal| refusal.number());
+    same("page", answer, page::page(&job.text, &mut theirs).map_err(|refusal| refusal.number()))?;
+    same("page's table", ours, theirs)
 }
 
 fn plans(job: &Job) -> Result<Found, String> {

@@ -133,30 +133,42 @@ fn run(command: &mut Command) -> Result<(), String> {
     status.success().then_some(()).ok_or(format!("{command:?}: {status}"))
 }
 
-/// What the child runs: the reference once before it is counted, so that its memory is at hand, then the task.
+/// Every operation, in two turns. The reference takes far more memory for a page than for the others: before them it would
+/// change where theirs lies, and so what it costs to lengthen a list.
+const TURNS: [&[Operation]; 2] = {
+    let (others, page) = Operation::ALL.as_slice().split_at(Operation::Page as usize);
+    [others, page]
+};
+
+/// What the child runs: for each turn the reference once before it is counted, so that its memory is at hand, then the
+/// task.
 pub fn child(task: Task, job: &Job) {
     let mut buffers = Buffers::new();
-    for side in [Side::Reference, Side::Kept] {
-        for operation in Operation::ALL.into_iter().filter(|_| task == Task::All) {
-            calls::call(operation, side, job, &mut buffers);
-        }
+    if let Task::One(operation) = task {
+        return measured(task, &[operation], job, &mut buffers);
     }
-    measured(task, job, &mut buffers);
+    for turn in TURNS {
+        for side in [Side::Reference, Side::Kept] {
+            for &operation in turn {
+                calls::call(operation, side, job, &mut buffers);
+            }
+        }
+        measured(task, turn, job, &mut buffers);
+    }
 }
 
 /// The part of the child that is counted.
 #[inline(never)]
-fn measured(task: Task, job: &Job, buffers: &mut Buffers) {
-    if let Task::One(operation) = task {
-        calls::call(operation, Side::Ours, job, buffers);
-        return;
-    }
-    for side in Side::ALL {
-        for operation in Operation::ALL {
+fn measured(task: Task, operations: &[Operation], job: &Job, buffers: &mut Buffers) {
+    let sides = if task == Task::All { &Side::ALL[..] } else { &[Side::Ours] };
+    for &side in sides {
+        for &operation in operations {
             calls::call(operation, side, job, buffers);
         }
     }
-    calls::cleared(job, buffers);
+    if task == Task::All && operations.contains(&Operation::Plan) {
+        calls::cleared(job, buffers);
+    }
 }
 
 /// A directory that is removed when it is dropped.
@@ -189,6 +201,20 @@ impl Drop for Scratch {
 #[cfg(test)]
 mod tests {
     use super::*;
+
+    #[test]
+    fn tasks_and_their_names() {
+        for task in Operation::ALL.map(Task::One).into_iter().chain([Task::All]) {
+            assert_eq!(Task::named(task.name()), Some(task));
+        }
+        assert_eq!(Task::named("cleared_plan"), None);
+    }
+
+    #[test]
+    fn turns_are_all_operations() {
+        assert_eq!(TURNS.concat(), Operation::ALL);
+        assert_eq!(TURNS[1], [Operation::Page]);
+    }
 
     #[test]
     fn plain_names() {

@@ -13,16 +13,19 @@ pub fn call(operation: Operation, side: Side, job: &Job, buffers: &mut Buffers) 
         (Side::Ours, Operation::Show) => ours::show(job, buffers),
         (Side::Ours, Operation::Replay) => ours::replay(job),
         (Side::Ours, Operation::Plan) => ours::plan(job, buffers),
+        (Side::Ours, Operation::Page) => ours::page(job, buffers),
         (Side::Reference, Operation::Open) => reference::open(job, buffers),
         (Side::Reference, Operation::Request) => reference::request(job, buffers),
         (Side::Reference, Operation::Show) => reference::show(job),
         (Side::Reference, Operation::Replay) => reference::replay(job),
         (Side::Reference, Operation::Plan) => reference::plan(job, buffers),
+        (Side::Reference, Operation::Page) => reference::page(job, buffers),
         (Side::Kept, Operation::Open) => kept::open(job, buffers),
         (Side::Kept, Operation::Request) => kept::request(job, buffers),
         (Side::Kept, Operation::Show) => kept::show(job),
         (Side::Kept, Operation::Replay) => kept::replay(job),
         (Side::Kept, Operation::Plan) => kept::plan(job),
+        (Side::Kept, Operation::Page) => kept::page(job, buffers),
     }
 }
 
@@ -65,6 +68,11 @@ mod ours {
     }
 
     #[inline(never)]
+    pub fn page(job: &Job, buffers: &mut Buffers) {
+        let _ = black_box(bytes::page(black_box(&job.text), &mut buffers.page));
+    }
+
+    #[inline(never)]
     pub fn cleared_plan(job: &Job, buffers: &mut Buffers) {
         black_box(&mut buffers.out).fill(0);
         let _ = black_box(bytes::plan_into(black_box(&job.text), &mut buffers.out));
@@ -73,7 +81,7 @@ mod ours {
 
 mod reference {
     use super::{black_box, Buffers, Job};
-    use reference::{ledger, plan, replay};
+    use reference::{ledger, page, plan, replay};
 
     #[inline(never)]
     pub fn open(job: &Job, buffers: &mut Buffers) {
@@ -102,15 +110,20 @@ mod reference {
     pub fn plan(job: &Job, buffers: &mut Buffers) {
         let _ = black_box(plan::plan(black_box(&job.text), &mut buffers.out));
     }
+
+    #[inline(never)]
+    pub fn page(job: &Job, buffers: &mut Buffers) {
+        let _ = black_box(page::page(black_box(&job.text), &mut buffers.page));
+    }
 }
 
-/// The steps of `reference::ledger` after the book is read.
+/// The steps of the reference after the book is read.
 mod kept {
     use super::{black_box, Buffers, Job};
     use reference::book::Attr;
     use reference::ledger::{Depot, Ledger, Request};
     use reference::plan::closure;
-    use reference::replay;
+    use reference::{page, replay};
 
     #[inline(never)]
     pub fn open(job: &Job, buffers: &mut Buffers) {
@@ -156,5 +169,31 @@ mod kept {
     #[inline(never)]
     pub fn plan(job: &Job) {
         black_box(closure::plan(black_box(&job.book)));
+    }
+
+    #[inline(never)]
+    pub fn page(job: &Job, buffers: &mut Buffers) {
+        buffers.page = page::of(black_box(&job.book));
+    }
+}
+
+#[cfg(test)]
+mod tests {
+    use super::*;
+    use crate::series;
+
+    /// Each side writes every byte, whatever stood there.
+    #[test]
+    fn pages_are_those_of_the_book() {
+        for (number, job) in series::all().iter().flat_map(|series| &series.points) {
+            let page = ::reference::page::of(&job.book);
+            assert!(page.iter().any(|&byte| byte != 0), "{number}");
+            for side in Side::ALL {
+                let mut buffers = Buffers::new();
+                buffers.page = page.map(|byte| !byte);
+                call(Operation::Page, side, job, &mut buffers);
+                assert_eq!(buffers.page, page, "{side:?}, {number}");
+            }
+        }
     }
 }

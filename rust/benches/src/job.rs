@@ -1,7 +1,7 @@
-//! What is measured on one book: the five operations, by the library, by the reference, and by the reference with the
+//! What is measured on one book: the six operations, by the library, by the reference, and by the reference with the
 //! book kept.
 
-use bixorgun::{LEDGER_SIZE, PLAN_MAX, REQUEST_SIZE, VIEW_SIZE};
+use bixorgun::{LEDGER_SIZE, PAGE_SIZE, PLAN_MAX, REQUEST_SIZE, VIEW_SIZE};
 use reference::book::{self, Book, Role, Rule, Way, What};
 use reference::ledger::{self, Ledger, Request};
 use reference::plan::closure;
@@ -10,7 +10,7 @@ use reference::replay;
 /// The most requests of a run.
 const RUN: usize = 64;
 
-/// One of the five operations.
+/// One of the six operations.
 #[derive(Clone, Copy, Debug, PartialEq, Eq)]
 pub enum Operation {
     Open,
@@ -18,14 +18,15 @@ pub enum Operation {
     Show,
     Replay,
     Plan,
+    Page,
 }
 
 impl Operation {
-    pub const ALL: [Operation; 5] =
-        [Operation::Open, Operation::Request, Operation::Show, Operation::Replay, Operation::Plan];
+    pub const ALL: [Operation; 6] =
+        [Operation::Open, Operation::Request, Operation::Show, Operation::Replay, Operation::Plan, Operation::Page];
 
     pub fn name(self) -> &'static str {
-        ["open", "request", "show", "replay", "plan"][self as usize]
+        ["open", "request", "show", "replay", "plan", "page"][self as usize]
     }
 }
 
@@ -95,11 +96,12 @@ pub struct Buffers {
     pub ledger: [u8; LEDGER_SIZE],
     pub view: [u8; VIEW_SIZE],
     pub out: Vec<u8>,
+    pub page: [u8; PAGE_SIZE],
 }
 
 impl Buffers {
     pub fn new() -> Self {
-        Buffers { ledger: [0; LEDGER_SIZE], view: [0; VIEW_SIZE], out: vec![0; PLAN_MAX] }
+        Buffers { ledger: [0; LEDGER_SIZE], view: [0; VIEW_SIZE], out: vec![0; PLAN_MAX], page: [0; PAGE_SIZE] }
     }
 }
 

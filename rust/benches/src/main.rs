@@ -26,7 +26,7 @@ use report::{MeasuredSeries, Profiled, Results};
 use table::{Cost, Measured, Row};
 
 /// The calls whose functions are listed.
-const PROFILED: [(Operation, &str); 15] = [
+const PROFILED: [(Operation, &str); 18] = [
     (Operation::Plan, START),
     (Operation::Plan, TYPICAL),
     (Operation::Plan, MAXIMAL),
@@ -42,6 +42,9 @@ const PROFILED: [(Operation, &str); 15] = [
     (Operation::Replay, TYPICAL),
     (Operation::Replay, MAXIMAL),
     (Operation::Replay, LARGEST_PLAN),
+    (Operation::Page, TYPICAL),
+    (Operation::Page, MAXIMAL),
+    (Operation::Page, "sweep-128"),
 ];
 const TYPICAL: &str = "typical-m1-yes-1";
 const MAXIMAL: &str = "maximal-m1-yes";
@@ -145,7 +148,7 @@ fn measured(name: String, job: &Job) -> Result<Measured, String> {
     eprintln!("{name}: {found:?}");
     let profile = callgrind::profile(Task::All, job)?;
     let mut buffers = Buffers::new();
-    let mut rows = [Row::default(); 5];
+    let mut rows = [Row::default(); 6];
     for operation in Operation::ALL {
         let micros = measure::micros(operation, job, &mut buffers);
         for side in Side::ALL {

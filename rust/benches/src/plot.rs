@@ -33,12 +33,13 @@ const TEXT: &str = "#222222";
 const GRID: &str = "#DDDDDD";
 
 /// The lines' colours, told apart by the colour-blind too, and their dashes.
-const STYLES: [(&str, &str, &str); 5] = [
+const STYLES: [(&str, &str, &str); 6] = [
     ("open", "#0072B2", "none"),
     ("request", "#E69F00", "6 3"),
     ("show", "#009E73", "2 3"),
     ("replay", "#CC79A7", "9 3 2 3"),
     ("plan", "#D55E00", "none"),
+    ("page", "#56B4E9", "12 4"),
 ];
 
 fn style(name: &str) -> (&'static str, &'static str) {
@@ -166,6 +167,7 @@ fn text(x: f64, y: f64, anchor: &str, size: u8, words: &str) -> String {
 #[cfg(test)]
 mod tests {
     use super::*;
+    use crate::job::Operation;
 
     fn panels() -> Vec<Panel> {
         let line = |name, ratios| Line { name, ratios };
@@ -184,6 +186,15 @@ mod tests {
         assert_eq!(drawing.matches("<g ").count(), drawing.matches("</g>").count());
         assert_eq!(drawing.matches('"').count() % 2, 0);
         assert!(!drawing.contains("NaN") && !drawing.contains("inf"));
+    }
+
+    #[test]
+    fn each_operation_has_a_style_of_its_own() {
+        assert_eq!(STYLES.map(|style| style.0), Operation::ALL.map(Operation::name));
+        for (k, (name, colour, _)) in STYLES.iter().enumerate() {
+            assert!(STYLES[..k].iter().all(|style| style.1 != *colour), "{name}");
+            assert!(svg("title", &[]).contains(&format!(">{name}</text>")));
+        }
     }
 
     #[test]

@@ -114,7 +114,7 @@ impl Results {
     /// A table of the stored books. Those of a few lines, if asked for, are one row with their largest ratios.
     fn ratios(&self, small: bool, ratio: impl Fn(&Measured, Operation) -> Option<Ratio>) -> String {
         let cell = |ratio: Option<Ratio>| ratio.map_or("-".to_owned(), Ratio::cell);
-        let named = |name: String, cells: [String; 5]| [name].into_iter().chain(cells).collect::<Vec<String>>();
+        let named = |name: String, cells: [String; 6]| [name].into_iter().chain(cells).collect::<Vec<String>>();
         let mut rows = Vec::new();
         let few = || self.books.iter().filter(|book| is_small(&book.name));
         if small {
@@ -127,7 +127,7 @@ impl Results {
         for book in self.large() {
             rows.push(named(book.name.clone(), Operation::ALL.map(|operation| cell(ratio(book, operation)))));
         }
-        markdown(&["book", "open", "request", "show", "replay", "plan"], &rows)
+        markdown(&heads("book"), &rows)
     }
 
     fn large(&self) -> impl Iterator<Item = &Measured> {
@@ -184,7 +184,7 @@ impl Results {
                 rows.push([name].into_iter().chain(cells).collect());
             }
         }
-        markdown(&["series", "open", "request", "show", "replay", "plan"], &rows)
+        markdown(&heads("series"), &rows)
     }
 
     /// How often the aim is met on the stored books, and where it is not.
@@ -268,6 +268,11 @@ impl Results {
     }
 }
 
+/// The head of a table with a column for each operation.
+fn heads(first: &'static str) -> Vec<&'static str> {
+    [first].into_iter().chain(Operation::ALL.map(Operation::name)).collect()
+}
+
 fn instructions(ratio: Ratio) -> f64 {
     ratio.instructions
 }
@@ -339,6 +344,46 @@ mod tests {
         assert!(text.split_whitespace().eq(long.split_whitespace()));
         assert_eq!(wrapped("By time."), "By time.");
         assert_eq!(wrapped(""), "");
+    }
+
+    /// A book on which the operations cost the library once, twice and so on to six times what they cost the reference.
+    fn measured(name: &str, cost: f64) -> Measured {
+        let times = |n: f64| Cost { instructions: n * cost, micros: n * cost / 1_000.0 };
+        let rows =
+            Operation::ALL.map(|operation| Row([times(f64::from(operation as u8) + 1.0), times(1.0), times(0.5)]));
+        Measured { name: name.to_owned(), rows }
+    }
+
+    #[test]
+    fn every_operation_stands_in_every_table() {
+        let points = vec![(64, measured("persons 64", 500.0))];
+        let results = Results {
+            books: vec![measured("trivial", 100.0), measured("typical", 300.0)],
+            series: vec![MeasuredSeries { title: "persons", plotted: &[Operation::Page], points }],
+            profiles: Vec::new(),
+            listed: &["typical"],
+            clearing: Cost::default(),
+            processes: [1, 1],
+        };
+        let parts = results.parts();
+        let part = |name: &str| parts.iter().find(|part| part.0 == name).map_or("", |part| &part.1);
+        let cells = |row: &str| row.split('|').map(|cell| cell.trim().to_owned()).collect::<Vec<_>>().join("|");
+        for (name, first) in [("net", "book"), ("whole", "book"), ("series", "series")] {
+            let head = format!("|{first}|open|request|show|replay|plan|page|");
+            assert_eq!(part(name).lines().next().map(cells), Some(head));
+        }
+        let typical = "|typical|1.0 / 1.0|2.0 / 2.0|3.0 / 3.0|4.0 / 4.0|5.0 / 5.0|6.0 / 6.0|";
+        for name in ["net", "whole"] {
+            assert_eq!(part(name).lines().last().map(cells).as_deref(), Some(typical));
+        }
+        assert_eq!(part("series").lines().last().map(cells).as_deref(), Some("|persons: 64|-|-|-|-|-|6.0 / 6.0|"));
+        for operation in Operation::ALL {
+            assert!(part("start-up").contains(&format!("| {} ", operation.name())));
+            assert!(part("calls").contains(&format!("| typical, {} ", operation.name())));
+        }
+        assert!(part("aim").starts_with("By instructions, 4 of the 6 ratios"));
+        assert!(part("aim").contains("Over: typical page 6.0, typical plan 5.0."));
+        assert!(results.plot().contains(">persons</text>"));
     }
 
     #[test]

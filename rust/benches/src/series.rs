@@ -138,23 +138,35 @@ fn rounds(count: u8) -> Vec<u8> {
     text.into_bytes()
 }
 
-/// A book of 32 crews that each add 124 values, one after the other, by one of four chains of rules, in which each rule stands
-/// before the one that it needs. The crews take so many of the chains in turn: with more than one, no crew's moves fire that
-/// fired for the crew before it.
-fn chains(taken: u8) -> Vec<u8> {
+/// Who add values by chains of rules.
+#[derive(Clone, Copy, Debug, PartialEq, Eq)]
+enum Takers {
+    Crews,
+    Persons,
+}
+
+/// A book of 32 crews, or of 64 persons, that each add 124 values, one after the other, by one of four chains of rules, in
+/// which each rule stands before the one that it needs. They take so many of the chains in turn: with more than one, no
+/// crew's or person's moves fire that fired for the one before.
+fn chains(takers: Takers, taken: u8) -> Vec<u8> {
     let value = |k: u8| format!("{:02X}{:02X}", k / 16, k % 16);
     let chosen = |chain: u8| value(124 + chain);
-    let mut text = sizes(1, 32, 8, 16);
+    // The op of an addition, the kind of a starting fact, and the sizes.
+    let (op, kind, (persons, crews)) = match takers {
+        Takers::Crews => (3, 2, (1, 32)),
+        Takers::Persons => (1, 1, (64, 0)),
+    };
+    let mut text = sizes(persons, crews, 8, 16);
     for chain in 0..4 {
         for k in (0..124_u8).rev() {
             text += &match k.checked_sub(1) {
-                Some(below) => format!("030300{}0201{}01{}\n", value(k), chosen(chain), value(below)),
-                None => format!("030300{}0101{}\n", value(k), chosen(chain)),
+                Some(below) => format!("03{op:02X}00{}0201{}01{}\n", value(k), chosen(chain), value(below)),
+                None => format!("03{op:02X}00{}0101{}\n", value(k), chosen(chain)),
             };
         }
     }
-    for crew in 0..32 {
-        text += &format!("0402{crew:02X}{}\n", chosen(crew % taken));
+    for taker in 0..persons.max(crews) {
+        text += &format!("04{kind:02X}{taker:02X}{}\n", chosen(taker % taken));
     }
     text += "030100000000\n050100000101000001\n";
     text.into_bytes()
@@ -214,8 +226,12 @@ fn with_rounds(count: u8) -> Job {
     Job::new(rounds(count)).expect("the book is accepted")
 }
 
-fn with_chains(taken: u8) -> Job {
-    Job::new(chains(taken)).expect("the book is accepted")
+fn with_chains(takers: Takers, taken: u8) -> Job {
+    Job::new(chains(takers, taken)).expect("the book is accepted")
+}
+
+fn with_persons(persons: u8) -> Job {
+    job(Climb { persons, ..MIDDLE })
 }
 
 fn points<N: Copy>(numbers: &[N], number: impl Fn(N) -> usize, job: impl Fn(N) -> Job) -> Vec<(usize, Job)> {
@@ -226,8 +242,10 @@ fn points<N: Copy>(numbers: &[N], number: impl Fn(N) -> usize, job: impl Fn(N) -
 pub fn all() -> Vec<Series> {
     const RULES: [usize; 5] = [32, 64, 128, 256, 512];
     const ALL: &[Operation] = &Operation::ALL;
+    const PAGE: &[Operation] = &[Operation::Page];
     let series = |title, plotted, points| Series { title, plotted, points };
     let pairs = |n: u8| usize::from(n) * usize::from(n - 1) / 2;
+    let chained = |takers| points(&[1, 2, 4], usize::from, |taken| with_chains(takers, taken));
     vec![
         series("rules, each after those it needs", ALL, points(&RULES, |n| n, |n| with_rules(n, false))),
         series("rules, each before those it needs", ALL, points(&RULES, |n| n, |n| with_rules(n, true))),
@@ -237,7 +255,9 @@ pub fn all() -> Vec<Series> {
         series("values of 32 crews", ALL, points(&[1, 2, 4, 8, 16, 32, 64, 128], |n| n, with_values)),
         series("requests replayed", &[Operation::Replay], points(&[32, 128, 512, 2_048, 8_192], |n| n, with_climbs)),
         series("rounds of each level", ALL, points(&[4, 8, 15, 30, 60], usize::from, with_rounds)),
-        series("chains that crews take in turn", &[Operation::Plan], points(&[1, 2, 4], usize::from, with_chains)),
+        series("chains that crews take in turn", &[Operation::Plan, Operation::Page], chained(Takers::Crews)),
+        series("persons", PAGE, points(&[1, 2, 4, 8, 16, 32, 64], usize::from, with_persons)),
+        series("chains that persons take in turn", PAGE, chained(Takers::Persons)),
     ]
 }
 
@@ -264,5 +284,6 @@ mod tests {
             assert!(series.points.iter().all(|(edges, job)| job.book.edges.len() == *edges));
         }
         assert!(all()[6].points.iter().all(|(requests, job)| job.list.len() == 5 * requests));
+        assert!(all()[9].points.iter().all(|(persons, job)| usize::from(job.book.sizes.persons) == *persons));
     }
 }

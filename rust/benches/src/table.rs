@@ -60,11 +60,11 @@ impl Row {
     }
 }
 
-/// The five operations on one book.
+/// The six operations on one book.
 #[derive(Clone, Debug)]
 pub struct Measured {
     pub name: String,
-    pub rows: [Row; 5],
+    pub rows: [Row; 6],
 }
 
 impl Measured {
@@ -73,9 +73,11 @@ impl Measured {
     }
 }
 
-/// A number in two or three digits.
+/// A number in two or three digits; one that would be 0.0 keeps two places.
 pub fn short(number: f64) -> String {
-    if number.abs() < 9.95 {
+    if number.abs() < 0.05 {
+        format!("{number:.2}")
+    } else if number.abs() < 9.95 {
         format!("{number:.1}")
     } else {
         thousands(number)
@@ -145,6 +147,7 @@ mod tests {
     #[test]
     fn numbers_and_tables() {
         assert_eq!([1.25, 9.96, 1_234.5, -2_000.0].map(short), ["1.2", "10", "1,234", "-2,000"]);
+        assert_eq!([0.1, 0.06, 0.04, 0.014].map(short), ["0.1", "0.1", "0.04", "0.01"]);
         let table = markdown(&["book", "n"], &[vec!["a".into(), "12".into()]]);
         assert_eq!(table, "| book |   n |\n| ---- | --: |\n| a    |  12 |\n");
     }

@@ -21,6 +21,7 @@ const EXPLAINED: &str = "| Line | Its bytes | They say |";
 const ANSWERED: &str = "| Line | It says |";
 const CALLS: &str = "| No. | Call | Answer | Says |";
 const PLACES: &str = "| The set of | stands at byte | In the first example, behind the calls below |";
+const PILOT_CALLS: &str = "| No. | Last line | Call | Answer | Says |";
 
 fn repository() -> PathBuf {
     [env!("CARGO_MANIFEST_DIR"), "..", ".."].iter().collect()
@@ -132,15 +133,15 @@ fn refused_lines(page: &str) -> Vec<(usize, Vec<u8>)> {
     each.collect()
 }
 
-/// The calls of the page's last table, on one book and one ledger.
+/// The calls of a table, on one book and one ledger.
 struct Session {
     book: String,
     ledger: Vec<u8>,
 }
 
 impl Session {
-    fn of(page: &str) -> Self {
-        Session { book: example(page), ledger: vec![0xA5; LEDGER_SIZE] }
+    fn of(book: String) -> Self {
+        Session { book, ledger: vec![0xA5; LEDGER_SIZE] }
     }
 
     /// Does what a row says; its answer in the page's words.
@@ -152,11 +153,13 @@ impl Session {
             "show" => self.show(rest),
             "plan" => self.plan(number(rest)),
             "replay" => self.replay(&hex_bytes(rest)),
+            "page" => self.page(number(rest)),
             _ => panic!("{call} is no call of the page"),
         };
-        done.unwrap_or_else(|refusal| match refusal {
-            Refusal::UnmetTerm { rule, term } => format!("REFUSED 15, rule {rule}, term {term}"),
-            _ => format!("REFUSED {}", refusal.number()),
+        done.unwrap_or_else(|refusal| match (refusal, refusal.line()) {
+            (Refusal::UnmetTerm { rule, term }, _) => format!("REFUSED 15, rule {rule}, term {term}"),
+            (_, Some(line)) => format!("REFUSED {}, line {line}", refusal.number()),
+            (_, None) => format!("REFUSED {}", refusal.number()),
         })
     }
 
@@ -208,6 +211,15 @@ impl Session {
             Judgement::EndsShort => "ENDS_SHORT".to_owned(),
         })
     }
+
+    /// The sets of the table that are not empty, each with its place: `DONE, at 0: 0003, at 2: 0001`.
+    fn page(&self, length: usize) -> Result<String, Refusal> {
+        let mut table = vec![0xA5; length];
+        bytes::page(self.book.as_bytes(), &mut table).inspect_err(|_| assert_eq!(table, vec![0xA5; length]))?;
+        let sets = table.chunks(2).enumerate().filter(|(_, set)| set.iter().any(|&byte| byte != 0));
+        let sets: String = sets.map(|(place, set)| format!(", at {}: {}", 2 * place, hex(set))).collect();
+        Ok(format!("DONE{sets}"))
+    }
 }
 
 /// The term of a book at the places that an answer tells: `rule 3, term 1`.
@@ -218,21 +230,27 @@ fn term_at<'b>(book: &'b str, places: &str) -> &'b str {
     &rule[12 + 6 * (term - 1)..12 + 6 * term]
 }
 
+/// Sees that an answer is refused by the number in its row, or by none; what the answer tells beside the number.
+fn told<'p>(row: &[&str], answer: &'p str) -> &'p str {
+    let refusal = answer.strip_prefix("REFUSED ").unwrap_or("");
+    let (refusal, places) = refusal.split_once(", ").unwrap_or((refusal, ""));
+    assert_eq!(row[0], refusal, "{row:?}");
+    places
+}
+
 /// Makes the calls in order, each with its answer; the refusals' numbers, and the ledger at the end. Beside an answer
 /// with a rule and a term stands that term.
 fn calls(page: &str) -> (Vec<usize>, Vec<u8>) {
-    let mut session = Session::of(page);
+    let mut session = Session::of(example(page));
     let mut numbers = Vec::new();
     for row in rows(page, CALLS) {
         let answer = codes(row[2])[0];
         assert_eq!(session.call(codes(row[1])[0]), answer, "{row:?}");
-        let refusal = answer.strip_prefix("REFUSED ").unwrap_or("");
-        let (refusal, places) = refusal.split_once(", ").unwrap_or((refusal, ""));
-        assert_eq!(row[0], refusal, "{row:?}");
+        let places = told(&row, answer);
         if !places.is_empty() {
             assert_eq!(codes(row[3])[0], term_at(&session.book, places), "{row:?}");
         }
-        numbers.extend(refusal.parse::<usize>());
+        numbers.extend(row[0].parse::<usize>());
     }
     (numbers, session.ledger)
 }
@@ -330,6 +348,24 @@ fn each_call_has_its_answer_and_the_ledger_its_bytes() {
         }
     }
     assert!(sets >= 4, "{sets} sets");
+}
+
+/// The pilot depot stands there as it is stored, and each call on it, by its last line or another, has its answer.
+#[test]
+fn each_call_on_the_pilot_depot_has_its_answer() {
+    let page = page();
+    let pilot = fs::read_to_string(repository().join("crates/books/data/pilot.book")).expect("a stored book");
+    assert!(examples(&page).iter().any(|(book, _)| *book == pilot), "the pilot depot");
+    let rows = rows(&page, PILOT_CALLS);
+    for row in &rows {
+        let last = format!("{}\n", codes(row[1])[0]);
+        let book = String::from_utf8(changed(&pilot, pilot.lines().count(), last.as_bytes())).expect("digits");
+        let answer = codes(row[3])[0];
+        assert_eq!(Session::of(book).call(codes(row[2])[0]), answer, "{row:?}");
+        told(row, answer);
+    }
+    assert_eq!(codes(rows[0][1])[0], pilot.lines().next_back().expect("a query"));
+    assert!(rows.len() >= 9, "{} calls", rows.len());
 }
 
 #[test]

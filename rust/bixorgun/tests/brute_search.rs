@@ -1,21 +1,23 @@
-//! Small depots drawn from a seed, each planned, and searched over every ledger that chains of requests reach. The
-//! search knows open, request and show alone.
+//! Small depots drawn from a seed, each planned, its page filled, and searched over every ledger that chains of
+//! requests reach. The search knows open, request and show alone.
 //!
-//! The planner is a parameter: wrong planners in its place have to be caught.
+//! The planner is a parameter: wrong planners in its place have to be caught. So is what fills the page.
 
 mod depots;
 mod search;
 mod seed;
 mod trials;
+mod wrong_pages;
 mod wrong_planners;
 
 use std::collections::BTreeMap;
 use std::sync::OnceLock;
 
 use bixorgun::bytes::{self, Planned};
-use bixorgun::{Judgement, Refusal};
+use bixorgun::{Judgement, Refusal, PAGE_SIZE};
 
 use depots::{is_adding, Depot, Fact};
+use search::Reached;
 use seed::Seed;
 use wrong_planners::{RIGHT, WRONG};
 
@@ -28,14 +30,17 @@ const SHOWN: usize = 5;
 /// A planner: it writes its plan of a depot's book to the front of a lent buffer.
 type Planner = fn(&Depot, &mut [u8]) -> Result<Planned, Refusal>;
 
-/// What stands in a plan buffer before planning. No request has such a byte.
+/// What fills the page of a depot's book into a lent table.
+type Pager = fn(&Depot, &mut [u8]) -> Result<(), Refusal>;
+
+/// What stands in a lent buffer before. No request has such a byte, and no row of a small depot's page.
 const FILLING: u8 = 0xA5;
 
 /// A drawn depot with what the search found.
 struct Searched {
     depot: Depot,
     is_met_at_start: bool,
-    is_reachable: bool,
+    reached: Reached,
 }
 
 /// The depots, drawn and searched once for all tests.
@@ -50,8 +55,8 @@ fn searched() -> &'static [Searched] {
 impl Searched {
     fn of(depot: Depot) -> Self {
         let is_met_at_start = depot.draft.is_met(&depot.draft.open());
-        let is_reachable = search::is_reachable(&depot);
-        Searched { depot, is_met_at_start, is_reachable }
+        let reached = search::walk(&depot);
+        Searched { depot, is_met_at_start, reached }
     }
 }
 
@@ -78,12 +83,12 @@ fn judge(searched: &Searched, planner: Planner) -> Result<Finding, Difference> {
     let mut out = vec![FILLING; 10 * depot.tracked()];
     let finding = match planner(depot, &mut out) {
         Ok(Planned::NoWay) => {
-            ensure(!searched.is_reachable, "no way, though there is one")?;
+            ensure(!searched.reached.query, "no way, though there is one")?;
             ensure(is_kept(&out), "a byte written on no way")?;
             Finding::NoWay
         }
         Ok(Planned::Plan(count)) => {
-            ensure(searched.is_reachable, "a plan, though there is no way")?;
+            ensure(searched.reached.query, "a plan, though there is no way")?;
             ensure(5 * count <= out.len(), "more than 2 × F requests")?;
             let (plan, behind) = out.split_at(5 * count);
             ensure(is_kept(behind), "a byte written behind the plan")?;
@@ -172,27 +177,130 @@ fn the_planner_agrees_with_the_search() {
     assert!(deleting > 0 && longest > 0);
 }
 
-/// How often a planner differs from the search, by the first difference in each depot.
-fn differences(planner: Planner) -> BTreeMap<Difference, usize> {
+/// A page beside what the walk found, bit by bit; then tables that are a byte shorter and a byte longer.
+fn judge_page(searched: &Searched, pager: Pager) -> Result<(), Difference> {
+    let depot = &searched.depot;
+    let mut table = [FILLING; PAGE_SIZE];
+    ensure(pager(depot, &mut table).is_ok(), "the book refused")?;
+    let (rows, absent) = table.split_at(16 * usize::from(depot.sizes.persons));
+    ensure(absent.iter().all(|&byte| byte == 0), "a bit set of an absent person, attribute or value")?;
+    let full = depot.sizes.full_row().into_iter().cycle();
+    for ((byte, held), full) in rows.iter().zip(searched.reached.held).zip(full) {
+        ensure(byte & !full == 0, "a bit set of an absent person, attribute or value")?;
+        ensure(byte & !held == 0, "a bit set, though no ledger has it")?;
+        ensure(held & !byte == 0, "a bit clear, though a ledger has it")?;
+    }
+    for length in [PAGE_SIZE - 1, PAGE_SIZE + 1] {
+        let mut other = vec![FILLING; length];
+        let answer = pager(depot, &mut other);
+        ensure(answer == Err(Refusal::ShortPlanBuffer), "a table of another length not refused by 10")?;
+        ensure(is_kept(&other), "a byte written to a table of another length")?;
+    }
+    Ok(())
+}
+
+/// How often something differs from the search, by the first difference in each depot.
+fn differences(found: impl Fn(&Searched) -> Option<Difference>) -> BTreeMap<Difference, usize> {
     let mut counts = BTreeMap::new();
-    for difference in searched().iter().filter_map(|searched| judge(searched, planner).err()) {
+    for difference in searched().iter().filter_map(found) {
         *counts.entry(difference).or_default() += 1;
     }
     counts
+}
+
+/// Prints what is wrong in how many depots; it has to be wrong in one.
+fn expect_caught(fault: &str, counts: &BTreeMap<Difference, usize>) {
+    let total: usize = counts.values().sum();
+    let each: Vec<String> = counts.iter().map(|(difference, count)| format!("{count} {difference}")).collect();
+    println!("{fault}: {total} differences ({})", each.join("; "));
+    assert!(total > 0, "{fault}: not caught");
 }
 
 /// Each wrong planner is caught, and the small planner that most of them are is right without its fault.
 #[test]
 fn wrong_planners_are_caught() {
     for right in RIGHT {
-        assert_eq!(differences(right), BTreeMap::new());
+        assert_eq!(differences(|searched| judge(searched, right).err()), BTreeMap::new());
     }
     for (fault, planner) in WRONG {
-        let counts = differences(planner);
-        let total: usize = counts.values().sum();
-        let each: Vec<String> = counts.iter().map(|(difference, count)| format!("{count} {difference}")).collect();
-        println!("{fault}: {total} differences ({})", each.join("; "));
-        assert!(total > 0, "{fault}: not caught");
+        expect_caught(fault, &differences(|searched| judge(searched, planner).err()));
+    }
+}
+
+/// What the walks came to, and the bits that they set.
+#[derive(Debug, Default, PartialEq, Eq)]
+struct Walks {
+    ledgers: usize,
+    /// The most of one depot.
+    most: usize,
+    /// Bits of persons and values that the depots have: set at the start, set in a later ledger alone, and clear.
+    start: usize,
+    later: usize,
+    clear: usize,
+    /// Depots where a later ledger sets a bit, and those of them whose own query has no way.
+    gaining: usize,
+    no_way: usize,
+    /// Depots of two persons, and those of them where later ledgers set other bits of the one than of the other.
+    two_persons: usize,
+    unlike: usize,
+}
+
+impl Walks {
+    fn count(&mut self, Searched { depot, reached, .. }: &Searched) {
+        let ones = |bytes: &[u8]| bytes.iter().map(|byte| byte.count_ones() as usize).sum::<usize>();
+        let mut start = Reached::default();
+        start.note(depot, &depot.draft.open());
+        let later: Vec<u8> = reached.held.iter().zip(start.held).map(|(held, start)| held & !start).collect();
+        let all = usize::from(depot.sizes.persons) * ones(&depot.sizes.full_row());
+        self.ledgers += reached.ledgers;
+        self.most = self.most.max(reached.ledgers);
+        self.start += ones(&start.held);
+        self.later += ones(&later);
+        self.clear += all - ones(&reached.held);
+        self.gaining += usize::from(ones(&later) > 0);
+        self.no_way += usize::from(ones(&later) > 0 && !reached.query);
+        self.two_persons += usize::from(depot.sizes.persons == 2);
+        self.unlike += usize::from(depot.sizes.persons == 2 && later[..16] != later[16..32]);
+    }
+}
+
+/// The library's page agrees with the walk on every bit of every depot.
+#[test]
+fn the_page_agrees_with_the_search() {
+    let mut walks = Walks::default();
+    let mut differences = 0;
+    for searched in searched() {
+        walks.count(searched);
+        if let Err(difference) = judge_page(searched, |depot, table| bytes::page(depot.draft.text(), table)) {
+            differences += 1;
+            if differences <= SHOWN {
+                println!("{difference}:\n{}", String::from_utf8_lossy(searched.depot.draft.text()));
+            }
+        }
+    }
+    println!("{walks:?}");
+    println!("differences {differences}");
+    assert_eq!(differences, 0);
+    let expected = Walks {
+        ledgers: 540_712,
+        most: 2_048,
+        start: 28_716,
+        later: 15_711,
+        clear: 20_066,
+        gaining: 10_021,
+        no_way: 6_256,
+        two_persons: 3_457,
+        unlike: 1_684,
+    };
+    assert_eq!(walks, expected);
+}
+
+/// Each wrong page is caught, and the small page that most of them are is right without its fault.
+#[test]
+fn wrong_pages_are_caught() {
+    assert_eq!(differences(|searched| judge_page(searched, wrong_pages::right).err()), BTreeMap::new());
+    for (fault, pager) in wrong_pages::WRONG {
+        expect_caught(fault, &differences(|searched| judge_page(searched, pager).err()));
     }
 }
 

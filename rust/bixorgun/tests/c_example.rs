@@ -1,15 +1,16 @@
 //! `examples/c/plan_book.c`, built by the C compiler (`CC`, else `cc`) against the header and the archive, says of each
-//! stored book what this crate says, tells a lead why a request is refused, and has this crate's version. A second
-//! program reads rule and term out of answers by the header's inline functions, and a third reckons the plan's buffer.
+//! stored book what this crate says and lists its page, tells a lead why a request is refused, and has this crate's
+//! version. By the header's inline functions a second program reads rule and term out of answers, a third reckons the
+//! plan's buffer, and a fourth reads every bit of a page.
 
 use std::env;
 use std::fmt::Write as _;
-use std::fs;
+use std::fs::{self, File};
 use std::path::{Path, PathBuf};
 use std::process::{Command, Output};
 use std::sync::OnceLock;
 
-use bixorgun::{bytes, Answer, Book, Person, Refusal, View, LEDGER_SIZE};
+use bixorgun::{bytes, Answer, Book, Person, Refusal, View, LEDGER_SIZE, PAGE_SIZE};
 
 fn repository() -> PathBuf {
     [env!("CARGO_MANIFEST_DIR"), "..", ".."].iter().collect()
@@ -75,31 +76,74 @@ fn said(characters: &str) -> Result<String, Refusal> {
     Ok(text)
 }
 
-fn compare(name: &str, book: &str, ran: &Output) {
+/// What the example lists of an accepted book's page, by the bytes of the table.
+fn listed(characters: &str) -> Result<String, Refusal> {
+    let mut table = [0xA5; PAGE_SIZE];
+    bytes::page(characters.as_bytes(), &mut table)?;
+    let mut text = String::new();
+    for (place, two) in table.chunks_exact(2).enumerate() {
+        let set = u16::from_be_bytes([two[0], two[1]]);
+        if set != 0 {
+            let (person, attr) = (place / 8, place % 8);
+            let values: String = (0..16).filter(|value| set >> value & 1 == 1).map(|v| format!(" {v}")).collect();
+            writeln!(text, "person {person}, attribute {attr}: values{values}").expect("a string takes all");
+        }
+    }
+    Ok(if text.is_empty() { "nobody\n".to_owned() } else { text })
+}
+
+/// Sees that the example printed what is said here, or the refusal of an operation.
+fn compare(name: &str, operation: &str, said: Result<String, Refusal>, ran: &Output) {
     let (out, err) = (String::from_utf8_lossy(&ran.stdout), String::from_utf8_lossy(&ran.stderr));
-    match said(book) {
+    match said {
         Ok(text) => assert_eq!((ran.status.code(), &*out, &*err), (Some(0), &*text, ""), "{name}"),
         Err(refusal) => {
             let line = refusal.line().unwrap_or(0);
-            let text = format!("plan: result 1, refusal {}, line {line}\n", refusal.number());
+            let text = format!("{operation}: result 1, refusal {}, line {line}\n", refusal.number());
             assert_eq!((ran.status.code(), &*out, &*err), (Some(1), "", &*text), "{name}");
         }
     }
 }
 
+/// The stored books that are planned, with their paths.
+fn stored() -> Vec<(PathBuf, String)> {
+    let data = repository().join("crates/books/data");
+    let mut paths: Vec<PathBuf> =
+        fs::read_dir(&data).expect("the stored books").map(|entry| entry.expect("a name").path()).collect();
+    paths.retain(|path| path.extension().is_some_and(|end| end == "book"));
+    paths.sort();
+    assert!(paths.len() >= 82, "{} books", paths.len());
+    let read = |path: PathBuf| (path.clone(), fs::read_to_string(path).expect("a stored book"));
+    paths.into_iter().map(read).collect()
+}
+
 #[test]
 fn c_says_the_same_of_each_stored_book() {
-    let data = repository().join("crates/books/data");
-    let mut books: Vec<PathBuf> =
-        fs::read_dir(&data).expect("the stored books").map(|entry| entry.expect("a name").path()).collect();
-    books.retain(|path| path.extension().is_some_and(|end| end == "book"));
-    books.sort();
-    assert!(books.len() >= 82, "{} books", books.len());
-    for path in books {
-        let book = fs::read_to_string(&path).expect("a stored book");
+    for (path, book) in stored() {
         let ran = Command::new(program()).arg(&path).output().expect("the example runs");
-        compare(&path.display().to_string(), &book, &ran);
+        compare(&path.display().to_string(), "plan", said(&book), &ran);
     }
+}
+
+#[test]
+fn c_lists_the_same_page_of_each_stored_book() {
+    let (mut nobody, mut lines, mut refused) = (0, 0, 0);
+    for (path, book) in stored() {
+        let ran = Command::new(program()).arg("--page").arg(&path).output().expect("the example runs");
+        let listed = listed(&book);
+        match &listed {
+            Ok(text) if text == "nobody\n" => nobody += 1,
+            Ok(text) => lines += text.lines().count(),
+            Err(_) => refused += 1,
+        }
+        compare(&path.display().to_string(), "page", listed, &ran);
+    }
+    assert!(nobody > 0 && lines > 0 && refused > 0, "{nobody} of nobody, {lines} lines, {refused} refused");
+
+    let pilot = repository().join("crates/books/data/pilot.book");
+    let from_input = Command::new(program()).arg("--page").stdin(File::open(pilot).expect("a stored book")).output();
+    let text = "person 0, attribute 0: values 0 1\nperson 0, attribute 1: values 0\n";
+    assert_eq!(from_input.expect("the example runs").stdout, text.as_bytes());
 }
 
 /// The pilot depot of README.md. By rule 1 role 0 assigns to the crew, which holds grade 0; by rule 2 role 1 adds grade
@@ -194,6 +238,50 @@ fn c_reckons_the_plans_buffer() {
     let expected: String =
         pairs.iter().map(|&(crews, values)| format!("{}\n", bixorgun::plan_size(crews, values))).collect();
     assert_eq!(String::from_utf8_lossy(&ran.stdout), format!("{expected}42560\n"));
+}
+
+/// Reads a page on its standard input and prints each set and then its bits, a line for each person; beyond the last
+/// person, attribute and value too.
+const PAGE_BITS: &str = r#"
+#include <stdio.h>
+#include "bixorgun.h"
+
+int main(void)
+{
+    static uint8_t table[BIXORGUN_PAGE_SIZE];
+    if (fread(table, 1, sizeof table, stdin) != sizeof table)
+        return 1;
+    for (unsigned person = 0; person < 66; person++) {
+        for (unsigned attr = 0; attr < 10; attr++) {
+            printf("%04X", bixorgun_page_set(table, person, attr));
+            for (unsigned value = 0; value < 40; value++)
+                putchar('0' + bixorgun_page_has(table, person, attr, value));
+        }
+        putchar('\n');
+    }
+    return 0;
+}
+"#;
+
+/// A table in which every set is another one. What is absent is 0.
+#[test]
+fn c_reads_every_bit_of_a_page() {
+    let table: Vec<u8> = (0..512_u16).flat_map(|place| place.wrapping_mul(40_503).to_be_bytes()).collect();
+    let path = Path::new(env!("CARGO_TARGET_TMPDIR")).join("page");
+    fs::write(&path, &table).expect("the table is written");
+    let program = written("page_bits", PAGE_BITS);
+    let ran = Command::new(program).stdin(File::open(path).expect("the table")).output().expect("it runs");
+    let mut text = String::new();
+    for person in 0..66 {
+        for attr in 0..10 {
+            let two = (person < 64 && attr < 8).then(|| &table[16 * person + 2 * attr..][..2]);
+            let set = two.map_or(0, |two| u16::from_be_bytes([two[0], two[1]]));
+            let bits: String = (0..40).map(|value| if u64::from(set) >> value & 1 == 1 { '1' } else { '0' }).collect();
+            write!(text, "{set:04X}{bits}").expect("a string takes all");
+        }
+        text.push('\n');
+    }
+    assert_eq!(String::from_utf8_lossy(&ran.stdout), text);
 }
 
 #[test]

@@ -1,4 +1,4 @@
-//! The library against `reference`, the second implementation: seeded books, good and damaged, and all five operations.
+//! The library against `reference`, the second implementation: seeded books, good and damaged, and all six operations.
 //!
 //! Each case is drawn from its own seed; a case that fails prints the seed and the book. Each run counts what it saw and
 //! wants every refusal of every operation, and every answer, at least once. The plan alone is left open: of it the runs
@@ -11,6 +11,9 @@
 //!
 //! Each attribute has its own count of values. Each run of drawn books counts those whose counts are not all the same, what
 //! became of them, and what was refused for a value that a neighbour has: another attribute of the same book.
+//!
+//! Every book has its page filled, over a pattern, and so has every book with one bit changed: all 1,024 bytes are
+//! compared. Each run counts the bits, and wants half of what was measured: [`PAGES`].
 
 use std::env;
 use std::fs;
@@ -18,21 +21,25 @@ use std::path::PathBuf;
 use std::thread::panicking;
 
 use bixorgun::bytes::{self, Planned, Shown};
-use bixorgun::{plan_size, Attr, Book, Judgement, Ledger, Person, Refusal, Request, LEDGER_SIZE, PLAN_MAX, VIEW_SIZE};
-use reference::book::Sizes;
+use bixorgun::{
+    plan_size, Attr, Book, Judgement, Ledger, Page, Person, Refusal, Request, LEDGER_SIZE, PAGE_SIZE, PLAN_MAX,
+    VIEW_SIZE,
+};
+use reference::book::{Mode, Sizes};
 use reference::gen::{self, Draft, Rng};
 use reference::plan::{closure, demand};
 use reference::replay::Verdict;
-use reference::{book, ledger, plan, replay};
+use reference::{book, ledger, page, plan, replay};
 
-const OPERATIONS: [&str; 5] = ["open", "request", "show", "plan", "replay"];
+const OPERATIONS: [&str; 6] = ["open", "request", "show", "plan", "replay", "page"];
 const OPEN: usize = 0;
 const REQUEST: usize = 1;
 const SHOW: usize = 2;
 const PLAN: usize = 3;
 const REPLAY: usize = 4;
+const PAGE: usize = 5;
 
-const ANSWERS: [&str; 10] = [
+const ANSWERS: [&str; 11] = [
     "open done",
     "request done, changed",
     "request done, equal",
@@ -43,19 +50,21 @@ const ANSWERS: [&str; 10] = [
     "reaches",
     "stops",
     "ends short",
+    "page done",
 ];
 
 /// How often each refusal of each operation and each answer was seen.
 #[derive(Default)]
 struct Counts {
     books: usize,
-    refusals: [[usize; 16]; 5],
+    refusals: [[usize; 16]; OPERATIONS.len()],
     answers: [usize; ANSWERS.len()],
     bits: usize,
     requests: usize,
     longest: usize,
     ladders: Ladders,
     ranges: Ranges,
+    pages: Pages,
     /// Of requests as they were drawn, and of those where one bit of the ledger and of the book is another.
     matches: Matches,
     bent_ledgers: Matches,
@@ -446,6 +455,82 @@ fn neighbours_bits(sizes: &Sizes, bytes: &[u8]) -> Option<[bool; 2]> {
     }))
 }
 
+/// What each run measured of [`Counts::page_counts`].
+const PAGES: [(&str, [usize; 12]); 10] = [
+    ("small", [39_451, 2_686, 219_020, 67_706, 73_402, 38_026, 64_563, 27_443, 5_672, 6_228, 28_255, 2_242]),
+    ("small and aimed", [26_154, 1_730, 147_140, 44_594, 48_712, 30_405, 36_778, 26_154, 1_827, 4_806, 18_440, 1_442]),
+    ("middle", [9_533, 748, 55_098, 16_843, 85_026, 52_254, 67_999, 6_643, 2_797, 4_593, 7_310, 622]),
+    ("tangled", [3_158, 246, 18_536, 5_532, 461, 12_858, 3_113, 3_158, 497, 0, 2_374, 87]),
+    ("zigzags", [3_144, 232, 17_428, 6_076, 395, 56_556, 14_566, 3_144, 679, 0, 2_932, 1_364]),
+    ("graded", [6_188, 554, 35_142, 12_055, 1_603, 9_892, 147_947, 3_729, 2_342, 0, 5_867, 715]),
+    ("crowded", [6_384, 490, 37_480, 10_844, 26_739, 1_633, 37_939, 4_403, 512, 540, 4_460, 367]),
+    ("staffed", [2_466, 208, 14_662, 4_501, 145_952, 304_258, 474_130, 1_949, 989, 2_044, 2_035, 685]),
+    ("large", [405, 24, 2_002, 765, 374_403, 448_072, 308_384, 356, 109, 358, 360, 47]),
+    ("stored", [830, 32, 10_512, 1_724, 179_105, 101_400, 642_345, 330, 99, 160, 894, 131]),
+];
+
+type Table = [u8; PAGE_SIZE];
+
+/// What the pages of accepted books have. The pages here are the library's; the reference's have been seen to be the
+/// same.
+#[derive(Default)]
+struct Pages {
+    given: usize,
+    /// Bits of persons and values that the books have: set for what show gives of the opened ledger, set for what takes
+    /// requests, and clear.
+    start: usize,
+    gained: usize,
+    clear: usize,
+    /// Of books of mode 02, of books whose own query gets no way and where a bit takes requests, and of books where
+    /// such bits are not the same for all persons.
+    mode_02: usize,
+    no_way: usize,
+    unlike: usize,
+    /// Of books with one bit changed, and those of them that are another than before.
+    bent: usize,
+    another: usize,
+}
+
+impl Pages {
+    /// The page of an accepted book, and whether its own query gets no way.
+    fn given(&mut self, text: &[u8], book: &book::Book, table: &Table, no_way: bool) {
+        let start = at_the_start(text, book.sizes.persons);
+        assert!(table.iter().zip(&start).all(|(byte, start)| start & !byte == 0), "the start takes no request");
+        let gained: Vec<u8> = table.iter().zip(&start).map(|(byte, start)| byte & !start).collect();
+        let persons = usize::from(book.sizes.persons);
+        self.given += 1;
+        self.start += ones(&start);
+        self.gained += ones(&gained);
+        self.clear += persons * book.sizes.pairs().count() - ones(table);
+        self.mode_02 += usize::from(book.query.mode != Mode::AtLeast);
+        self.no_way += usize::from(no_way && ones(&gained) > 0);
+        self.unlike += usize::from(gained.chunks_exact(16).take(persons).any(|row| *row != gained[..16]));
+    }
+
+    /// The page before a bit of the book was changed and after.
+    fn beside(&mut self, before: Option<Table>, after: Option<Table>) {
+        self.bent += usize::from(after.is_some());
+        self.another += usize::from(before.zip(after).is_some_and(|(before, after)| before != after));
+    }
+}
+
+/// How many bits are set.
+fn ones(bytes: &[u8]) -> usize {
+    bytes.iter().map(|byte| byte.count_ones() as usize).sum()
+}
+
+/// What each person effectively holds at the start, as a page has it: by show of the opened ledger.
+fn at_the_start(text: &[u8], persons: u8) -> Table {
+    let ledger = Book::new(text).open().expect("an accepted book").into_bytes();
+    let mut table = [0; PAGE_SIZE];
+    for (person, row) in (0..persons).zip(table.chunks_exact_mut(16)) {
+        let mut view = [0; VIEW_SIZE];
+        assert_eq!(bytes::show_into(text, &ledger, Person(person), &mut view), Ok(Shown::Done));
+        row.copy_from_slice(&view[..16]);
+    }
+    table
+}
+
 /// An accepted book with ladder terms, and the two that tell what rests on them. The answers here are the reference's;
 /// the library's have been seen to be the same.
 struct Twins<'b> {
@@ -519,9 +604,40 @@ impl Counts {
         self.bent_books.print("a book's bit");
     }
 
+    /// What came of page.
+    fn page_counts(&self) -> [(&'static str, usize); 12] {
+        let (pages, refusals) = (&self.pages, &self.refusals[PAGE]);
+        [
+            ("given", pages.given),
+            ("the fewest of 1 to 9", *refusals[1..10].iter().min().expect("nine refusals")),
+            ("1 to 9", refusals[1..10].iter().sum()),
+            ("10", refusals[10]),
+            ("bits set at the start", pages.start),
+            ("bits set by requests", pages.gained),
+            ("bits clear", pages.clear),
+            ("of mode 02", pages.mode_02),
+            ("of no way, with bits set by requests", pages.no_way),
+            ("of persons who differ in these", pages.unlike),
+            ("with a book's bit changed", pages.bent),
+            ("another by that bit", pages.another),
+        ]
+    }
+
+    fn print_pages(&self) {
+        println!("  pages, {}", self.page_counts().map(|(name, times)| format!("{name}: {times}")).join(", "));
+    }
+
+    /// Of every count of page there is half of what was measured in this run.
+    fn pages_seen(&self, run: &str) {
+        let (_, measured) = PAGES.into_iter().find(|(name, _)| *name == run).expect("a measured run");
+        for ((name, times), measured) in self.page_counts().into_iter().zip(measured) {
+            assert!(2 * times >= measured, "pages, {name}: {times}, measured {measured}");
+        }
+    }
+
     /// Every refusal that the header gives an operation was seen, and no other; every answer was seen.
     fn all_seen(&self) {
-        let own: [&[usize]; 5] = [&[11], &[11, 12, 13, 15], &[11, 12], &[10], &[14]];
+        let own: [&[usize]; OPERATIONS.len()] = [&[11], &[11, 12, 13, 15], &[11, 12], &[10], &[14], &[10]];
         for ((operation, numbers), own) in OPERATIONS.iter().zip(&self.refusals).zip(own) {
             for (n, &times) in numbers.iter().enumerate() {
                 let expected = (1..10).contains(&n) || own.contains(&n);
@@ -608,6 +724,13 @@ fn of_plan(refusal: plan::Refusal) -> Turned {
 fn of_replay(refusal: replay::Refusal) -> Turned {
     match refusal {
         replay::Refusal::Book(refusal) => of_book(refusal),
+        other => Turned::lone(other.number()),
+    }
+}
+
+fn of_page(refusal: page::Refusal) -> Turned {
+    match refusal {
+        page::Refusal::Book(refusal) => of_book(refusal),
         other => Turned::lone(other.number()),
     }
 }
@@ -714,6 +837,40 @@ impl Case {
         answer.ok()
     }
 
+    /// Fills a table of a length, over a pattern; gives the page.
+    fn page(&self, length: usize, rng: &mut Rng, counts: &mut Counts) -> Option<Table> {
+        let before = filled(rng, length);
+        let (mut here, mut there) = (before.clone(), before.clone());
+        let answer = bytes::page(&self.text, &mut here).map_err(ours);
+        assert_eq!(answer, page::page(&self.text, &mut there).map_err(of_page), "page, {length} bytes");
+        assert_eq!(here, there, "page, {length} bytes, the table");
+        match answer {
+            Ok(()) => {
+                counts.answer("page done");
+                let table = here.try_into().expect("a page of another length");
+                assert_eq!(Book::new(&self.text).page(), Ok(Page::from(table)));
+                Some(table)
+            }
+            Err(turned) => {
+                assert_eq!(here, before, "page, {length} bytes, refused");
+                // The typed page lends a table of the right length.
+                assert!(turned.number == 10 || Book::new(&self.text).page().map_err(ours) == Err(turned));
+                counts.refusals[PAGE][usize::from(turned.number)] += 1;
+                None
+            }
+        }
+    }
+
+    /// Its page, and then a table of another length: the book's own refusal comes first, else 10 falls.
+    fn pages(&self, rng: &mut Rng, counts: &mut Counts) -> Option<Table> {
+        let table = self.page(PAGE_SIZE, rng, counts);
+        let other = rng.pick(&[0, 1, PAGE_SIZE - 1, PAGE_SIZE + 1, 2 * PAGE_SIZE]);
+        let by_10 = counts.refusals[PAGE][10];
+        assert_eq!(self.page(other, rng, counts), None, "{other} bytes");
+        assert_eq!(counts.refusals[PAGE][10] > by_10, table.is_some(), "{other} bytes");
+        table
+    }
+
     /// Plans in a buffer of a length; both plans are then replayed by both, whole and damaged.
     fn plan(&self, length: usize, rng: &mut Rng, counts: &mut Counts) -> Option<Planned> {
         let before = filled(rng, length);
@@ -777,7 +934,8 @@ fn request(book: Option<&book::Book>, sizes: &Sizes, rng: &mut Rng) -> [u8; 5] {
     }
 }
 
-/// A request with one bit of the ledger, of itself and of the book changed, each beside the others as they were.
+/// A request with one bit of the ledger, of itself and of the book changed, each beside the others as they were. Gives
+/// the changed book.
 fn bend(
     case: &Case,
     book: Option<&book::Book>,
@@ -785,7 +943,7 @@ fn bend(
     whole: &[u8; LEDGER_SIZE],
     rng: &mut Rng,
     counts: &mut Counts,
-) {
+) -> Vec<u8> {
     let asked = request(book, &sizes, rng);
     let mut ledger = *whole;
     gen::bent_ledger(rng, &sizes, &mut ledger);
@@ -795,19 +953,20 @@ fn bend(
     let mut other = asked;
     other[rng.below(5)] ^= 1 << rng.below(8);
     case.request(whole, &other, counts);
-    let bent = Case { run: case.run, seed: case.seed, text: gen::bent_book(rng, &case.text) };
-    bent.request(whole, &asked, counts);
+    let bent = gen::bent_book(rng, &case.text);
+    Case { run: case.run, seed: case.seed, text: bent.clone() }.request(whole, &asked, counts);
     counts.bits += 3;
 
-    let Some(book) = book else { return };
+    let Some(book) = book else { return bent };
     counts.matches.request(book, whole, &other);
     let before = counts.matches.request(book, whole, &asked);
     let after = counts.bent_ledgers.request(book, &ledger, &asked);
     counts.bent_ledgers.beside(before, after);
-    if let Ok(book) = book::read(&bent.text) {
+    if let Ok(book) = book::read(&bent) {
         let after = counts.bent_books.request(&book, whole, &asked);
         counts.bent_books.beside(before, after);
     }
+    bent
 }
 
 /// An accepted book with a request and with ledgers that have a neighbour's value.
@@ -825,7 +984,7 @@ fn neighbours(case: &Case, sizes: &Sizes, whole: &[u8], rng: &mut Rng, counts: &
     counts.ranges.show(sizes, &ledger);
 }
 
-/// All five operations on one book: what is lent is now good and now bad.
+/// All six operations on one book: what is lent is now good and now bad.
 fn operate(case: &Case, sizes: Sizes, rng: &mut Rng, counts: &mut Counts) {
     counts.books += 1;
     let book = book::read(&case.text);
@@ -874,8 +1033,9 @@ fn operate(case: &Case, sizes: Sizes, rng: &mut Rng, counts: &mut Counts) {
     if book.is_some() && rng.percent(25) {
         neighbours(case, &sizes, &bytes, rng, counts);
     }
+    let mut bent = Vec::new();
     if let Ok(whole) = <&[u8; LEDGER_SIZE]>::try_from(&bytes[..]) {
-        (0..2).for_each(|_| bend(case, book.as_ref(), sizes, whole, rng, counts));
+        bent.extend((0..2).map(|_| bend(case, book.as_ref(), sizes, whole, rng, counts)));
     }
 
     let need = 10 * sizes.facts();
@@ -902,6 +1062,16 @@ fn operate(case: &Case, sizes: Sizes, rng: &mut Rng, counts: &mut Counts) {
     case.replay(&list, counts);
     if let Some(twins) = twins.filter(|_| list.len().is_multiple_of(5)) {
         twins.replay(&list, &mut counts.ladders);
+    }
+
+    let table = case.pages(rng, counts);
+    assert_eq!(table.is_some(), book.is_some());
+    if let Some((book, table)) = book.as_ref().zip(table) {
+        counts.pages.given(&case.text, book, &table, planned == Some(Planned::NoWay));
+    }
+    for text in bent {
+        let changed = Case { run: case.run, seed: case.seed, text }.pages(rng, counts);
+        counts.pages.beside(table, changed);
     }
 }
 
@@ -956,9 +1126,11 @@ fn run(name: &'static str, first: u64, cases: u64, draw: impl Fn(&mut Rng) -> Dr
     counts.ladders.print();
     counts.print_matches();
     counts.ranges.print();
+    counts.print_pages();
     counts.all_seen();
     counts.matches.all_seen("requests", cases as usize / 200);
     counts.ranges.all_seen(cases as usize / 1_000);
+    counts.pages_seen(name);
     counts
 }
 
@@ -1009,6 +1181,25 @@ fn crowded() {
     let Matches { several, later_term, later_permits, highest, .. } = counts.matches;
     assert!(several > 2_000 && later_term > 1_000 && later_permits > 2_000);
     assert!(highest.0 > 400 && highest.1 == 8, "{highest:?}");
+}
+
+/// A depot of many persons, now and then of 64, most with starting facts of their own.
+fn staffed_book(rng: &mut Rng) -> Draft {
+    let mut draft = match rng.below(5) {
+        0 => gen::tangled_book(rng, (4, 3, 4)),
+        1 => gen::zigzag_book(rng, 6, 8),
+        2 => gen::graded_book(rng, (6, 4, 8)),
+        3 => gen::crowded_book(rng),
+        _ => gen::middle_book(rng),
+    };
+    let persons = if rng.percent(20) { 64 } else { rng.byte(5, 63) };
+    gen::staff(rng, &mut draft, persons, 2 * usize::from(persons));
+    draft
+}
+
+#[test]
+fn staffed() {
+    run("staffed", 0x0B1C_A000_0000, 4_000, staffed_book);
 }
 
 #[test]
@@ -1076,10 +1267,12 @@ fn long_lines() {
             counts.ranges.refused(&case.text, refusal, &sizes);
         }
         case.open(&filled(&mut rng, LEDGER_SIZE), &mut counts);
+        case.pages(&mut rng, &mut counts);
     }
     counts.print("long lines");
     counts.ranges.print();
     assert!((2..=5).all(|number| counts.refusals[OPEN][number] > 100));
+    assert!((2..=5).all(|number| counts.refusals[PAGE][number] == 2 * counts.refusals[OPEN][number]));
     for (name, times) in FIRST_LINES.iter().zip(counts.ranges.first_lines).filter(|(name, _)| name.contains("64")) {
         assert!(times > 100, "{name}: {times}");
     }
@@ -1104,7 +1297,9 @@ fn stored() {
     counts.ladders.print();
     counts.print_matches();
     counts.ranges.print();
+    counts.print_pages();
     counts.all_seen();
     counts.matches.all_seen("requests", 1);
+    counts.pages_seen("stored");
     assert!(counts.books > 1_000);
 }

@@ -5,7 +5,7 @@ use std::collections::BTreeMap;
 use std::fs;
 use std::path::PathBuf;
 
-use bixorgun::{Refusal, BOOK_MAX, LEDGER_SIZE, PLAN_MAX, REQUEST_SIZE, STACK, VIEW_SIZE};
+use bixorgun::{Refusal, BOOK_MAX, LEDGER_SIZE, PAGE_SIZE, PLAN_MAX, REQUEST_SIZE, STACK, VIEW_SIZE};
 use bixorgun::{VERSION, VERSION_MAJOR, VERSION_MINOR, VERSION_PATCH};
 
 /// What the header defines, by the name behind `BIXORGUN_`: the first word of each definition, without comments.
@@ -39,6 +39,7 @@ fn the_sizes_are_the_same_in_c_and_rust() {
         ("LEDGER_SIZE", LEDGER_SIZE),
         ("REQUEST_SIZE", REQUEST_SIZE),
         ("VIEW_SIZE", VIEW_SIZE),
+        ("PAGE_SIZE", PAGE_SIZE),
         ("PLAN_MAX", PLAN_MAX),
         ("STACK", STACK),
     ];

@@ -1,11 +1,12 @@
 //! Plans of thousands of requests at the largest sizes, each carried out request by request and replayed whole and
-//! damaged. What replay must answer to a damaged plan is found by request and show.
+//! damaged. What replay must answer to a damaged plan is found by request and show. The pages of the same books, whose
+//! bits follow from how they are made.
 
 mod seed;
 mod trials;
 
 use bixorgun::bytes::{self, Planned};
-use bixorgun::{Judgement, PLAN_MAX};
+use bixorgun::{Judgement, PAGE_SIZE, PLAN_MAX};
 
 use seed::Seed;
 use trials::{Draft, Ledger};
@@ -305,4 +306,77 @@ fn replay_of_long_plans_whole_and_damaged() {
     assert!(left_out.iter().all(|&count| count > 0), "left out: {left_out:?}");
     assert!(doubled[0] > 0 && doubled[2] > 0, "doubled: {doubled:?}");
     assert!(swapped[0] > 0 && swapped[2] > 0, "swapped: {swapped:?}");
+}
+
+/// Fills a book's page, and compares it with one on which each person has so many of the row's first values. How many
+/// bits are set.
+fn try_page(frames: Frames, counts: Counts, values: impl Fn(u8) -> usize) -> usize {
+    let row = row_of(counts);
+    let mut expected = [0; PAGE_SIZE];
+    for (person, sets) in (0..).zip(expected.chunks_exact_mut(16)) {
+        for &[a, v] in &row[..values(person)] {
+            // Big-endian: values from 8 on stand in the first of two bytes.
+            sets[2 * usize::from(a) + usize::from(v < 8)] |= 1 << (v % 8);
+        }
+    }
+    let mut table = [0xA5; PAGE_SIZE];
+    assert_eq!(bytes::page(Draft::new(frames).text(), &mut table), Ok(()));
+    for (at, (byte, expected)) in table.iter().zip(expected).enumerate() {
+        assert_eq!(*byte, expected, "byte {at}");
+    }
+    table.iter().map(|byte| byte.count_ones() as usize).sum()
+}
+
+/// Who comes to hold every value; all others come to hold none.
+#[derive(Clone, Copy)]
+enum Who {
+    Nobody,
+    One(u8),
+    Everybody,
+}
+
+/// Tries a book with each of some sets of roles.
+fn try_roles(name: &str, mut frames: Frames, counts: Counts, roles: &[(u8, Who)]) {
+    let all = row_of(counts).len();
+    for &(roles, who) in roles {
+        frames.last_mut().expect("a query")[3..5].copy_from_slice(&[0, roles]);
+        let bits = try_page(frames.clone(), counts, |person| match who {
+            Who::Everybody => all,
+            Who::One(one) if one == person => all,
+            _ => 0,
+        });
+        println!("{name}, roles {roles:04b}: {bits} bits");
+    }
+}
+
+/// Nobody holds a value at the start. Roles that add to persons bring everybody all values; those that add to crews
+/// bring them to who is in crew 31, and with those that let anybody join it they bring them to everybody.
+#[test]
+fn pages_by_roles() {
+    use Who::{Everybody, Nobody, One};
+    try_roles("chain", chain(), FULL, &[(0b0, Nobody), (0b1, Everybody)]);
+    let of_free = [(0b1100, Nobody), (0b0101, One(62)), (0b0010, Everybody), (0b1001, Everybody), (0b1111, Everybody)];
+    try_roles("free", free(), FULL, &of_free);
+    try_roles("dense", dense(), FULL, &[(0b01, One(17)), (0b10, Everybody), (0b11, Everybody)]);
+    let of_row = [(0b010, Nobody), (0b001, One(0)), (0b011, Everybody), (0b100, Everybody), (0b111, Everybody)];
+    try_roles("row", row(), FULL, &of_row);
+    try_roles("uneven", uneven(), UNEVEN, &[(0b01, One(63)), (0b10, Everybody), (0b11, Everybody)]);
+}
+
+/// Without the rule that adds the value at a place of the row to a person, everybody stops there, since each value
+/// needs the one before it. Who is in crew 31 has all values through it.
+#[test]
+fn pages_of_rows_that_stop() {
+    let books = [("chain", chain(), FULL, 5), ("dense", dense(), FULL, 17), ("uneven", uneven(), UNEVEN, 63)];
+    for (name, frames, counts, member) in books {
+        let row = row_of(counts);
+        let mut bits = 0;
+        for place in 0..row.len() {
+            let [a, v] = row[place];
+            let mut frames = frames.clone();
+            frames.retain(|frame| frame[0] != 3 || frame[1] != 1 || frame[3..5] != [a, v]);
+            bits += try_page(frames, counts, |person| if person == member { row.len() } else { place });
+        }
+        println!("{name}, {} pages: {bits} bits", row.len());
+    }
 }

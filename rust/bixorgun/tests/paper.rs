@@ -1,8 +1,8 @@
-//! The specification's example, D1 to D12, and the shapes of answers.
+//! The specification's example, D1 to D12, the sentences on the page, and the shapes of answers.
 
 use bixorgun::bytes::{self, Planned, Shown};
-use bixorgun::{Act, Answer, Attr, Book, Crew, Judgement, Ledger, Person, Plan, Refusal, Request, Role, Value};
-use bixorgun::{LEDGER_SIZE, PLAN_MAX, VIEW_SIZE};
+use bixorgun::{Act, Answer, Attr, Book, Crew, Judgement, Ledger, Page, Person, Plan, Refusal, Request, Role, Value};
+use bixorgun::{LEDGER_SIZE, PAGE_SIZE, PLAN_MAX, VIEW_SIZE};
 
 mod printed;
 use printed::printed;
@@ -197,6 +197,105 @@ fn a_plan_fills_the_front() {
         assert_eq!(bytes::plan_into(d2.as_bytes(), &mut buffer), Ok(Planned::NoWay));
         assert_eq!(buffer, before);
     }
+}
+
+/// The page of a book, filled over bytes that are not a page's.
+fn page(book: &str) -> Page {
+    let mut table = [0xA5; PAGE_SIZE];
+    bytes::page(book.as_bytes(), &mut table).expect("accepted");
+    let page = Page::from(table);
+    assert_eq!(Book::new(book).page(), Ok(page.clone()));
+    page
+}
+
+/// A sorter in the night shift (person 0, crew 1), a trainee (1) and a driver with lane 1 (2); three grades and two
+/// lanes. The night shift is above the returns crew (0), which holds grade 0. Role 0 assigns to the returns crew who holds
+/// lane 1; role 1 adds lane 0 to who has grade 1 or higher, and deletes lane 1; role 2 adds grade 1 to a crew that has
+/// grade 0.
+const DEPOT: &str = "010302020302\n020100\n0402000000\n0403000100\n0401020101\n030302000101020000\n\
+                     030500000001010101\n030101010001050001\n030201010100\n";
+
+/// "A bit is set exactly when the mode 01 query for that person, that value alone and the roles of the book's query
+/// would get a plan.", here for every set of the roles 0 to 2, asked of plan bit by bit.
+#[test]
+fn a_bit_of_the_page_is_a_query() {
+    let counts = (0..8).map(|roles| {
+        let page = page(&format!("{DEPOT}050100{roles:04X}00\n"));
+        let mut count = 0;
+        for (person, attr, values) in (0..3).flat_map(|person| [(person, 0, 3), (person, 1, 2)]) {
+            for value in 0..values {
+                let query = format!("0501{person:02X}{roles:04X}01{attr:02X}{:04X}\n", 1 << value);
+                let way = planned(&format!("{DEPOT}{query}")).is_some();
+                assert_eq!(page.reaches(Person(person), Attr(attr), Value(value)), way, "{query}");
+                count += usize::from(way);
+            }
+        }
+        assert_eq!(page.iter().len(), count, "no other bit is set");
+        count
+    });
+    assert!(counts.eq([2, 3, 2, 3, 3, 5, 4, 7]));
+}
+
+/// "the roles of the book's query": its mode, person, sets and crews do not matter, and it may have no way.
+#[test]
+fn of_the_query_the_page_takes_the_roles() {
+    let first = page(&format!("{DEPOT}050100000700\n"));
+    let others = ["050102000700", "050101000702000007010003", "05020000070000000000", "05020200070100000000000003"];
+    for query in others {
+        assert_eq!(page(&format!("{DEPOT}{query}\n")), first, "{query}");
+    }
+    assert_eq!(planned(&format!("{DEPOT}05020000070000000000\n")), None, "nobody removes her from the night shift");
+}
+
+/// "for each person a two-byte set for each of eight attributes, 1,024 bytes. [..] Bytes of absent persons and
+/// attributes are 0."
+#[test]
+fn the_pages_places() {
+    let last = page("014020081010101010101010\n04013F070F\n0401000008\n050100000000\n");
+    assert_eq!(format!("{last:?}"), "Page {(0, 0): {8}, (63, 7): {15}}");
+    assert_eq!((&last.as_bytes()[..2], &last.as_bytes()[1_022..]), (&[1, 0][..], &[0x80, 0][..]));
+    // The first of these facts alone, in the smallest sizes that have it.
+    let small = page("0101000109\n0401000008\n050100000000\n");
+    assert_eq!(small.as_bytes()[..2], [1, 0]);
+    assert!(small.as_bytes()[2..].iter().all(|&byte| byte == 0));
+    for person in 0..=255 {
+        for attr in 0..=255 {
+            let there = (person, attr) == (0, 0);
+            assert_eq!(small.values(Person(person), Attr(attr)).is_empty(), !there, "{person}, {attr}");
+            for value in [0, 7, 8, 9, 15, 16, 24, 255] {
+                let reaches = small.reaches(Person(person), Attr(attr), Value(value));
+                assert_eq!(reaches, there && value == 8, "{person}, {attr}, {value}");
+            }
+        }
+    }
+}
+
+/// The pilot depot, whose sorter was lent to the returns crew by one lead and raised by a second, so that a third could
+/// give her lane control.
+#[test]
+fn a_page_iterates() {
+    let data = concat!(env!("CARGO_MANIFEST_DIR"), "/../../crates/books/data/pilot.book");
+    let pilot = page(&std::fs::read_to_string(data).expect("a stored book"));
+    let (sorter, grade, lane) = (Person(0), Attr(0), Attr(1));
+    let all = [(sorter, grade, Value(0)), (sorter, grade, Value(1)), (sorter, lane, Value(0))];
+    assert!(pilot.iter().eq(all));
+    assert!((&pilot).into_iter().eq(all));
+    assert_eq!(format!("{pilot:?}"), "Page {(0, 0): {0, 1}, (0, 1): {0}}");
+    assert!(pilot.reaches(sorter, lane, Value(0)) && !pilot.reaches(sorter, lane, Value(1)));
+    assert_eq!(pilot.values(sorter, grade).bits(), 0b11);
+    let mut left = pilot.iter();
+    for count in (0..3).rev() {
+        assert!(left.next().is_some());
+        assert_eq!((left.len(), left.size_hint()), (count, (count, Some(count))));
+    }
+    assert_eq!((left.next(), left.next(), left.len()), (None, None, 0));
+    // Every bit that a table can have, in rising order.
+    let full = Page::from([0xFF; PAGE_SIZE]);
+    assert_eq!(full.iter().len(), 64 * 8 * 16);
+    assert!(full.iter().is_sorted_by(|a, b| a < b) && full.iter().count() == 64 * 8 * 16);
+    assert!(full.iter().all(|(person, attr, value)| full.reaches(person, attr, value)));
+    let empty = page("0101000102\n050100FFFF00\n");
+    assert_eq!((empty.iter().next(), format!("{empty:?}")), (None, "Page {}".to_owned()));
 }
 
 #[test]

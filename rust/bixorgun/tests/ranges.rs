@@ -5,7 +5,9 @@
 mod lent;
 
 use bixorgun::bytes::{self, Planned};
-use bixorgun::{plan_size, Attr, Book, Crew, Judgement, Ledger, Person, Refusal, LEDGER_SIZE, PLAN_MAX, VIEW_SIZE};
+use bixorgun::{
+    plan_size, Attr, Book, Crew, Judgement, Ledger, Person, Refusal, LEDGER_SIZE, PAGE_SIZE, PLAN_MAX, VIEW_SIZE,
+};
 use lent::{kept, pattern};
 
 /// The counts of books of 2, 3 and 8 attributes; no two neighbours have the same.
@@ -46,7 +48,7 @@ fn numbers() -> impl Iterator<Item = [u8; 2]> {
     (0..=8).chain([255]).flat_map(|a| (0..=16).chain([255]).map(move |v| [a, v]))
 }
 
-/// What all five operations say of a book: its refusal, and what they were lent is as it was; or none of 1 to 9.
+/// What all six operations say of a book: its refusal, and what they were lent is as it was; or none of 1 to 9.
 fn judged(text: &str) -> Result<(), Refusal> {
     let (book, any) = (text.as_bytes(), [1, 0, 0, 0, 0]);
     let opened = Book::new(text).open();
@@ -58,6 +60,7 @@ fn judged(text: &str) -> Result<(), Refusal> {
         ));
         assert!(bytes::show(book, &ledger, Person(0)).is_ok(), "{text}");
         assert!(Book::new(text).plan().is_ok() && bytes::replay(book, &any).is_ok(), "{text}");
+        assert_eq!(bytes::page(book, &mut pattern(PAGE_SIZE)), Ok(()), "{text}");
         return Ok(());
     };
     let refusals = [
@@ -66,8 +69,9 @@ fn judged(text: &str) -> Result<(), Refusal> {
         kept(&ledger, |lent| bytes::request(book, lent, &any).err()),
         kept(&pattern(VIEW_SIZE), |lent| bytes::show_into(book, &ledger, Person(0), lent).err()),
         kept(&pattern(PLAN_MAX), |lent| bytes::plan_into(book, lent).err()),
+        kept(&pattern(PAGE_SIZE), |lent| bytes::page(book, lent).err()),
     ];
-    assert_eq!(refusals, [refusal; 5], "{text}");
+    assert_eq!(refusals, [refusal; 6], "{text}");
     assert_eq!(bytes::replay(book, &any), Err(refusal), "{text}");
     Err(refusal)
 }
@@ -210,6 +214,41 @@ fn sets_of_show() {
                 assert_eq!(u32::from(view.values(Attr(a)).bits()), own, "attribute {a}, {text}");
             }
             assert_eq!(view.crews().contains(Crew(0)), lines.starts_with("02"));
+        }
+    }
+}
+
+/// The page of a book, over bytes that are not a page's.
+fn page(text: &str) -> [u8; PAGE_SIZE] {
+    let mut table = [0xA5; PAGE_SIZE];
+    assert_eq!(bytes::page(text.as_bytes(), &mut table), Ok(()), "{text}");
+    table
+}
+
+/// The page on which so many persons, from 0 on, have such a set of each attribute: two bytes at 16·p + 2·a,
+/// big-endian.
+fn paged(persons: u8, set: impl Fn(u8) -> u32) -> [u8; PAGE_SIZE] {
+    let mut table = [0; PAGE_SIZE];
+    for (p, a) in (0..persons).flat_map(|p| (0..8).map(move |a| (p, a))) {
+        let [.., high, low] = set(a).to_be_bytes();
+        table[16 * usize::from(p) + 2 * usize::from(a)..][..2].copy_from_slice(&[high, low]);
+    }
+    table
+}
+
+/// Person 0 is in crew 1, the senior of crew 0. All that there is, and then each value alone, is held by person 0, held
+/// by crew 0, may be added to anybody, or to a crew: the page has each attribute's own values, and not a bit beyond.
+#[test]
+fn sets_of_pages() {
+    let ways: [(&[u8], u8); 4] = [(&[4, 1, 0], 1), (&[4, 2, 0], 1), (&[3, 1, 0], PERSONS), (&[3, 3, 0], 1)];
+    for (counts, (front, persons)) in COUNTS.into_iter().flat_map(|counts| ways.map(|way| (counts, way))) {
+        let line = |[a, v]: [u8; 2]| hex(&[front, &[a, v]].concat()) + if front[0] == 3 { "00\n" } else { "\n" };
+        let text = |lines: String| small(counts, &format!("020100\n0403000100\n{lines}"), QUERY);
+        let all = text(values(counts).map(line).collect());
+        assert_eq!(page(&all), paged(persons, |a| (1 << count_of(counts, a)) - 1), "{all}");
+        for [a, v] in values(counts) {
+            let alone = text(line([a, v]));
+            assert_eq!(page(&alone), paged(persons, |b| u32::from(a == b) << v), "{alone}");
         }
     }
 }

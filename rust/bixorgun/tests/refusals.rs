@@ -4,13 +4,13 @@
 mod lent;
 
 use bixorgun::bytes;
-use bixorgun::{Book, Judgement, Person, Refusal, LEDGER_SIZE};
+use bixorgun::{Book, Judgement, Person, Refusal, LEDGER_SIZE, PAGE_SIZE};
 use lent::{kept, pattern};
 
 const GOOD: &[u8] = b"0101010102\n030100000000\n050100FFFF00\n";
 
-/// The words of each refusal, 1 to 15: those of the specification's table, of 4 with the A of frame 01, and a lead's
-/// for 13 and for 15, here of rule 3 and its term 2.
+/// The words of each refusal, 1 to 15: those of the specification's table, of 4 with the A of frame 01, of 10 with the
+/// page's table, and a lead's for 13 and for 15, here of rule 3 and its term 2.
 const WORDS: [&str; 15] = [
     "over 65,536 characters",
     "empty line, odd digits, another character, last line unended",
@@ -21,7 +21,7 @@ const WORDS: [&str; 15] = [
     "term 03 or 04 in ops 01-04",
     "the 513th rule",
     "query attributes not rising",
-    "plan buffer under 10 × F",
+    "plan buffer under 10 × F; page table not 1,024 bytes",
     "ledger not 1,792 bytes or a bit outside the sizes",
     "request not five bytes or field out of range; no such person to show",
     "no rule of the book matches the request's op, role, a and v",
@@ -65,7 +65,7 @@ fn bad_books() -> Vec<(Vec<u8>, Refusal)> {
     ]
 }
 
-/// All five operations give the book's refusal before anything else, and write nothing.
+/// All six operations give the book's refusal before anything else, and write nothing.
 #[test]
 fn one_to_nine() {
     let mut numbers = Vec::new();
@@ -83,10 +83,17 @@ fn one_to_nine() {
             assert_eq!(kept(&before, |out| bytes::plan_into(&text, out).err()), refusal, "{shown}");
             assert_eq!(bytes::replay(&text, &before), Err(refusal), "{shown}");
         }
+        // A table of a page's length and others, which an accepted book gets 10 for.
+        for length in [0, PAGE_SIZE - 1, PAGE_SIZE, PAGE_SIZE + 1] {
+            for before in [vec![0; length], vec![0xFF; length], pattern(length)] {
+                assert_eq!(kept(&before, |table| bytes::page(&text, table).err()), refusal, "{shown}");
+            }
+        }
         let book = Book::new(&text);
         assert_eq!(book.open(), Err(refusal));
         assert_eq!(book.plan(), Err(refusal));
         assert_eq!(book.replay([]), Err(refusal));
+        assert_eq!(book.page(), Err(refusal));
         numbers.push(refusal.number());
     }
     numbers.dedup();
@@ -123,6 +130,29 @@ fn ten() {
         assert_eq!(kept(&before, |out| bytes::plan_into(GOOD, out).err()), Refusal::ShortPlanBuffer);
     }
     assert!(bytes::plan_into(GOOD, &mut vec![0; need]).is_ok());
+}
+
+/// "A table of another length is refused under 10.", shorter and longer, also where nobody can act, where the book's own
+/// query has no way, and where the book has all 64 persons. One of 1,024 bytes is written whole.
+#[test]
+fn ten_of_a_page() {
+    let books: [(&[u8], u8); 4] = [
+        (GOOD, 0b01),
+        (b"0101010102\n030100000000\n050100000000\n", 0b00),
+        (b"0101010102\n0401000001\n050200FFFF0100000000000000\n", 0b10),
+        (b"014020081010101010101010\n0401000000\n050100FFFF00\n", 0b01),
+    ];
+    for (book, first) in books {
+        for length in (0..=2 * PAGE_SIZE).filter(|&length| length != PAGE_SIZE) {
+            let before = pattern(length);
+            assert_eq!(kept(&before, |table| bytes::page(book, table).err()), Refusal::ShortPlanBuffer, "{length}");
+        }
+        let mut table = pattern(PAGE_SIZE);
+        assert_eq!(bytes::page(book, &mut table), Ok(()));
+        let (set, rest) = table.split_at(2);
+        assert_eq!(set, [0, first]);
+        assert!(rest.iter().all(|&byte| byte == 0));
+    }
 }
 
 #[test]

@@ -10,7 +10,7 @@ use std::sync::Arc;
 use std::thread;
 
 use bixorgun::bytes::{self, Planned};
-use bixorgun::{Person, BOOK_MAX, LEDGER_SIZE, PLAN_MAX, REQUEST_SIZE, STACK, VIEW_SIZE};
+use bixorgun::{Person, BOOK_MAX, LEDGER_SIZE, PAGE_SIZE, PLAN_MAX, REQUEST_SIZE, STACK, VIEW_SIZE};
 
 /// The stack of a thread with whose answers those of the documented stack are compared.
 const LARGE: usize = 16 << 20;
@@ -75,8 +75,12 @@ fn plan(case: &Case) -> Done {
     lent(vec![0xA5; PLAN_MAX], |out| bytes::plan_into(&case.book, out))
 }
 
-const OPERATIONS: [(&str, Operation); 5] =
-    [("open", open), ("request", request), ("show", show), ("replay", replay), ("plan", plan)];
+fn page(case: &Case) -> Done {
+    lent(vec![0xA5; PAGE_SIZE], |table| bytes::page(&case.book, table))
+}
+
+const OPERATIONS: [(&str, Operation); 6] =
+    [("open", open), ("request", request), ("show", show), ("replay", replay), ("plan", plan), ("page", page)];
 
 /// Runs an operation on a thread of its own.
 fn on_stack(stack: usize, operation: Operation, case: &Arc<Case>) -> Done {

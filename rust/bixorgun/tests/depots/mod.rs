@@ -86,6 +86,15 @@ impl Sizes {
         self.counts[usize::from(a)]
     }
 
+    /// A person's row of a page that has every value: two bytes for each attribute, big-endian.
+    pub fn full_row(self) -> [u8; 16] {
+        let mut row = [0; 16];
+        for (set, count) in row.chunks_exact_mut(2).zip(self.counts) {
+            set.copy_from_slice(&((1_u16 << count) - 1).to_be_bytes());
+        }
+        row
+    }
+
     fn fact_count(self) -> usize {
         let [persons, crews] = [self.persons, self.crews].map(usize::from);
         let values: usize = self.counts.map(usize::from).iter().sum();

@@ -2,7 +2,7 @@
 //!
 //! A ledger is a number here, a state: fact i of the depot has the weight 2^i.
 
-use bixorgun::{bytes, LEDGER_SIZE};
+use bixorgun::{bytes, Attr, LEDGER_SIZE, PAGE_SIZE};
 
 use crate::depots::{is_adding, Depot, Fact};
 use crate::trials::Ledger;
@@ -21,20 +21,54 @@ struct Search<'d> {
     queue: Vec<usize>,
 }
 
-/// Whether some chain of requests leads from the starting facts to a ledger that meets the query.
-pub fn is_reachable(depot: &Depot) -> bool {
+/// What is true of some ledger that a chain of requests leads to from the starting facts.
+pub struct Reached {
+    /// It meets the query.
+    pub query: bool,
+    /// A person effectively holds a value in it: bit v of two bytes at 16·p + 2·a, big-endian.
+    pub held: [u8; PAGE_SIZE],
+    /// How many such ledgers there are.
+    pub ledgers: usize,
+}
+
+impl Default for Reached {
+    fn default() -> Self {
+        Reached { query: false, held: [0; PAGE_SIZE], ledgers: 0 }
+    }
+}
+
+impl Reached {
+    /// Notes a ledger, by what show gives of each person. One who was seen with every value is shown no more, but for
+    /// the query: nothing is left to note.
+    pub fn note(&mut self, depot: &Depot, ledger: &Ledger) {
+        self.ledgers += 1;
+        let full = depot.sizes.full_row();
+        for (person, row) in (0..depot.sizes.persons).zip(self.held.chunks_exact_mut(16)) {
+            let is_asked = person == depot.draft.query()[2] && !self.query;
+            if *row == full && !is_asked {
+                continue;
+            }
+            let view = depot.draft.show(ledger, person);
+            for (a, set) in (0..).zip(row.chunks_exact_mut(2)) {
+                set.iter_mut().zip(view.values(Attr(a)).bits().to_be_bytes()).for_each(|(byte, bits)| *byte |= bits);
+            }
+            self.query |= is_asked && depot.draft.is_met_by(ledger, &view);
+        }
+    }
+}
+
+/// Walks through every ledger that chains of requests reach, to the last.
+pub fn walk(depot: &Depot) -> Reached {
     let seen = vec![false; 1 << depot.facts.len()];
     let mut search = Search { depot, moves: moves_of(depot), seen, queue: Vec::new() };
     search.enter(search.state_of(&depot.draft.open()));
-    let mut head = 0;
-    while let Some(&state) = search.queue.get(head) {
-        if depot.draft.is_met(&search.ledger_of(state)) {
-            return true;
-        }
-        search.expand(state);
-        head += 1;
+    let mut reached = Reached::default();
+    while let Some(&state) = search.queue.get(reached.ledgers) {
+        let ledger = search.ledger_of(state);
+        reached.note(depot, &ledger);
+        search.expand(state, &ledger);
     }
-    false
+    reached
 }
 
 /// The requests that may be permitted, on any person and crew: one that no rule names, or of a role outside the
@@ -77,16 +111,16 @@ impl Search<'_> {
         }
     }
 
-    /// The states one move from a state. A move to a state that was seen is not tried: it leads to nothing new.
-    fn expand(&mut self, state: usize) {
-        let ledger = self.ledger_of(state);
+    /// The states one move from a state, whose ledger is given. A move to a state that was seen is not tried: it leads
+    /// to nothing new.
+    fn expand(&mut self, state: usize, ledger: &Ledger) {
         for i in 0..self.moves.len() {
             let Move { request, fact } = &self.moves[i];
             let aim = if is_adding(request[0]) { state | 1 << fact } else { state & !(1 << fact) };
             if self.seen[aim] {
                 continue;
             }
-            let mut next = ledger;
+            let mut next = *ledger;
             if bytes::request(self.depot.draft.text(), &mut next, request).is_ok() {
                 self.enter(self.state_of(&next));
             }

@@ -1,7 +1,7 @@
 //! Requests carried out one by one, and the query judged, by open, request and show alone: nothing here is replay's
 //! or the planner's.
 
-use bixorgun::{bytes, Attr, Person, LEDGER_SIZE};
+use bixorgun::{bytes, Attr, Person, View, LEDGER_SIZE};
 
 /// A ledger's bytes.
 pub type Ledger = [u8; LEDGER_SIZE];
@@ -51,11 +51,20 @@ impl Draft {
         self.asks(request[1]) && bytes::request(&self.text, ledger, request).is_ok()
     }
 
+    /// What show gives of a person.
+    pub fn show(&self, ledger: &Ledger, person: u8) -> View {
+        bytes::show(&self.text, ledger, Person(person)).expect("a good ledger")
+    }
+
     /// Whether a ledger meets the query, by what show gives and the ledger's own bytes of the person's crews.
     pub fn is_met(&self, ledger: &Ledger) -> bool {
+        self.is_met_by(ledger, &self.show(ledger, self.query()[2]))
+    }
+
+    /// The same, where show has given this of the query's person.
+    pub fn is_met_by(&self, ledger: &Ledger, view: &View) -> bool {
         let &[_, mode, person, _, _, q, ref rest @ ..] = self.query() else { panic!("a query") };
         let (sets, crews) = rest.split_at(3 * usize::from(q));
-        let view = bytes::show(&self.text, ledger, Person(person)).expect("a good ledger");
         let met = sets.chunks_exact(3).all(|set| {
             let held = view.values(Attr(set[0])).bits();
             let wanted = u16::from_be_bytes([set[1], set[2]]);

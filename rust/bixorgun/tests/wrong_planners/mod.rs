@@ -2,10 +2,10 @@
 //! some damage the answer of the library's planner, and the others are the small planner of `model` with a fault, which
 //! is right without one.
 
-mod model;
+pub mod model;
 
 use bixorgun::bytes::{self, Planned};
-use bixorgun::{plan_size, Refusal, PLAN_MAX};
+use bixorgun::{plan_size, Refusal};
 
 use crate::depots::Depot;
 use crate::Planner;
@@ -13,8 +13,8 @@ use model::{Fault, Model, Move};
 
 /// The wrong planners by their faults.
 pub const WRONG: [(&str, Planner); 26] = [
-    ("no way to every book", |depot, out| answer(depot, out, None)),
-    ("the empty plan to every book", |depot, out| answer(depot, out, Some(Vec::new()))),
+    ("no way to every book", |depot, out| answer(depot, out, || None)),
+    ("the empty plan to every book", |depot, out| answer(depot, out, || Some(Vec::new()))),
     ("rules of roles outside the query used", |depot, out| small(depot, out, Fault::RolesIgnored)),
     ("all added that can be, then deleted", add_all),
     ("deleted in any order that is permitted", |depot, out| in_two_steps(depot, out, cleared_as_permitted)),
@@ -57,11 +57,11 @@ fn most(depot: &Depot) -> usize {
 }
 
 /// Gives an answer as a planner does: refusal 10 on a short buffer, else no way, or the plan in the buffer's front.
-fn answer(depot: &Depot, out: &mut [u8], plan: Option<Requests>) -> Result<Planned, Refusal> {
+fn answer(depot: &Depot, out: &mut [u8], plan: impl FnOnce() -> Option<Requests>) -> Result<Planned, Refusal> {
     if out.len() < 5 * most(depot) {
         return Err(Refusal::ShortPlanBuffer);
     }
-    let Some(plan) = plan else { return Ok(Planned::NoWay) };
+    let Some(plan) = plan() else { return Ok(Planned::NoWay) };
     write(&plan, out);
     Ok(Planned::Plan(plan.len()))
 }
@@ -72,7 +72,7 @@ fn write(plan: &[[u8; 5]], out: &mut [u8]) {
 
 /// The plan of the library's planner; nothing where there is no way.
 fn planned(depot: &Depot) -> Option<Requests> {
-    let mut buffer = [0; PLAN_MAX];
+    let mut buffer = vec![0; 5 * most(depot)];
     match bytes::plan_into(depot.draft.text(), &mut buffer).expect("a good book") {
         Planned::NoWay => None,
         Planned::Plan(count) => {
@@ -87,21 +87,21 @@ fn requests(moves: &[&Move]) -> Requests {
 }
 
 fn small(depot: &Depot, out: &mut [u8], fault: Fault) -> Result<Planned, Refusal> {
-    let model = Model::of(depot, fault);
-    let way = model.shortest(model.start, |_| true, |state| model.is_met(state));
-    answer(depot, out, way.map(|way| requests(&way)))
+    answer(depot, out, || {
+        let model = Model::of(depot, fault);
+        let way = model.shortest(model.start, |_| true, |state| model.is_met(state))?;
+        Some(requests(&way))
+    })
 }
 
 /// Adds whatever can be added, and then looks for deletions.
 fn add_all(depot: &Depot, out: &mut [u8]) -> Result<Planned, Refusal> {
-    let model = Model::of(depot, Fault::None);
-    let (state, mut way) = as_permitted(&model, model.start, |step| step.adds);
-    let rest = model.shortest(state, |step| !step.adds, |state| model.is_met(state));
-    let plan = rest.map(|rest| {
-        way.extend(rest);
-        requests(&way)
-    });
-    answer(depot, out, plan)
+    answer(depot, out, || {
+        let model = Model::of(depot, Fault::None);
+        let (state, mut way) = as_permitted(&model, model.start, |step| step.adds);
+        way.extend(model.shortest(state, |step| !step.adds, |state| model.is_met(state))?);
+        Some(requests(&way))
+    })
 }
 
 /// Looks for additions, and then deletes what stands in the way. Without the order of the deletions as a fault this is
@@ -111,14 +111,13 @@ fn in_two_steps(
     out: &mut [u8],
     cleared: fn(&Model, u16) -> Option<Vec<&Move>>,
 ) -> Result<Planned, Refusal> {
-    let model = Model::of(depot, Fault::None);
-    let additions = model.shortest(model.start, |step| step.adds, |state| cleared(&model, state).is_some());
-    let plan = additions.map(|mut way| {
+    answer(depot, out, || {
+        let model = Model::of(depot, Fault::None);
+        let mut way = model.shortest(model.start, |step| step.adds, |state| cleared(&model, state).is_some())?;
         let state = way.iter().try_fold(model.start, |state, step| model.after(state, step));
         way.extend(state.and_then(|state| cleared(&model, state)).expect("deletions"));
-        requests(&way)
-    });
-    answer(depot, out, plan)
+        Some(requests(&way))
+    })
 }
 
 /// Deletes what stands in the way, each fact as soon as it is permitted: the deletions, where they meet the query.
@@ -133,7 +132,7 @@ fn cleared_by_search(model: &Model, state: u16) -> Option<Vec<&Move>> {
 }
 
 /// Makes every change of a kind that is permitted, in the order of the rules, until none is left.
-fn as_permitted(model: &Model, start: u16, chosen: impl Fn(&Move) -> bool) -> (u16, Vec<&Move>) {
+pub fn as_permitted(model: &Model, start: u16, chosen: impl Fn(&Move) -> bool) -> (u16, Vec<&Move>) {
     let (mut state, mut way) = (start, Vec::new());
     let change = |state, step| model.after(state, step).filter(|&next| next != state).map(|next| (next, step));
     while let Some((next, step)) = model.moves.iter().filter(|step| chosen(step)).find_map(|step| change(state, step)) {
@@ -144,30 +143,34 @@ fn as_permitted(model: &Model, start: u16, chosen: impl Fn(&Move) -> bool) -> (u
 }
 
 fn leave_out_last(depot: &Depot, out: &mut [u8]) -> Result<Planned, Refusal> {
-    let mut plan = planned(depot);
-    plan.as_mut().and_then(Vec::pop);
-    answer(depot, out, plan)
+    answer(depot, out, || {
+        let mut plan = planned(depot)?;
+        plan.pop();
+        Some(plan)
+    })
 }
 
 /// Doubles the first request, where there is one and room for one more.
 fn double_first(depot: &Depot, out: &mut [u8]) -> Result<Planned, Refusal> {
-    let mut plan = planned(depot);
-    if let Some(plan) = plan.as_mut().filter(|plan| !plan.is_empty() && plan.len() < most(depot)) {
-        plan.insert(0, plan[0]);
-    }
-    answer(depot, out, plan)
+    answer(depot, out, || {
+        let mut plan = planned(depot)?;
+        if !plan.is_empty() && plan.len() < most(depot) {
+            plan.insert(0, plan[0]);
+        }
+        Some(plan)
+    })
 }
 
 /// Deletes an added fact and adds it again, where both are permitted and there is room for two more.
 fn add_again(depot: &Depot, out: &mut [u8]) -> Result<Planned, Refusal> {
-    let model = Model::of(depot, Fault::None);
-    let mut way = model.shortest(model.start, |_| true, |state| model.is_met(state));
-    if let Some(way) = way.as_mut().filter(|way| way.len() + 2 <= most(depot)) {
-        if let Some((at, back)) = undone(&model, way) {
+    answer(depot, out, || {
+        let model = Model::of(depot, Fault::None);
+        let mut way = model.shortest(model.start, |_| true, |state| model.is_met(state))?;
+        if let Some((at, back)) = undone(&model, &way).filter(|_| way.len() + 2 <= most(depot)) {
             way.splice(at..at, [way[at], back]);
         }
-    }
-    answer(depot, out, way.map(|way| requests(&way)))
+        Some(requests(&way))
+    })
 }
 
 /// The first addition of a way that can be undone and made again, by its place, and the deletion that does it.
@@ -183,7 +186,7 @@ fn undone<'m>(model: &'m Model, way: &[&'m Move]) -> Option<(usize, &'m Move)> {
 
 /// Counts a request more than was written, or one less where there is no room for more.
 fn miscount(depot: &Depot, out: &mut [u8]) -> Result<Planned, Refusal> {
-    Ok(match answer(depot, out, planned(depot))? {
+    Ok(match answer(depot, out, || planned(depot))? {
         Planned::Plan(count) if count < most(depot) => Planned::Plan(count + 1),
         Planned::Plan(count) => Planned::Plan(count - 1),
         Planned::NoWay => Planned::NoWay,
@@ -191,7 +194,7 @@ fn miscount(depot: &Depot, out: &mut [u8]) -> Result<Planned, Refusal> {
 }
 
 fn write_behind(depot: &Depot, out: &mut [u8]) -> Result<Planned, Refusal> {
-    let planned = answer(depot, out, planned(depot))?;
+    let planned = answer(depot, out, || planned(depot))?;
     if let Planned::Plan(count) = planned {
         out.iter_mut().skip(5 * count).take(1).for_each(|byte| *byte = 0);
     }
@@ -199,7 +202,7 @@ fn write_behind(depot: &Depot, out: &mut [u8]) -> Result<Planned, Refusal> {
 }
 
 fn write_on_no_way(depot: &Depot, out: &mut [u8]) -> Result<Planned, Refusal> {
-    let planned = answer(depot, out, planned(depot))?;
+    let planned = answer(depot, out, || planned(depot))?;
     if planned == Planned::NoWay {
         out[0] = 0;
     }

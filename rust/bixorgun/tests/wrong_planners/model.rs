@@ -1,7 +1,7 @@
 //! A small planner over drawn depots, right unless it is given a fault. It calls no operation of the library.
 //!
 //! A ledger is a number, a state: fact i of the depot has the weight 2^i. Of the persons' facts it looks at those
-//! of the query's person alone.
+//! of one person alone, the query's unless another is taken in its place.
 
 use std::ops::Range;
 
@@ -42,7 +42,7 @@ pub enum Fault {
 }
 
 /// A condition on a state: one of some facts is there, or both sides of one of some pairs of such sets are.
-struct Condition {
+pub struct Condition {
     any: u16,
     pairs: Vec<(u16, u16)>,
 }
@@ -78,11 +78,11 @@ pub struct Model {
 }
 
 impl Condition {
-    fn holds(&self, state: u16) -> bool {
+    pub fn holds(&self, state: u16) -> bool {
         state & self.any != 0 || self.pairs.iter().any(|&(one, other)| state & one != 0 && state & other != 0)
     }
 
-    fn of(any: u16) -> Self {
+    pub fn of(any: u16) -> Self {
         Condition { any, pairs: Vec::new() }
     }
 
@@ -101,8 +101,8 @@ impl Condition {
 }
 
 /// What terms and queries are made of: each fact's weight, and from which crews a crew has what.
-struct Weights<'d> {
-    depot: &'d Depot,
+pub struct Weights<'d> {
+    pub depot: &'d Depot,
     fault: Fault,
     /// The crews whose direct values each crew effectively holds.
     sources: Vec<Vec<u8>>,
@@ -111,7 +111,7 @@ struct Weights<'d> {
 }
 
 impl<'d> Weights<'d> {
-    fn of(depot: &'d Depot, fault: Fault) -> Self {
+    pub fn of(depot: &'d Depot, fault: Fault) -> Self {
         let crews = 0..depot.sizes.crews;
         let below: Vec<Vec<u8>> = crews.clone().map(|crew| crews_below(depot, crew)).collect();
         let above = |crew: u8| crews.clone().filter(|&other| below[usize::from(other)].contains(&crew)).collect();
@@ -133,7 +133,7 @@ impl<'d> Weights<'d> {
     }
 
     /// How many values an attribute has, of those that it has.
-    fn values(&self, a: u8) -> u8 {
+    pub fn values(&self, a: u8) -> u8 {
         let own = self.depot.sizes.values(a);
         match self.fault {
             Fault::ValuesOfFirst => own.min(self.depot.sizes.values(0)),
@@ -141,7 +141,7 @@ impl<'d> Weights<'d> {
         }
     }
 
-    fn own(&self, person: u8, a: u8, v: u8) -> u16 {
+    pub fn own(&self, person: u8, a: u8, v: u8) -> u16 {
         self.fact(Fact { kind: 1, subject: person, a, v })
     }
 
@@ -157,7 +157,7 @@ impl<'d> Weights<'d> {
         self.sources[usize::from(crew)].iter().map(|&source| self.crew_own(source, a, v)).sum()
     }
 
-    fn person_holds(&self, person: u8, a: u8, v: u8) -> Condition {
+    pub fn person_holds(&self, person: u8, a: u8, v: u8) -> Condition {
         let crews = 0..self.depot.sizes.crews;
         let pairs = crews.map(|crew| (self.member(person, crew), self.crew_holds(crew, a, v))).collect();
         Condition { any: self.own(person, a, v), pairs }
@@ -239,19 +239,23 @@ fn crews_below(depot: &Depot, crew: u8) -> Vec<u8> {
 
 impl Model {
     pub fn of(depot: &Depot, fault: Fault) -> Self {
-        let weights = Weights::of(depot, fault);
-        let facts = depot.draft.frames.iter().filter(|frame| frame[0] == 4);
+        Model::of_person(&Weights::of(depot, fault), depot.draft.query()[2])
+    }
+
+    /// The depot as it is with another person in its query.
+    pub fn of_person(weights: &Weights<'_>, person: u8) -> Self {
+        let facts = weights.depot.draft.frames.iter().filter(|frame| frame[0] == 4);
         let start = facts.fold(0, |state, frame| state | weights.fact(Fact::of_frame(frame)));
-        let moves = moves_of(&weights, fault);
-        let states = 1 << depot.facts.len();
+        let moves = moves_of(weights, person);
+        let states = 1 << weights.depot.facts.len();
         let (wanted, unwanted) = (Vec::new(), Vec::new());
-        let mut model = Model { states, start, moves, fault, wanted, unwanted, forbidden: 0 };
-        model.take_query(&weights);
+        let mut model = Model { states, start, moves, fault: weights.fault, wanted, unwanted, forbidden: 0 };
+        model.take_query(weights, person);
         model
     }
 
-    fn take_query(&mut self, weights: &Weights<'_>) {
-        let &[_, mode, person, _, _, q, ref rest @ ..] = weights.depot.draft.query() else { panic!("a query") };
+    fn take_query(&mut self, weights: &Weights<'_>, person: u8) {
+        let &[_, mode, _, _, _, q, ref rest @ ..] = weights.depot.draft.query() else { panic!("a query") };
         let (sets, crews) = rest.split_at(3 * usize::from(q));
         let exactly = mode == 2 && self.fault != Fault::ModeTwoAsOne;
         let listed = |crew: u8| exactly && crews[3] >> crew & 1 == 1;
@@ -280,7 +284,12 @@ impl Model {
     }
 
     pub fn is_met(&self, state: u16) -> bool {
-        self.wanted.iter().all(|test| test.holds(state)) && !self.unwanted.iter().any(|test| test.holds(state))
+        self.wanted.iter().all(|test| test.holds(state)) && self.is_clear(state)
+    }
+
+    /// Whether nothing holds that a query of mode 02 does not want.
+    pub fn is_clear(&self, state: u16) -> bool {
+        !self.unwanted.iter().any(|test| test.holds(state))
     }
 
     /// The state behind a move; nothing where the move is not permitted.
@@ -335,9 +344,8 @@ fn way_to<'m>(queue: &[(u16, Option<(usize, &'m Move)>)], mut place: usize) -> V
     way
 }
 
-fn moves_of(weights: &Weights<'_>, fault: Fault) -> Vec<Move> {
-    let depot = weights.depot;
-    let person = depot.draft.query()[2];
+fn moves_of(weights: &Weights<'_>, person: u8) -> Vec<Move> {
+    let (depot, fault) = (weights.depot, weights.fault);
     let mut moves = Vec::new();
     for rule in depot.rules() {
         let &[_, op, role, a, v, _, ref terms @ ..] = rule else { panic!("a rule") };
