@@ -31,6 +31,9 @@ use reference::plan::{closure, demand};
 use reference::replay::Verdict;
 use reference::{book, ledger, page, plan, replay};
 
+mod start;
+use start::{at_the_start, Table};
+
 const OPERATIONS: [&str; 6] = ["open", "request", "show", "plan", "replay", "page"];
 const OPEN: usize = 0;
 const REQUEST: usize = 1;
@@ -469,8 +472,6 @@ const PAGES: [(&str, [usize; 12]); 10] = [
     ("stored", [830, 32, 10_512, 1_724, 179_105, 101_400, 642_345, 330, 99, 160, 894, 131]),
 ];
 
-type Table = [u8; PAGE_SIZE];
-
 /// What the pages of accepted books have. The pages here are the library's; the reference's have been seen to be the
 /// same.
 #[derive(Default)]
@@ -517,18 +518,6 @@ impl Pages {
 /// How many bits are set.
 fn ones(bytes: &[u8]) -> usize {
     bytes.iter().map(|byte| byte.count_ones() as usize).sum()
-}
-
-/// What each person effectively holds at the start, as a page has it: by show of the opened ledger.
-fn at_the_start(text: &[u8], persons: u8) -> Table {
-    let ledger = Book::new(text).open().expect("an accepted book").into_bytes();
-    let mut table = [0; PAGE_SIZE];
-    for (person, row) in (0..persons).zip(table.chunks_exact_mut(16)) {
-        let mut view = [0; VIEW_SIZE];
-        assert_eq!(bytes::show_into(text, &ledger, Person(person), &mut view), Ok(Shown::Done));
-        row.copy_from_slice(&view[..16]);
-    }
-    table
 }
 
 /// An accepted book with ladder terms, and the two that tell what rests on them. The answers here are the reference's;

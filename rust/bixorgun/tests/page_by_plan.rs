@@ -9,11 +9,14 @@ use std::collections::BTreeSet;
 use std::fs;
 use std::path::PathBuf;
 
-use bixorgun::bytes::{self, Planned, Shown};
-use bixorgun::{Book, Judgement, Person, PAGE_SIZE, PLAN_MAX, VIEW_SIZE};
+use bixorgun::bytes::{self, Planned};
+use bixorgun::{Judgement, PAGE_SIZE, PLAN_MAX};
 use reference::book::{self, Attr, Mode, Sizes, Value, Way, What};
 use reference::gen::{self, Draft, Rng, Shape};
 use reference::page;
+
+mod start;
+use start::{at_the_start, Table};
 
 /// So many differences are printed, each with the book where it has no more characters than this.
 const SHOWN: usize = 5;
@@ -21,8 +24,6 @@ const SHORT: usize = 8_000;
 
 /// "At most 65,536 characters."
 const MOST_CHARACTERS: usize = 65_536;
-
-type Table = [u8; PAGE_SIZE];
 
 fn page_of(text: &[u8]) -> Table {
     let mut table = [0xA5; PAGE_SIZE];
@@ -66,18 +67,6 @@ fn split(text: &[u8]) -> (&[u8], &str) {
 /// The same book with another query.
 fn with_query(text: &[u8], query: &str) -> Vec<u8> {
     [split(text).0, query.as_bytes()].concat()
-}
-
-/// What each person effectively holds at the start, by show of the opened ledger.
-fn at_the_start(text: &[u8], persons: u8) -> Table {
-    let ledger = Book::new(text).open().expect("an accepted book").into_bytes();
-    let mut table = [0; PAGE_SIZE];
-    for (person, row) in (0..persons).zip(table.chunks_exact_mut(16)) {
-        let mut view = [0; VIEW_SIZE];
-        assert_eq!(bytes::show_into(text, &ledger, Person(person), &mut view), Ok(Shown::Done));
-        row.copy_from_slice(&view[..16]);
-    }
-    table
 }
 
 /// How many bits one table has and another has not.
