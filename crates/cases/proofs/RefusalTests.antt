@@ -24,9 +24,11 @@ use Rattle.ledger.specs.Show.{showIn, showView}
 use Rattle.replay.specs.Replay as replay
 use Rattle.replay.specs.Replay.{replayIn, replayed}
 use Rattle.planner.specs.Answer.{said, AnsweredFor}
+use Rattle.page.specs.Page as page
+use Rattle.page.specs.Page.{pageSize, PageAnsweredFor}
 use Rattle.cases.specs.Text.{five}
-use Rattle.cases.specs.Refusals.{Trial, on-book, buffer-of, ledger-of, asked, asked-for, shown-to, list-of, RefusalRow, Refuses, Turned, refusing, PlanRefuses}
-use Rattle.cases.specs.Refusals.{BookRefused, LedgerRefused, RequestRefused, ShowRefused}
+use Rattle.cases.specs.Refusals.{Trial, on-book, buffer-of, table-of, ledger-of, asked, asked-for, shown-to, list-of, RefusalRow, Refuses, Turned}
+use Rattle.cases.specs.Refusals.{refusing, PlanRefuses, PageRefuses, BookRefused, LedgerRefused, RequestRefused, ShowRefused}
 use Rattle.cases.proofs.Tests.{opened-facts, facts-suitable}
 
 -- ---------------------------------------------------------------- the test
@@ -56,6 +58,7 @@ fallsAt b q rule term n = wellFormed (b .sizes) q && (not (allowed b (b .facts) 
 unfoldable pub falls : Contents → ℕ → Trial → Bool
 falls b n on-book = false
 falls b n (buffer-of size) = ltb size (10 * factCount (b .sizes)) && eqb n 10
+falls b n (table-of size) = not (eqb size pageSize) && eqb n 10
 falls b n (ledger-of size) = not (eqb size ledgerSize) && eqb n 11
 falls b n (asked q) = fallsOn b (five q) n
 falls b n (asked-for q rule term) = fallsAt b (five q) rule term n
@@ -65,6 +68,7 @@ falls b n (list-of size) = not (eqb (size % 5) 0) && eqb n 14
 unfoldable pub isTurned : Answer → ℕ → ℕ → Trial → Bool
 isTurned (refused r) n k on-book = eqb (refusalNumber r) n && eqb (refusalLine r) k
 isTurned (refused r) n k (buffer-of size) = false
+isTurned (refused r) n k (table-of size) = false
 isTurned (refused r) n k (ledger-of size) = false
 isTurned (refused r) n k (asked q) = false
 isTurned (refused r) n k (asked-for q rule term) = false
@@ -95,12 +99,17 @@ book-refused chars r read =
       shows = λ l p. rw read refl;
       replays = λ bytes. rw read refl;
       plans = λ before answer out promise. subst (λ (a : Answer). AnsweredFor a before (said answer) out) read (promise .kept);
+      pages = λ before answer out promise. subst (λ (a : Answer). PageAnsweredFor a before (page.said answer) out) read (promise .kept);
     }
 
 module _ (chars : List ℕ) (b : Contents) (read : bookOf chars ≡ accepted b) where
   buffer-refused : (size : ℕ) → size < 10 * factCount (b .sizes) → (before : List ℕ) → length before ≡ size → PlanRefuses chars 10 0 before
   buffer-refused size short before is answer out promise =
       subst (λ (a : Answer). AnsweredFor a before (said answer) out) read (promise .kept) .short (omega arith)
+
+  table-refused : (size : ℕ) → (size ≡ pageSize → ⊥) → (before : List ℕ) → length before ≡ size → PageRefuses chars 10 0 before
+  table-refused size other before is answer out promise =
+      subst (λ (a : Answer). PageAnsweredFor a before (page.said answer) out) read (promise .kept) .other (λ e. other (sym is ∙ e))
 
   -- A ledger of another size does not suit.
   unsuitable : (l : List ℕ) → (length l ≡ ledgerSize → ⊥) → suitable (b .sizes) l ≡ false
@@ -165,6 +174,9 @@ module _ (chars : List ℕ) (b : Contents) (read : bookOf chars ≡ accepted b) 
   falls-refuses n (buffer-of size) e =
       let both = and-both (ltb size (10 * factCount (b .sizes))) (eqb n 10) e in
       rw (eqb-true n 10 (both .1)) (buffer-refused size (ltb-true size (10 * factCount (b .sizes)) (both .0)))
+  falls-refuses n (table-of size) e =
+      let both = and-both (not (eqb size pageSize)) (eqb n 10) e in
+      rw (eqb-true n 10 (both .1)) (table-refused size (eqb-false size pageSize (not-true _ (both .0))))
   falls-refuses n (ledger-of size) e =
       let both = and-both (not (eqb size ledgerSize)) (eqb n 11) e in
       (refl, rw (eqb-true n 11 (both .1)) (ledger-refused size (eqb-false size ledgerSize (not-true _ (both .0)))))
@@ -188,6 +200,7 @@ turned-back r e = by-answer (bookOf (r .book)) refl (r .trial) e
         let both = and-both (eqb (refusalNumber x) (r .number)) (eqb (refusalLine x) (r .line)) f in
         subst₂ (BookRefused (r .book)) (eqb-true _ _ (both .0)) (eqb-true _ _ (both .1)) (book-refused (r .book) x i)
     by-answer (refused x) i (buffer-of size) f = absurd (true≢false (sym f))
+    by-answer (refused x) i (table-of size) f = absurd (true≢false (sym f))
     by-answer (refused x) i (ledger-of size) f = absurd (true≢false (sym f))
     by-answer (refused x) i (asked q) f = absurd (true≢false (sym f))
     by-answer (refused x) i (asked-for q rule term) f = absurd (true≢false (sym f))

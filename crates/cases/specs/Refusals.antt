@@ -1,5 +1,5 @@
--- The table of refusals, with the paper's number, line and example of each. Paper 01, "Turned back at the gate"; 15, and each attribute's
--- own range, by paper 02. What a row means is said by the product's own definitions on the book's characters; no number is taken from them.
+-- The table of refusals, with the paper's number, line and example of each. Paper 01, "Turned back at the gate"; 15, each attribute's own
+-- range, and 10 of the page, by paper 02. What a row means is said by the product's own definitions on the book's characters; no number is taken from them.
 use mathlib.Core.Path.{_≡_}
 use mathlib.Core.List.{List, [], _∷_, _++_}
 use Prim.Native.Nat.{ℕ}
@@ -12,6 +12,9 @@ use Rattle.replay.specs.Replay as replay
 use Rattle.replay.specs.Replay.{replayed}
 use Rattle.planner.specs.declared.Planned.{Planned}
 use Rattle.planner.specs.Answer.{said, said8F, PlanPromise}
+use Rattle.page.specs.declared.Paged.{Paged}
+use Rattle.page.specs.Page as page
+use Rattle.page.specs.Page.{PagePromise}
 use Rattle.cases.specs.Text.{codes, written, five}
 use Rattle.cases.specs.Claims.{Opened}
 
@@ -23,6 +26,8 @@ pub data Trial : Type 0 where
   on-book : Trial
   -- 10: plan with a buffer of so many bytes.
   buffer-of : ℕ → Trial
+  -- 10: page with a table of so many bytes.
+  table-of : ℕ → Trial
   -- 11: open, request and show on a ledger of so many bytes.
   ledger-of : ℕ → Trial
   -- 12 and 13: this request on the ledger of starting facts.
@@ -52,6 +57,11 @@ refusing n t l = record { answer = refusal n t; ledger = l }
 abbrev pub PlanRefuses : List ℕ → ℕ → ℕ → List ℕ → Type 0
 PlanRefuses chars n k before = (answer : Planned) (out : List ℕ) → PlanPromise chars before answer out → (said answer ≡ said8F n k) × (out ≡ before)
 
+-- The same of page and its table.
+abbrev pub PageRefuses : List ℕ → ℕ → ℕ → List ℕ → Type 0
+PageRefuses chars n k before =
+    (answer : Paged) (out : List ℕ) → PagePromise chars before answer out → (page.said answer ≡ page.refusal n k) × (out ≡ before)
+
 -- Every operation refuses the book, whatever else it is given.
 pub record BookRefused (chars : List ℕ) (n k : ℕ) : Type 0 where
   pub opens : (l : List ℕ) → openReply chars l ≡ refusing n (onLine k) l
@@ -59,6 +69,7 @@ pub record BookRefused (chars : List ℕ) (n k : ℕ) : Type 0 where
   pub shows : (l : List ℕ) (p : Person) → showView chars l p ≡ hidden n (onLine k)
   pub replays : (bytes : List ℕ) → replayed chars bytes ≡ replay.refusal n k
   pub plans : (before : List ℕ) → PlanRefuses chars n k before
+  pub pages : (before : List ℕ) → PageRefuses chars n k before
 
 -- Open, request and show refuse every ledger of this size.
 pub record LedgerRefused (chars : List ℕ) (size n : ℕ) : Type 0 where
@@ -82,6 +93,7 @@ pub record ShowRefused (chars : List ℕ) (p : Person) (n : ℕ) : Type 0 where
 unfoldable pub Refuses : List ℕ → ℕ → ℕ → Trial → Type 0
 Refuses chars n k on-book = BookRefused chars n k
 Refuses chars n k (buffer-of size) = (before : List ℕ) → length before ≡ size → PlanRefuses chars n k before
+Refuses chars n k (table-of size) = (before : List ℕ) → length before ≡ size → PageRefuses chars n k before
 Refuses chars n k (ledger-of size) = (k ≡ 0) × LedgerRefused chars size n
 Refuses chars n k (asked q) = (k ≡ 0) × RequestRefused chars (five q) n noPlace
 Refuses chars n k (asked-for q rule term) = (k ≡ 0) × RequestRefused chars (five q) n (atTerm rule term)
@@ -175,6 +187,9 @@ refusals =
     ∷ refusalRow 10 0 (written ("0101000104" ∷ goodLast ∷ [])) (buffer-of 39)
     -- Paper 02, "F becomes (1 + G) × the sum of the counts, plus G": 2 × (2 + 3) + 1
     ∷ refusalRow 10 0 (belowOwn goodRule) (buffer-of 109)
+    -- Paper 02, "A table of another length is refused under 10": a byte short, a byte too long
+    ∷ refusalRow 10 0 goodBook (table-of 1023)
+    ∷ refusalRow 10 0 goodBook (table-of 1025)
     -- "ledger not 1,792 bytes or a bit outside the sizes": "1,791 bytes"
     ∷ refusalRow 11 0 goodBook (ledger-of 1791)
     -- "request not five bytes or field out of range": "op `07`"
