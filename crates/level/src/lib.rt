@@ -167,7 +167,7 @@ pub fn chosen(r: Rule, one: u8, two: u8, roles: u32) -> bool
 // ---------------------------------------------------------------- a move tested, and its request
 
 // A term's place, or a move's number, as an index.
-fn wide(x: u16) -> usize
+pub fn wide(x: u16) -> usize
     ensures { λ r. ⌜ r ≡ x ⌝ }
 {
     x as usize

@@ -15,6 +15,7 @@ use facts::Person;
 use frames::Book;
 use frames::Query;
 use frames::Want;
+use orders::NAMES_SIZE;
 use sizes::Sizes;
 use widths::DRAFT_SIZE;
 use widths::FLAGS_SIZE;
@@ -102,7 +103,7 @@ fn put_row(z: Sizes, p: u8, x: &[bool], out: &mut [u8])
     }
 }
 
-// The rows of all persons. Each begins with the crews as they are settled; each tries first the moves of the one before.
+// The rows of all persons. Each begins with the crews as they are settled, and tries first the moves that `orders` names.
 fn put_rows(b: Book, facts: &[u8], adds: &[u16], dels: &[u16], table: &[bool], out: &mut [u8])
     requires { ⌜ Admitted (contentsOf b) × Roams (contentsOf b) ⌝ }
     requires { ⌜ SideMoves (b .rules) (b .query .roles) 1 5 2 6 (movesIn (now adds)) (movesIn (now dels)) × (now facts ≡ b .facts) ⌝ }
@@ -112,14 +113,17 @@ fn put_rows(b: Book, facts: &[u8], adds: &[u16], dels: &[u16], table: &[bool], o
     let z = b.sizes;
     let crews = z.crews;
     let persons = z.persons;
-    let mut added = [512u16; LEVEL_SIZE];
+    let mut names = [512u16; NAMES_SIZE];
     let mut deleted = [512u16; LEVEL_SIZE];
     let mut x = [false; FLAGS_SIZE];
     let mut up = [0u8; 800];
     let mut down = [0u8; 800];
+    orders::orders(persons, facts, adds, table, &mut names);
     let mut p: u8 = 0;
     while p < persons {
         let q = asked_nothing(1, b.query.roles, p);
+        let from = LEVEL_SIZE * (p as usize);
+        let to = from + LEVEL_SIZE;
         search::settle_level(
             q,
             crews,
@@ -129,7 +133,7 @@ fn put_rows(b: Book, facts: &[u8], adds: &[u16], dels: &[u16], table: &[bool], o
             false,
             adds,
             dels,
-            &mut added,
+            &mut names[from..to],
             &mut deleted,
             table,
             &mut x,

@@ -39,9 +39,9 @@ pub record CrewsSettled (b : Contents) (table : List Bool) : Type 0 where
   pub serves : Serves b (b .sizes .crews) rows ups up at down
   pub made : PersonTable rows table
 
--- The lists that one person's level works in.
-pub record LevelRoom (added deleted : List ℕ) (x : List Bool) (up down : List ℕ) : Type 0 where
-  pub added-size : length added ≡ levelSize
+-- The lists that the persons' levels work in: the names of all persons, and what each level writes anew.
+pub record LevelRoom (names deleted : List ℕ) (x : List Bool) (up down : List ℕ) : Type 0 where
+  pub names-size : length names ≡ 64 * levelSize
   pub deleted-size : length deleted ≡ levelSize
   pub flags-size : length x ≡ flagsSize
   pub up-size : length up ≡ 5 * levelSize
