@@ -6,7 +6,7 @@ ghost use lib.ListN.{length};
 ghost use Rattle.frames.specs.Book.{contentsOf};
 ghost use Rattle.frames.specs.Inner.Fits.{Admitted};
 ghost use Rattle.level.specs.Inner.Moves.{movesIn};
-ghost use Rattle.search.specs.Inner.Scan.{SideMoves};
+ghost use Rattle.search.specs.Inner.Scan.{SideMoves, BlankTable};
 ghost use Rattle.widths.specs.Inner.Widths.{flagsSize};
 ghost use Rattle.page.specs.Page.{refusalNumber, refusalLine, said, pageSize, PageAnswered, PagePromise};
 ghost use Rattle.page.specs.Inner.Rows.{askedNothing, Roams, CrewsSettled, valuePut, RowPut, RowClear, RowsRight, Cleared};
@@ -159,19 +159,16 @@ fn clear(out: &mut [u8])
     }
 }
 
-// The crews once, then the persons, with the moves of both.
-fn fill_by(b: Book, gains: &[u16], losses: &[u16], adds: &[u16], dels: &[u16], out: &mut [u8])
+// What the crews come to, once for all persons, as the table of a person's level.
+fn crews_table(b: Book, gains: &[u16], losses: &[u16], table: &mut [bool])
     requires { ⌜ Admitted (contentsOf b) × Roams (contentsOf b) ⌝ }
-    requires { ⌜ SideMoves (b .rules) (b .query .roles) 3 3 4 4 (movesIn (now gains)) (movesIn (now losses)) ×
-        SideMoves (b .rules) (b .query .roles) 1 5 2 6 (movesIn (now adds)) (movesIn (now dels)) ⌝ }
-    requires { ⌜ length (now out) ≡ pageSize ⌝ }
-    ensures { λ _. ⌜ RowsRight (contentsOf b) (b .sizes .persons) (now (out .exit)) ⌝ }
+    requires { ⌜ SideMoves (b .rules) (b .query .roles) 3 3 4 4 (movesIn (now gains)) (movesIn (now losses)) × BlankTable (now table) ⌝ }
+    ensures { λ _. ⌜ CrewsSettled (contentsOf b) (now (table .exit)) ⌝ }
 {
     let q = b.query;
     let facts = b.facts;
     let juniors = b.juniors;
     let mut rows = [false; ROWS_SIZE];
-    let mut table = [false; TABLE_SIZE];
     let mut up = [0u8; DRAFT_SIZE];
     let mut down = [0u8; DRAFT_SIZE];
     search::settle_crews(
@@ -182,11 +179,24 @@ fn fill_by(b: Book, gains: &[u16], losses: &[u16], adds: &[u16], dels: &[u16], o
         gains,
         losses,
         &mut rows,
-        &mut table,
+        table,
         &mut up,
         &mut down,
     );
-    flags::person_table(&rows, &mut table);
+    flags::person_table(&rows, table);
+}
+
+// The crews once, then the persons, with the moves of both.
+fn fill_by(b: Book, gains: &[u16], losses: &[u16], adds: &[u16], dels: &[u16], out: &mut [u8])
+    requires { ⌜ Admitted (contentsOf b) × Roams (contentsOf b) ⌝ }
+    requires { ⌜ SideMoves (b .rules) (b .query .roles) 3 3 4 4 (movesIn (now gains)) (movesIn (now losses)) ×
+        SideMoves (b .rules) (b .query .roles) 1 5 2 6 (movesIn (now adds)) (movesIn (now dels)) ⌝ }
+    requires { ⌜ length (now out) ≡ pageSize ⌝ }
+    ensures { λ _. ⌜ RowsRight (contentsOf b) (b .sizes .persons) (now (out .exit)) ⌝ }
+{
+    let facts = b.facts;
+    let mut table = [false; TABLE_SIZE];
+    crews_table(b, gains, losses, &mut table);
     clear(out);
     put_rows(b, &facts, adds, dels, &table, out);
 }

@@ -265,6 +265,8 @@ pub fn all() -> Vec<Series> {
 mod tests {
     use super::*;
     use crate::agree::{self, Found};
+    use crate::job::Buffers;
+    use crate::measure;
 
     #[test]
     fn both_accept_every_book_and_agree() {
@@ -285,5 +287,17 @@ mod tests {
         }
         assert!(all()[6].points.iter().all(|(requests, job)| job.list.len() == 5 * requests));
         assert!(all()[9].points.iter().all(|(persons, job)| usize::from(job.book.sizes.persons) == *persons));
+    }
+
+    /// The library looks up beforehand in which order each person's moves fire. No answer shows it, but without it this
+    /// page takes some twenty times as long.
+    #[test]
+    fn chains_in_turn_make_a_page_no_dearer() {
+        let micros = |taken| {
+            let job = with_chains(Takers::Persons, taken);
+            measure::micros(Operation::Page, &job, &mut Buffers::new())[0]
+        };
+        let (one_chain, in_turn) = (micros(1), micros(4));
+        assert!(in_turn < 5.0 * one_chain, "{in_turn} µs, and {one_chain} where all take one chain");
     }
 }
