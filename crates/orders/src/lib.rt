@@ -1,4 +1,5 @@
-// In which order the moves fire on each person's level, found for all persons at once: a word for each flag of a level, with a bit for each person.
+// In which order the moves fire on each person's level, found for all persons at once: persons are a word, with a bit for each, and `held` has for each
+// flag of a level the persons who show it.
 // Nothing is promised of the names that are written, and nothing needs to be: a level comes to the same whatever it tries first, and a wrong name costs
 // one trial. With these names a person's level goes round its moves once, however the book orders them.
 ghost use mathlib.Core.Path.{_≡_};
