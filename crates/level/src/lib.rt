@@ -224,7 +224,7 @@ pub fn fires(ms: &[u16], i: usize, allowed: &[bool], x: &[bool]) -> bool
 }
 
 // The place after `i` in a round of `n`.
-fn next(i: usize, n: usize) -> usize
+pub fn next(i: usize, n: usize) -> usize
     requires { ⌜ i < n ⌝ }
     ensures { λ r. ⌜ Next i n r ⌝ }
 {

@@ -1,7 +1,7 @@
 -- The table, filled bit by bit and row by row.
 use mathlib.Core.Path.{_≡_, refl, ap, sym, subst, _∙_}
 use mathlib.Core.Logic.{dite}
-use mathlib.Core.Bool.{Bool, true, false, cond, _&&_, true≢false}
+use mathlib.Core.Bool.{Bool, true, false, cond, _&&_, and-true, and-false, true≢false}
 use mathlib.Core.List.{List}
 use Prim.Native.Nat.{ℕ, _+_, _*_, _/_, _%_, _<_}
 use native.Mathlib.Decide.{ℕ-discrete, decLt}
@@ -23,7 +23,8 @@ use Rattle.page.specs.declared.Paged.{Paged}
 use Rattle.page.specs.declared.Paged.the-variants.{Refused}
 use Rattle.page.specs.declared.Refusal.the-variants.{BadBook}
 use Rattle.page.specs.Page.{done, refusal, said, asking, Reachable, PageGiven, PageAnswered, PagePromise}
-use Rattle.page.specs.Inner.Rows.{roaming, bitOf, shownValue, valuePut, RowPut, RowClear, RowsRight, Cleared}
+use Rattle.words.specs.Inner.Words.{column}
+use Rattle.page.specs.Inner.Rows.{roaming, bitOf, shownValue, valuePut, RowPut, RowClear, RowsShown, RowsRight, Cleared}
 use Rattle.page.proofs.PageLaws.{roams-asking}
 
 -- ---------------------------------------------------------------- a table of nothing
@@ -59,15 +60,9 @@ module _ {out : List ℕ} (c : Cleared 1024 out) where
       rw past (omega arith))
 
   -- No row is filled yet.
-  pub rows-none : (b : Contents) → RowsRight b 0 out
-  rows-none b =
-      record {
-        size = c .size;
-        bytes = byte-none;
-        set = λ p a v h. absurd (omega arith);
-        clear = λ p a v h. absurd (omega arith);
-        absent = λ p a v l m none. bit-none p a v;
-      }
+  pub rows-none : (z : Sizes) (ws : List ℕ) → RowsShown z ws 0 out
+  rows-none z ws =
+      record { size = c .size; bytes = byte-none; own = λ p a v h. absurd (omega arith); rest = λ p a v h l m. bit-none p a v }
 
 -- ---------------------------------------------------------------- one row
 
@@ -93,16 +88,17 @@ module _ (q a v p c w : ℕ) (l : a < 8) (h : v < 16) (m : c < 8) (k : w < 16) (
       omega (arith, attr, half, bit)
 
 -- What one value's bit comes to, by the flag and the test.
-module _ (z : Sizes) (p : ℕ) (x : List Bool) (f : ℕ) (out : List ℕ) (value : Bool) (is : value ≡ isValue z (f / 16) (f % 16)) where
-  same-flag : shownValue z x (f / 16) (f % 16) ≡ getD x (160 + f) false && value
-  same-flag = let e : 16 * (f / 16) + f % 16 ≡ f = omega arith in rw (e, is) refl
+module _ (z : Sizes) (p : ℕ) (x : List Bool) (f : ℕ) (out : List ℕ) (shown value : Bool) (flag : shown ≡ getD x (160 + f) false)
+    (is : value ≡ isValue z (f / 16) (f % 16)) where
+  same-flag : shownValue z x (f / 16) (f % 16) ≡ shown && value
+  same-flag = let e : 16 * (f / 16) + f % 16 ≡ f = omega arith in rw (e, flag, is) refl
 
-  pub value-shown : (getD x (160 + f) false && value) ≡ true → {after : List ℕ} → after ≡ putAt out (16 * p + 2 * (f / 16)) 2 (f % 16) true
+  pub value-shown : (shown && value) ≡ true → {after : List ℕ} → after ≡ putAt out (16 * p + 2 * (f / 16)) 2 (f % 16) true
       → after ≡ valuePut z p x f out
   unfolding valuePut
   value-shown e put = put ∙ ap (λ (t : Bool). cond t (putAt out (16 * p + 2 * (f / 16)) 2 (f % 16) true) out) (sym (same-flag ∙ e))
 
-  pub value-hidden : (getD x (160 + f) false && value) ≡ false → out ≡ valuePut z p x f out
+  pub value-hidden : (shown && value) ≡ false → out ≡ valuePut z p x f out
   unfolding valuePut
   value-hidden e = ap (λ (t : Bool). cond t (putAt out (16 * p + 2 * (f / 16)) 2 (f % 16) true) out) (sym (same-flag ∙ e))
 
@@ -163,55 +159,50 @@ row-all {z} {p} {x} {f} {before} {out} r e = subst (λ (i : ℕ). RowPut z p x i
 -- ---------------------------------------------------------------- row after row
 
 -- The row of the next person is clear.
-pub next-clear : {b : Contents} {p : ℕ} {out : List ℕ} → RowsRight b p out → RowClear p out
-next-clear {b} {p} r = record { size = r .size; bytes = r .bytes; none = λ a v l h. r .absent p a v l h (λ m. absurd (omega arith)) }
+pub next-clear : {z : Sizes} {ws : List ℕ} {p : ℕ} {out : List ℕ} → RowsShown z ws p out → RowClear p out
+next-clear {p = p} r = record { size = r .size; bytes = r .bytes; none = λ a v l h. r .rest p a v (omega arith) l h }
 
-module _ {b : Contents} (ok : Admitted b) {p : ℕ} {x : List Bool} {before out : List ℕ} (rows : RowsRight b p before)
-    (put : RowPut (b .sizes) p x 128 before out)
-    (set-right : (a v : ℕ) → isValue (b .sizes) a v ≡ true → getD x (160 + (16 * a + v)) false ≡ true → Reachable (asking b p a v))
-    (clear-right : (a v : ℕ) → isValue (b .sizes) a v ≡ true → getD x (160 + (16 * a + v)) false ≡ false → NoWay (asking b p a v)) where
-  -- A bit of the new row is the flag, where the value is the book's.
-  own-bit : (a v : ℕ) → isValue (b .sizes) a v ≡ true → bitOf out p a v ≡ getD x (160 + (16 * a + v)) false
-  own-bit a v value =
+pub rows-more : {z : Sizes} {ws : List ℕ} {p : ℕ} {before out : List ℕ} → RowsShown z ws p before → RowPut z p (column ws p) 128 before out
+    → RowsShown z ws (p + 1) out
+rows-more {z} {ws} {p} {before} {out} rows put =
+    record {
+      size = put .size;
+      bytes = put .bytes;
+      own = λ q a v m l h. dite (ℕ-discrete q p)
+          (λ (e : q ≡ p). subst (λ (i : ℕ). bitOf out i a v ≡ shownValue z (column ws i) a v) (sym e) (put .own a v l h (omega arith)))
+          (λ (e : q ≡ p → ⊥). put .rest q a v l h (λ s. absurd (e s)) ∙ rows .own q a v (omega arith) l h);
+      rest = λ q a v m l h. put .rest q a v l h (λ s. absurd (omega arith)) ∙ rows .rest q a v (omega arith) l h;
+    }
+
+pub rows-all : {z : Sizes} {ws : List ℕ} {p n : ℕ} {out : List ℕ} → RowsShown z ws p out → p ≡ n → RowsShown z ws n out
+rows-all {z} {ws} {p} {n} {out} r e = subst (λ (i : ℕ). RowsShown z ws i out) e r
+
+-- Where the flags of each person decide the person's values, the rows shown are right.
+module _ {b : Contents} (ok : Admitted b) {ws : List ℕ} {n : ℕ} {out : List ℕ} (rows : RowsShown (b .sizes) ws n out)
+    (set-right : (p : ℕ) → p < n → (a v : ℕ) → isValue (b .sizes) a v ≡ true → getD (column ws p) (160 + (16 * a + v)) false ≡ true
+    → Reachable (asking b p a v))
+    (clear-right : (p : ℕ) → p < n → (a v : ℕ) → isValue (b .sizes) a v ≡ true → getD (column ws p) (160 + (16 * a + v)) false ≡ false
+    → NoWay (asking b p a v)) where
+  -- A bit of a row is the flag, where the value is the book's.
+  own-bit : (p a v : ℕ) → p < n → isValue (b .sizes) a v ≡ true → bitOf out p a v ≡ getD (column ws p) (160 + (16 * a + v)) false
+  own-bit p a v m value =
       let low = value-bounds (b .sizes) a v (ok .sized) value in
-      put .own a v (low .0) (low .1) (omega (arith, low .0, low .1)) ∙ ap (λ (t : Bool). getD x (160 + (16 * a + v)) false && t) value
-      ∙ and-on (getD x (160 + (16 * a + v)) false)
-    where
-      and-on : (t : Bool) → (t && true) ≡ t
-      and-on true = refl
-      and-on false = refl
+      rows .own p a v m (low .0) (low .1) ∙ ap (λ (t : Bool). getD (column ws p) (160 + (16 * a + v)) false && t) value
+      ∙ and-true (getD (column ws p) (160 + (16 * a + v)) false)
 
-  other-bit : (q a v : ℕ) → isValue (b .sizes) a v ≡ true → (q ≡ p → ⊥) → bitOf out q a v ≡ bitOf before q a v
-  other-bit q a v value other =
-      let low = value-bounds (b .sizes) a v (ok .sized) value in put .rest q a v (low .0) (low .1) (λ s. absurd (other s))
-
-  pub rows-more : RowsRight b (p + 1) out
-  rows-more =
+  pub rows-right : RowsRight b n out
+  rows-right =
       record {
-        size = put .size;
-        bytes = put .bytes;
-        set = λ q a v h value on. dite (ℕ-discrete q p)
-            (λ (e : q ≡ p). subst (λ (i : ℕ). Reachable (asking b i a v)) (sym e)
-            (set-right a v value (sym (own-bit a v value) ∙ subst (λ (i : ℕ). bitOf out i a v ≡ true) e on)))
-            (λ (e : q ≡ p → ⊥). rows .set q a v (omega arith) value (sym (other-bit q a v value e) ∙ on));
-        clear = λ q a v h value off. dite (ℕ-discrete q p)
-            (λ (e : q ≡ p). subst (λ (i : ℕ). NoWay (asking b i a v)) (sym e)
-            (clear-right a v value (sym (own-bit a v value) ∙ subst (λ (i : ℕ). bitOf out i a v ≡ false) e off)))
-            (λ (e : q ≡ p → ⊥). rows .clear q a v (omega arith) value (sym (other-bit q a v value e) ∙ off));
-        absent = λ q a v l h none. dite (ℕ-discrete q p)
-            (λ (e : q ≡ p).
-            subst (λ (i : ℕ). bitOf out i a v ≡ false) (sym e)
-            (put .own a v l h (omega arith) ∙ ap (λ (t : Bool). getD x (160 + (16 * a + v)) false && t) (none (omega arith))
-            ∙ and-off (getD x (160 + (16 * a + v)) false)))
-            (λ (e : q ≡ p → ⊥). put .rest q a v l h (λ s. absurd (e s)) ∙ rows .absent q a v l h (λ m. none (omega arith)));
+        size = rows .size;
+        bytes = rows .bytes;
+        set = λ p a v m value on. set-right p m a v value (sym (own-bit p a v m value) ∙ on);
+        clear = λ p a v m value off. clear-right p m a v value (sym (own-bit p a v m value) ∙ off);
+        absent = λ p a v l h none. dite (decLt p n)
+            (λ (m : p < n).
+            rows .own p a v m l h ∙ ap (λ (t : Bool). getD (column ws p) (160 + (16 * a + v)) false && t) (none m)
+            ∙ and-false (getD (column ws p) (160 + (16 * a + v)) false))
+            (λ (m : p < n → ⊥). rows .rest p a v (omega arith) l h);
       }
-    where
-      and-off : (t : Bool) → (t && false) ≡ false
-      and-off true = refl
-      and-off false = refl
-
-pub rows-all : {b : Contents} {p n : ℕ} {out : List ℕ} → RowsRight b p out → p ≡ n → RowsRight b n out
-rows-all {b} {p} {n} {out} r e = subst (λ (i : ℕ). RowsRight b i out) e r
 
 -- The same rows, of a book that is the same.
 pub rows-same : {b t : Contents} {n : ℕ} {out : List ℕ} → b ≡ t → RowsRight b n out → RowsRight t n out

@@ -1,21 +1,22 @@
-// The page: a table with a bit for each person and value, set where a plan reaches it. What the crews can come to is worked out once; then each
-// person has one level above them. No request of any plan is given.
+// The page: a table with a bit for each person and value, set where a plan reaches it. What the crews can come to is worked out once; then all
+// persons have their levels above them, at once. No request of any plan is given.
 ghost use mathlib.Core.Path.{_≡_};
-ghost use Prim.Native.Nat.{_+_, _*_, _<_};
+ghost use Prim.Native.Nat.{_<_, _≤_};
 ghost use lib.ListN.{length};
 ghost use Rattle.frames.specs.Book.{contentsOf};
 ghost use Rattle.frames.specs.Inner.Fits.{Admitted};
 ghost use Rattle.level.specs.Inner.Moves.{movesIn};
 ghost use Rattle.search.specs.Inner.Scan.{SideMoves, BlankTable};
 ghost use Rattle.widths.specs.Inner.Widths.{flagsSize};
+ghost use Rattle.words.specs.Inner.Words.{column};
 ghost use Rattle.page.specs.Page.{refusalNumber, refusalLine, said, pageSize, PageAnswered, PagePromise};
-ghost use Rattle.page.specs.Inner.Rows.{askedNothing, Roams, CrewsSettled, valuePut, RowPut, RowClear, RowsRight, Cleared};
+ghost use Rattle.page.specs.Inner.Rows.{askedNothing, Roams, CrewsSettled, PersonMoves};
+ghost use Rattle.page.specs.Inner.Rows.{valuePut, RowPut, RowClear, RowsShown, RowsRight, Cleared};
 use facts::Attr;
 use facts::Person;
 use frames::Book;
 use frames::Query;
 use frames::Want;
-use orders::NAMES_SIZE;
 use sizes::Sizes;
 use widths::DRAFT_SIZE;
 use widths::FLAGS_SIZE;
@@ -76,14 +77,14 @@ fn asked_nothing(mode: u8, roles: u32, p: u8) -> Query
     }
 }
 
-// Sets the bit of value f % 16 of attribute f / 16 for person p, where it is a value of the book and the flags show it.
-fn put_value(z: Sizes, p: u8, x: &[bool], f: u8, out: &mut [u8])
-    requires { ⌜ (f < 128) × (length (now x) ≡ flagsSize) ⌝ }
-    ensures { λ _. ⌜ now (out .exit) ≡ valuePut z p (now (x .entry)) f (now (out .entry)) ⌝ }
+// Sets the bit of value f % 16 of attribute f / 16 for person p, where it is a value of the book and the person's flags show it.
+fn put_value(z: Sizes, p: u8, held: &[u64], f: u8, out: &mut [u8])
+    requires { ⌜ ((p < 64) × (f < 128)) × (length (now held) ≡ flagsSize) ⌝ }
+    ensures { λ _. ⌜ now (out .exit) ≡ valuePut z p (column (now (held .entry)) p) f (now (out .entry)) ⌝ }
 {
     let a = f / 16;
     let v = f % 16;
-    let shown = x[LEVEL_SIZE + (f as usize)];
+    let shown = words::has(held, LEVEL_SIZE + (f as usize), p);
     let value = sizes::is_value(z, a, v);
     if shown & value {
         sets::put_at(out, 16 * (p as usize) + 2 * (a as usize), 2, v, true);
@@ -91,58 +92,28 @@ fn put_value(z: Sizes, p: u8, x: &[bool], f: u8, out: &mut [u8])
 }
 
 // The row of person p, from the flags of the person's level.
-fn put_row(z: Sizes, p: u8, x: &[bool], out: &mut [u8])
-    requires { ⌜ (p < 64) × (length (now x) ≡ flagsSize) ⌝ }
+fn put_row(z: Sizes, p: u8, held: &[u64], out: &mut [u8])
+    requires { ⌜ (p < 64) × (length (now held) ≡ flagsSize) ⌝ }
     requires { ⌜ RowClear p (now out) ⌝ }
-    ensures { λ _. ⌜ RowPut z p (now (x .entry)) 128 (now (out .entry)) (now (out .exit)) ⌝ }
+    ensures { λ _. ⌜ RowPut z p (column (now (held .entry)) p) 128 (now (out .entry)) (now (out .exit)) ⌝ }
 {
     let mut f: u8 = 0;
     while f < 128 {
-        put_value(z, p, x, f, out);
+        put_value(z, p, held, f, out);
         f += 1;
     }
 }
 
-// The rows of all persons. Each begins with the crews as they are settled, and tries first the moves that `orders` names.
-fn put_rows(b: Book, facts: &[u8], adds: &[u16], dels: &[u16], table: &[bool], out: &mut [u8])
-    requires { ⌜ Admitted (contentsOf b) × Roams (contentsOf b) ⌝ }
-    requires { ⌜ SideMoves (b .rules) (b .query .roles) 1 5 2 6 (movesIn (now adds)) (movesIn (now dels)) × (now facts ≡ b .facts) ⌝ }
-    requires { ⌜ CrewsSettled (contentsOf b) (now table) × RowsRight (contentsOf b) 0 (now out) ⌝ }
-    ensures { λ _. ⌜ RowsRight (contentsOf b) (b .sizes .persons) (now (out .exit)) ⌝ }
+// The rows of all persons, from the flags of all.
+fn put_rows(z: Sizes, held: &[u64], out: &mut [u8])
+    requires { ⌜ (z .persons ≤ 64) × (length (now held) ≡ flagsSize) ⌝ }
+    requires { ⌜ Cleared pageSize (now out) ⌝ }
+    ensures { λ _. ⌜ RowsShown z (now (held .entry)) (z .persons) (now (out .exit)) ⌝ }
 {
-    let z = b.sizes;
-    let crews = z.crews;
     let persons = z.persons;
-    let mut names = [512u16; NAMES_SIZE];
-    let mut deleted = [512u16; LEVEL_SIZE];
-    let mut x = [false; FLAGS_SIZE];
-    let mut up = [0u8; 800];
-    let mut down = [0u8; 800];
-    orders::orders(persons, facts, adds, table, &mut names);
     let mut p: u8 = 0;
     while p < persons {
-        let q = asked_nothing(1, b.query.roles, p);
-        let from = LEVEL_SIZE * (p as usize);
-        let to = from + LEVEL_SIZE;
-        search::settle_level(
-            q,
-            crews,
-            facts,
-            crews,
-            p,
-            false,
-            adds,
-            dels,
-            &mut names[from..to],
-            &mut deleted,
-            table,
-            &mut x,
-            0,
-            &mut up,
-            160,
-            &mut down,
-        );
-        put_row(z, p, &x, out);
+        put_row(z, p, held, out);
         p += 1;
     }
 }
@@ -187,10 +158,10 @@ fn crews_table(b: Book, gains: &[u16], losses: &[u16], table: &mut [bool])
 }
 
 // The crews once, then the persons, with the moves of both.
-fn fill_by(b: Book, gains: &[u16], losses: &[u16], adds: &[u16], dels: &[u16], out: &mut [u8])
+fn fill_by(b: Book, gains: &[u16], losses: &[u16], adds: &[u16], out: &mut [u8])
     requires { ⌜ Admitted (contentsOf b) × Roams (contentsOf b) ⌝ }
     requires { ⌜ SideMoves (b .rules) (b .query .roles) 3 3 4 4 (movesIn (now gains)) (movesIn (now losses)) ×
-        SideMoves (b .rules) (b .query .roles) 1 5 2 6 (movesIn (now adds)) (movesIn (now dels)) ⌝ }
+        PersonMoves (b .rules) (b .query .roles) (movesIn (now adds)) ⌝ }
     requires { ⌜ length (now out) ≡ pageSize ⌝ }
     ensures { λ _. ⌜ RowsRight (contentsOf b) (b .sizes .persons) (now (out .exit)) ⌝ }
 {
@@ -198,7 +169,16 @@ fn fill_by(b: Book, gains: &[u16], losses: &[u16], adds: &[u16], dels: &[u16], o
     let mut table = [false; TABLE_SIZE];
     crews_table(b, gains, losses, &mut table);
     clear(out);
-    put_rows(b, &facts, adds, dels, &table, out);
+    let mut held = [0u64; FLAGS_SIZE];
+    persons::settle(
+        b.sizes.persons,
+        b.sizes.crews,
+        &facts,
+        adds,
+        &table,
+        &mut held,
+    );
+    put_rows(b.sizes, &held, out);
 }
 
 // The moves out of the accepted rules, then the crews and the persons.
@@ -215,15 +195,7 @@ fn fill(b: Book, out: &mut [u8])
     let gains = MOVE_SIZE * n.gains;
     let losses = MOVE_SIZE * n.losses;
     let adds = MOVE_SIZE * n.adds;
-    let dels = MOVE_SIZE * n.dels;
-    fill_by(
-        b,
-        &ms[..gains],
-        &ms[gains..losses],
-        &ms[losses..adds],
-        &ms[adds..dels],
-        out,
-    )
+    fill_by(b, &ms[..gains], &ms[gains..losses], &ms[losses..adds], out)
 }
 
 // The page of an accepted book. Of its query the roles alone are used.

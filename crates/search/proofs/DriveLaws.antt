@@ -1,7 +1,7 @@
 -- From level to level: the first, a crew's, and the query's person's.
 use mathlib.Core.Path.{_≡_, refl, ap, sym, fun-ext, _∙_}
 use mathlib.Core.Logic.{⊎-elim, dite}
-use mathlib.Core.Bool.{Bool, true, false, _&&_, _||_, or-false, true≢false}
+use mathlib.Core.Bool.{Bool, true, false, not, _&&_, _||_, and-true, or-false, true≢false}
 use mathlib.Core.List.{List, [], _∷_, _++_, map}
 use Prim.Native.Nat.{ℕ, zero, suc, _+_, _-_, _*_, _/_, _%_, _≤_, _<_}
 use native.Mathlib.Decide.{ℕ-discrete, decLt}
@@ -21,15 +21,17 @@ use Rattle.frames.specs.Book.{Contents, listed}
 use Rattle.frames.specs.Inner.Fits.{Admitted}
 use Rattle.quantifiers.proofs.ListLaws.{map-append}
 use Rattle.theory.specs.Inner.Facts.{State, _⊆_, minus, Clear}
-use Rattle.theory.specs.Inner.Plan.{Ask, Req, Runs, end, addThenDelete, Best}
+use Rattle.theory.specs.Inner.Plan.{Ask, Req, Runs, end, addThenDelete, Brings, AddClosed, Best}
+use Rattle.theory.specs.Inner.Sweep.{Added}
 use Rattle.theory.proofs.PlanLaws.{bounds-first}
+use Rattle.theory.proofs.TierLaws.{brings-map}
 use Rattle.level.specs.Inner.Moves.{Moves}
 use Rattle.shown.specs.Inner.Shown.{row, direct, Whole}
 use Rattle.level.specs.Inner.Terms.{effective}
 use Rattle.level.specs.Inner.World.{world}
 use Rattle.level.proofs.Levels.{onLevel, toWhole, Within}
 use Rattle.level.specs.Inner.Notes.{askAt, asks}
-use Rattle.level.specs.Inner.Settle.{Settled, Stuck}
+use Rattle.level.specs.Inner.Settle.{Rounds, Settled, Stuck, again, none-yet}
 use Rattle.level.specs.Inner.Upto.{Upto}
 use Rattle.shown.proofs.ShownLaws.{direct-low, direct-in}
 use Rattle.level.proofs.TermLaws.{visible-effective}
@@ -45,6 +47,34 @@ use Rattle.flags.specs.Inner.Flags as flags
 use Rattle.search.proofs.Tables.{CrewTableRight, PersonTableRight}
 use Rattle.search.specs.Inner.Drive.{starts, Rows, Driving}
 use Rattle.search.proofs.TermBridge.{crew-effective, lower-holds}
+
+-- ---------------------------------------------------------------- what a level comes to
+
+-- The additions `vs` lead from `s` to `x`, the deletions `es` from `x` to what of it is not forbidden, and `x` bounds the level.
+pub record LevelEnds (adds dels : Moves) (p : ℕ) (T bads s u x : List Bool) (vs es : List Ask) : Type 0 where
+  pub grown : direct s ⊆ direct x
+  pub rounds : Rounds (world T adds dels p) (direct bads) (direct s) (direct u) (direct x)
+  pub additions : Brings (world T adds dels p) true (direct s) vs (direct x)
+  pub deletions : Brings (world T adds dels p) false (direct x) es (minus (direct x) (direct bads))
+
+-- A level that is settled in two buffers ends so, by the requests in them.
+pub settled-ends : {adds dels : Moves} {p : ℕ} {T bads s u x : List Bool} {first : ℕ} {up₁ up : List ℕ} {n last : ℕ} {down₁ down : List ℕ} {at′ : ℕ}
+    → Settled adds dels p T bads s u x first up₁ up n last down₁ down at′
+    → LevelEnds adds dels p T bads s u x (asks up first n) (asks down at′ (last - at′))
+settled-ends settled =
+    record { grown = settled .grown; rounds = settled .rounds; additions = settled .additions; deletions = settled .deletions }
+
+-- Where nothing is forbidden, additions alone end a level, once none of them is left.
+pub closed-ends : {adds : Moves} (dels : Moves) {p : ℕ} {T bads s u x : List Bool} {us : List Ask} → ((f : ℕ) → direct bads f ≡ false)
+    → Added (world T adds adds p) (direct s) (direct u) (direct x) us → AddClosed (world T adds adds p) (direct u) (direct x)
+    → LevelEnds adds dels p T bads s u x us []
+closed-ends {adds} dels {p} {T} {bads} {x = x} {us = us} free added closed =
+    record {
+      grown = added .from;
+      rounds = again none-yet (added .from) (record { add = closed .add }) (record { good = λ f h i. h; back = λ q h i. h });
+      additions = brings-map (world T adds adds p) (world T adds dels p) (λ S a m. m) us (added .brings);
+      deletions = record { runs = tt; ends = fun-ext λ f. sym (ap (λ (t : Bool). direct x f && not t) (free f) ∙ and-true (direct x f)) };
+    }
 
 -- ---------------------------------------------------------------- numbers that are no crew's
 
@@ -247,26 +277,23 @@ module _ (b : Contents) (ok : Admitted b) where
           (λ g e i. drive .upto .starts g i)
           f h (sym (same-s f h) ∙ stuck .held) (stuck .missing) (stuck .rounds) (rw whole-u (drive .upto .bounds))
 
-      -- The level settled in any two buffers, its requests in `up` from `first` on and in `down` up to `last`.
-      module _ {x : List Bool} {first : ℕ} {up₁ up : List ℕ} {n last : ℕ} {down₁ down : List ℕ} {at′ : ℕ}
-          (settled : Settled adds dels p T bads s u x first up₁ up n last down₁ down at′) where
+      -- The level with its requests, wherever they are written.
+      module _ {x : List Bool} {vs es : List Ask} (ends : LevelEnds adds dels p T bads s u x vs es) where
         next-upto : Upto (depot b) levelOf (bad b) (starts b) (suc k) (onLevel k (drive .R) (direct x))
-            (drive .us ++ map (toWhole k) (asks up first n)) (map (toWhole k) (asks down at′ (last - at′)) ++ drive .ds)
+            (drive .us ++ map (toWhole k) vs) (map (toWhole k) es ++ drive .ds)
         next-upto =
             upto-next (depot-lawful b) (depot-local b) (λ g. refl) (bad b) (starts b) (drive .upto) (world T adds dels p) w
-            (direct s) (direct u) (direct x) (asks up first n) (asks down at′ (last - at′)) (direct bads)
-            same-bad same-s same-u (settled .rounds) (settled .additions) (settled .deletions) (settled .grown)
+            (direct s) (direct u) (direct x) vs es (direct bads)
+            same-bad same-s same-u (ends .rounds) (ends .additions) (ends .deletions) (ends .grown)
 
         none-behind : k ≡ personLevel b → (g : ℕ) → suc k ≤ levelOf g → onLevel k (drive .R) (direct x) g ≡ false
         none-behind is g h = on-level-out k (drive .R) (direct x) g (omega arith) ∙ drive .none g (omega arith)
 
         -- After the last level there is the best plan; it ends with what is settled, but for the forbidden facts.
-        pub drive-best : k ≡ personLevel b → Best (depot b) (bad b) (starts b) (drive .us ++ map (toWhole k) (asks up first n))
-            (map (toWhole k) (asks down at′ (last - at′)) ++ drive .ds)
+        pub drive-best : k ≡ personLevel b → Best (depot b) (bad b) (starts b) (drive .us ++ map (toWhole k) vs) (map (toWhole k) es ++ drive .ds)
         drive-best is = upto-best (depot-lawful b) (depot-local b) (λ g. refl) (bad b) (starts b) {n = suc k} (none-behind is) next-upto
 
-        pub drive-ends : k ≡ personLevel b
-            → end (starts b) (addThenDelete (drive .us ++ map (toWhole k) (asks up first n)) (map (toWhole k) (asks down at′ (last - at′)) ++ drive .ds))
+        pub drive-ends : k ≡ personLevel b → end (starts b) (addThenDelete (drive .us ++ map (toWhole k) vs) (map (toWhole k) es ++ drive .ds))
             ≡ minus (onLevel k (drive .R) (direct x)) (bad b)
         drive-ends is = upto-ends (depot-lawful b) (depot-local b) (λ g. refl) (bad b) (starts b) {n = suc k} (none-behind is) next-upto
 
@@ -306,7 +333,7 @@ module _ (b : Contents) (ok : Admitted b) where
               R = onLevel k (drive .R) (direct x);
               us = drive .us ++ map (toWhole k) (asks up ups n);
               ds = map (toWhole k) (asks down at′ (at - at′)) ++ drive .ds;
-              upto = next-upto settled;
+              upto = next-upto (settled-ends settled);
               full = λ g h l. on-level-out k (drive .R) (direct x) g (omega arith) ∙ drive .full g (omega arith) l;
               none = λ g h. on-level-out k (drive .R) (direct x) g (omega arith) ∙ drive .none g h;
               rows-right = right;

@@ -21,7 +21,7 @@ use Rattle.frames.specs.Inner.Fits.{Admitted}
 use Rattle.theory.specs.Inner.Facts.{State, _⊆_, minus}
 use Rattle.theory.specs.Inner.Plan.{Ask, end, addThenDelete, Best}
 use Rattle.level.specs.Inner.Moves.{Moves, movesIn}
-use Rattle.shown.specs.Inner.Shown.{direct}
+use Rattle.shown.specs.Inner.Shown.{direct, Whole}
 use Rattle.level.specs.Inner.World.{world}
 use Rattle.level.specs.Inner.Chosen.{GoodRules, MovesOf}
 use Rattle.level.proofs.Levels.{onLevel, toWhole, Within}
@@ -43,7 +43,7 @@ use Rattle.search.proofs.WithinLaws.{within, all-good}
 use Rattle.search.proofs.SubjectLaws.{crew-level, crew-terms, crew-adds, crew-dels, person-level, person-terms, person-adds, person-dels}
 use Rattle.search.proofs.PersonLaws.{to-admitted, start-for, bad-for}
 use Rattle.search.proofs.DriveLaws.{Handed, drive-first, crew-table, person-table, rows-next, drive-stuck, drive-next}
-use Rattle.search.proofs.DriveLaws.{drive-best, drive-ends, up-next, down-next}
+use Rattle.search.proofs.DriveLaws.{LevelEnds, settled-ends, drive-best, drive-ends, up-next, down-next}
 
 -- What is told by the negation.
 pub no-found : (x : Bool) → not x ≡ true → x ≡ false
@@ -202,7 +202,7 @@ module _ (b : Contents) (ok : Admitted b) (rs : Rules) (same-rules : b .rules �
               record {
                 us = drive .us ++ map (toWhole (b .sizes .crews)) (asks up ups n);
                 ds = map (toWhole (b .sizes .crews)) (asks down at′ (at - at′)) ++ drive .ds;
-                best = drive-best b ok rs same-rules few (mv .room) drive at-last person-inside person-handed done refl;
+                best = drive-best b ok rs same-rules few (mv .room) drive at-last person-inside person-handed (settled-ends done) refl;
                 bytes-up = up-next b ok rs same-rules few (mv .room) drive at-last person-inside person-handed done;
                 bytes-down = down-next b ok rs same-rules few (mv .room) drive at-last person-inside person-handed done;
                 few-up = omega (arith, drive .few-up, done .few-up, ok .sized .crews-most);
@@ -215,32 +215,27 @@ module _ (b : Contents) (ok : Admitted b) (rs : Rules) (same-rules : b .rules �
           };
         }
 
-    -- Where nothing is forbidden, a level settled in any two buffers gives the best plan's end: its flags are what the person
-    -- effectively holds there.
-    pub person-ends : ((g : ℕ) → bad b g ≡ false) → {x : List Bool} {first : ℕ} {up₁ up : List ℕ} {n last : ℕ} {down₁ down : List ℕ} {found : Bool} {at′ : ℕ}
-        → Result adds dels (b .query .person .0) table bads s u x first up₁ up last down₁ down found n at′ → PersonEnds b x
-    person-ends free {x} {first} {up₁} {up} {n} {last} {down₁} {down} {found} {at′} result = by-found found refl
+    -- Where nothing is forbidden the level's end is the best plan's: its flags are what the person effectively holds there.
+    pub person-ends : ((g : ℕ) → bad b g ≡ false) → {x : List Bool} {vs es : List Ask} → Whole table x
+        → LevelEnds adds dels (b .query .person .0) table bads s u x vs es → PersonEnds b x
+    person-ends free {x} {vs} {es} whole ends =
+        record {
+          us = drive .us ++ map (toWhole (b .sizes .crews)) vs;
+          ds = map (toWhole (b .sizes .crews)) es ++ drive .ds;
+          best = drive-best b ok rs same-rules few (mv .room) drive at-last person-inside person-handed ends refl;
+          shows = λ a v l h.
+              whole .shows (160 + (16 * a + v)) (omega arith)
+              ∙ visible-effective table (direct x) (16 * a + v) (omega arith)
+              ∙ person-effective b (drive .R) (direct x) table person-right (record { 0 = a }) v l h
+              ∙ ap (λ (S : State). personHolds (b .juniors) (lift b S) (b .query .person) (record { 0 = a }) v) (sym (last-state ∙ same-end));
+        }
       where
+        last-state : end (starts b) (addThenDelete (drive .us ++ map (toWhole (b .sizes .crews)) vs) (map (toWhole (b .sizes .crews)) es ++ drive .ds))
+            ≡ minus (onLevel (b .sizes .crews) (drive .R) (direct x)) (bad b)
+        last-state = drive-ends b ok rs same-rules few (mv .room) drive at-last person-inside person-handed ends refl
+
         same-end : minus (onLevel (b .sizes .crews) (drive .R) (direct x)) (bad b) ≡ onLevel (b .sizes .crews) (drive .R) (direct x)
         same-end = fun-ext λ g. ap (λ (t : Bool). onLevel (b .sizes .crews) (drive .R) (direct x) g && not t) (free g) ∙ and-true _
-
-        by-found : (t : Bool) → found ≡ t → PersonEnds b x
-        by-found false e =
-            absurd (drive-stuck b ok rs same-rules few (mv .room) drive at-last person-inside person-handed (result .none e) [] tt
-            (λ g held. free g))
-        by-found true e =
-            let done = result .found e in
-            let ends = drive-ends b ok rs same-rules few (mv .room) drive at-last person-inside person-handed done refl in
-            record {
-              us = drive .us ++ map (toWhole (b .sizes .crews)) (asks up first n);
-              ds = map (toWhole (b .sizes .crews)) (asks down at′ (last - at′)) ++ drive .ds;
-              best = drive-best b ok rs same-rules few (mv .room) drive at-last person-inside person-handed done refl;
-              shows = λ a v l h.
-                  done .whole .shows (160 + (16 * a + v)) (omega arith)
-                  ∙ visible-effective table (direct x) (16 * a + v) (omega arith)
-                  ∙ person-effective b (drive .R) (direct x) table person-right (record { 0 = a }) v l h
-                  ∙ ap (λ (S : State). personHolds (b .juniors) (lift b S) (b .query .person) (record { 0 = a }) v) (sym (ends ∙ same-end));
-            }
 
 -- Where nothing is forbidden for person 0 no crew is stuck: the empty chain ends clear.
 pub free-serves : {b : Contents} → Admitted b → ((g : ℕ) → bad (toPerson b 0) g ≡ false)

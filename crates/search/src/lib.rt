@@ -36,7 +36,7 @@ fn allow_all(u: &mut [bool])
 }
 
 // What a level comes to, once its table stands: its forbidden and its starting facts, their flags, leave to add every fact, and the rounds.
-pub fn settle_level(
+fn settle_level(
     q: Query,
     crews: u8,
     facts: &[u8],

@@ -1,7 +1,7 @@
 -- The flags from place 320 on, whether a value or a higher one is effective: what one more fact does to them, and the loops that write them.
 use mathlib.Core.Path.{_≡_, refl, sym, ap, subst, fun-ext, _∙_}
 use mathlib.Core.Logic.{dite}
-use mathlib.Core.Bool.{Bool, true, false, _&&_, _||_, and-false, or-false, or-true}
+use mathlib.Core.Bool.{Bool, true, false, not, _&&_, _||_, and-false, or-false, or-true}
 use mathlib.Core.List.{List}
 use Prim.Native.Nat.{ℕ, _+_, _-_, _*_, _/_, _%_, _≤_, _<_}
 use native.Mathlib.Decide.{ℕ-discrete, decLt}
@@ -180,6 +180,24 @@ module _ (T : List Bool) (f k : ℕ) where
     -- Behind the highest value none is left.
     pub none-handed-all : 128 ≤ f → f < 160 → k < 128 → 16 * (k / 16) + 16 ≤ j → false ≡ touches T f (320 + k)
     none-handed-all h m l i = sym (touch-handed h l m ∙ r .left ∙ from-end handed (j - 16 * (k / 16)) 16 (omega arith))
+
+-- What a membership adds for a value: what its crew hands on of it, and, but for the highest value, what it adds for the next one.
+pub touch-step : (T : List Bool) (f k : ℕ) → 128 ≤ f → f < 160 → k < 128
+    → touches T f (320 + k) ≡ getD T (160 * (f - 128) + k) false || (not (eqb (k % 16) 15) && touches T f (320 + (k + 1)))
+touch-step T f k h m l =
+    touch-handed T f k h l m ∙ from-step (handed T f k) (k % 16) 16 (omega arith)
+    ∙ ap (λ (b : Bool). b || anyFrom (handed T f k) (k % 16 + 1) 16) (ap (λ (i : ℕ). getD T (160 * (f - 128) + i) false) own)
+    ∙ ap (λ (b : Bool). getD T (160 * (f - 128) + k) false || b) (dite (ℕ-discrete (k % 16) 15)
+    (λ (e : k % 16 ≡ 15). from-end (handed T f k) (k % 16 + 1) 16 (omega arith) ∙ sym (rw (eq-eqb (k % 16) 15 e)))
+    (λ (e : k % 16 ≡ 15 → ⊥).
+    let same : k / 16 ≡ (k + 1) / 16 = omega arith in
+    let next : k % 16 + 1 ≡ (k + 1) % 16 = omega arith in
+    ap (λ (d : ℕ). anyFrom (λ w. getD T (160 * (f - 128) + (16 * d + w)) false) (k % 16 + 1) 16) same
+    ∙ ap (λ (v : ℕ). anyFrom (handed T f (k + 1)) v 16) next ∙ sym (touch-handed T f (k + 1) h (omega arith) m)
+    ∙ sym (ap (λ (b : Bool). not b && touches T f (320 + (k + 1))) (ne-eqb (k % 16) 15 e))))
+  where
+    own : 16 * (k / 16) + k % 16 ≡ k
+    own = omega arith
 
 -- ---------------------------------------------------------------- a value's flag and those of the lower ones
 

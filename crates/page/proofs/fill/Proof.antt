@@ -1,4 +1,5 @@
--- `page::fill` meets its contract: the moves of all four sides in one buffer, then the rows with a part of it for each side. Assumes nothing.
+-- `page::fill` meets its contract: the moves of all four sides in one buffer, then the rows with a part of it for each side but the last: the moves
+-- that delete from a person are there, and not used. Assumes nothing.
 use mathlib.Core.Path.{refl, sym}
 use native.Mathlib.Omega.{arith}
 use lib.ListN.{length-map}
@@ -13,10 +14,10 @@ abbrev entry : tie.After-moves-listed → tie.Start
 entry c = c .before .before .before .before
 
 abbrev after-moves-listed : tie.After-fill-by-arg → tie.After-moves-listed
-after-moves-listed c = c .before .before .before .before .before .before .before
+after-moves-listed c = c .before .before .before .before .before .before
 
-abbrev after-moves-listed-from-fill-by-arg5 : tie.After-fill-by-arg5 → tie.After-moves-listed
-after-moves-listed-from-fill-by-arg5 c = c .before .before .before .before .before .before .before .before .before .before .before
+abbrev parted : tie.After-fill-by-arg4 → tie.After-fill-by-arg
+parted c = c .before .before .before
 
 slice-aggregate-moves-listed : tie.Need-slice-aggregate-moves-listed
 slice-aggregate-moves-listed c = search needs
@@ -39,9 +40,6 @@ mul-losses c = search needs
 
 mul-adds : tie.Need-mul-adds
 mul-adds c = search needs
-
-mul-dels : tie.Need-mul-dels
-mul-dels c = search needs
 
 slice-aggregate-fill-by : tie.Need-slice-aggregate-fill-by
 slice-aggregate-fill-by c =
@@ -72,28 +70,17 @@ part-fill-by-start-2 c = search needs
 part-fill-by-end-2 : tie.Need-part-fill-by-end-2
 part-fill-by-end-2 c = search needs
 
-mul-fill-by-3 : tie.Need-mul-fill-by-3
-mul-fill-by-3 c = search needs
-
-sub-fill-by-3 : tie.Need-sub-fill-by-3
-sub-fill-by-3 c = search needs
-
-part-fill-by-start-3 : tie.Need-part-fill-by-start-3
-part-fill-by-start-3 c = search needs
-
-part-fill-by-end-3 : tie.Need-part-fill-by-end-3
-part-fill-by-end-3 c = search needs
-
 fill-by-requires : tie.Need-fill-by-requires
 fill-by-requires c κs =
-    let sides = after-moves-listed-from-fill-by-arg5 c .moves-listed .ensures in
-    let start = entry (after-moves-listed-from-fill-by-arg5 c) in
+    let listed = after-moves-listed (parted c) in
+    let sides = listed .moves-listed .ensures in
+    let start = entry listed in
     let pre = start .pre in
     let room = simp length-map at (start .good .0 .1 .1 .1 .1 .0 .1 .1 .1 .0 .1 .0 .1) in
     let good = book-good (start .args .b) (pre .0 .0) room in (
       pre .0,
       (
-        (side-moves good room (sides .crew-more) (sides .crew-less), side-moves good room (sides .more) (sides .less)),
+        (side-moves good room (sides .crew-more) (sides .crew-less), record { dels = _; sides = side-moves good room (sides .more) (sides .less) }),
         pre .1,
       ),
     )
@@ -114,7 +101,6 @@ fill-spec =
     mul-gains
     mul-losses
     mul-adds
-    mul-dels
     slice-aggregate-fill-by
     mul-fill-by
     sub-fill-by
@@ -124,10 +110,6 @@ fill-spec =
     sub-fill-by-2
     part-fill-by-start-2
     part-fill-by-end-2
-    mul-fill-by-3
-    sub-fill-by-3
-    part-fill-by-start-3
-    part-fill-by-end-3
     fill-by-requires
     same-length
     returns)

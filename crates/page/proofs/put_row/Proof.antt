@@ -3,6 +3,7 @@ use mathlib.Core.Path.{sym, subst, _∙_}
 use mathlib.Core.List.{List}
 use Prim.Native.Nat.{ℕ, _+_, _-_, _≤_}
 use native.Mathlib.Omega.{arith}
+use Rattle.words.specs.Inner.Words.{column}
 use Rattle.page.specs.Inner.Rows.{RowPut}
 use Rattle.page.proofs.RowLaws.{row-none, row-more, row-all}
 use borrow.Author.Needs.{needs}
@@ -10,10 +11,10 @@ use Rattle.page.proofs.put_row.Statement.{statement}
 use Rattle.page.proofs.put_row.Tie as tie
 
 abbrev Inv-loop : tie.InvT-loop
-Inv-loop z p x out₀ f₀ out f = (f ≤ 128) × RowPut z p x f out₀ out
+Inv-loop z p held out₀ f₀ out f = (f ≤ 128) × RowPut z p (column held p) f out₀ out
 
 abbrev μ-loop : tie.MeasureT-loop
-μ-loop z p x out₀ f₀ out f = 128 - f
+μ-loop z p held out₀ f₀ out f = 128 - f
 
 -- The places that the answers name, each seen from a later one.
 abbrev entry : tie.At-loop Inv-loop μ-loop → tie.Start Inv-loop μ-loop
@@ -23,7 +24,9 @@ loop-holds : tie.Need-loop-holds Inv-loop μ-loop
 loop-holds c = (omega arith, row-none _ _ _ (c .before .before .pre .1))
 
 put-value-requires : tie.Need-put-value-requires Inv-loop μ-loop
-put-value-requires c κs = (c .before .loop-test .taken, entry (c .before .before) .pre .0 .1)
+put-value-requires c κs =
+    let pre = entry (c .before .before) .pre in
+    ((pre .0 .0, c .before .loop-test .taken), pre .0 .1)
 
 add-f : tie.Need-add-f Inv-loop μ-loop
 add-f c = search needs
@@ -37,7 +40,7 @@ loop-again c =
     let start = at-loop-turn .before .before .before .before in
     let turn = at-loop-turn .before in (
       omega (arith, at-loop-turn .loop-test .taken),
-      subst (λ (l : List ℕ). RowPut (start .args .z) (start .args .p) (start .args .x .now) (turn .loop .f + 1)
+      subst (λ (l : List ℕ). RowPut (start .args .z) (start .args .p) (column (start .args .held .now) (start .args .p)) (turn .loop .f + 1)
           (start .args .out .now) l)
           (sym (c .before .before .put-value .ensures))
           (row-more (start .pre .0 .0) (at-loop-turn .loop-test .taken) (start .pre .1) (turn .loop .inv .1)),

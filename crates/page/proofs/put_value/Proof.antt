@@ -1,22 +1,25 @@
 -- `page::put_value` meets its contract: the bit is put where the flag and the test are on. Assumes nothing.
 use native.Mathlib.Omega.{arith}
+use Rattle.words.specs.Inner.Words.{column}
 use Rattle.page.proofs.RowLaws.{value-shown, value-hidden}
 use borrow.Author.Needs.{needs}
 use Rattle.page.proofs.put_value.Statement.{statement}
 use Rattle.page.proofs.put_value.Tie as tie
 
 -- The places that the answers name, each seen from a later one.
-abbrev entry : tie.After-is-value → tie.Start
-entry c = c .before .before .before .before
+abbrev entry : tie.After-has → tie.Start
+entry c = c .before .before .before
 
 abbrev then1 : tie.After-out → tie.Then1
 then1 c = c .before .before .before
 
-add-shown : tie.Need-add-shown
-add-shown c = search needs
+add-has : tie.Need-add-has
+add-has c = search needs
 
-shared-slice-read-shown : tie.Need-shared-slice-read-shown
-shared-slice-read-shown c = omega (arith, c .before .before .before .pre .0, c .before .before .before .pre .1)
+has-requires : tie.Need-has-requires
+has-requires c κs =
+    let pre = c .before .before .pre in
+    (pre .0 .0, omega (arith, pre .0 .1, pre .1))
 
 is-value-requires : tie.Need-is-value-requires
 is-value-requires c κs = search needs
@@ -42,22 +45,24 @@ same-length c = search needs
 returns : tie.Need-returns
 returns c =
     let at-then1 = then1 (c .before) in
-    let start = entry (at-then1 .before) in
-    value-shown (start .args .z) (start .args .p) (start .args .x .now) (start .args .f) (start .args .out .now) _
-    (at-then1 .before .is-value .ensures) (at-then1 .if1 .taken) (c .before .before .put-at .ensures)
+    let shown = at-then1 .before .before in
+    let start = entry shown in
+    value-shown (start .args .z) (start .args .p) (column (start .args .held .now) (start .args .p)) (start .args .f) (start .args .out .now) _ _
+    (shown .has .ensures) (at-then1 .before .is-value .ensures) (at-then1 .if1 .taken) (c .before .before .put-at .ensures)
 
 returns-2 : tie.Need-returns-2
 returns-2 c =
-    let start = entry (c .before) in
-    value-hidden (start .args .z) (start .args .p) (start .args .x .now) (start .args .f) (start .args .out .now) _
-    (c .before .is-value .ensures) (c .if1 .left)
+    let shown = c .before .before in
+    let start = entry shown in
+    value-hidden (start .args .z) (start .args .p) (column (start .args .held .now) (start .args .p)) (start .args .f) (start .args .out .now) _ _
+    (shown .has .ensures) (c .before .is-value .ensures) (c .if1 .left)
 
 pub put-value-spec : {M : Type 1} → statement M
 put-value-spec =
     tie.close
     (tie.spec
-    add-shown
-    shared-slice-read-shown
+    add-has
+    has-requires
     is-value-requires
     mul-put-at
     cast-put-at

@@ -4,14 +4,17 @@ use mathlib.Core.Bool.{Bool, true, false, cond, _&&_}
 use mathlib.Core.List.{List}
 use Prim.Native.Nat.{ℕ, _+_, _*_, _/_, _%_, _≤_, _<_}
 use lib.ListN.{length, getD, replicate}
-use Rattle.widths.specs.Inner.Widths.{levelSize, flagsSize}
+use Rattle.widths.specs.Inner.Widths.{levelSize}
 use Rattle.sets.specs.Sets.{memberAt, putAt}
 use Rattle.sizes.specs.declared.Sizes.{Sizes}
 use Rattle.sizes.specs.Sizes.{isValue}
 use Rattle.frames.specs.declared.Query.{Query}
+use Rattle.frames.specs.declared.Rules.{Rules}
 use Rattle.frames.specs.Book.{Contents, withQuery, noWant}
+use Rattle.level.specs.Inner.Moves.{Moves}
 use Rattle.flags.specs.Inner.Flags.{PersonTable}
-use Rattle.search.specs.Inner.Scan.{Serves}
+use Rattle.search.specs.Inner.Scan.{SideMoves, Serves}
+use Rattle.words.specs.Inner.Words.{column}
 use Rattle.planner.specs.Promise.{NoWay}
 use Rattle.page.specs.Page.{asking, Reachable, pageSize, pageAt}
 
@@ -39,13 +42,10 @@ pub record CrewsSettled (b : Contents) (table : List Bool) : Type 0 where
   pub serves : Serves b (b .sizes .crews) rows ups up at down
   pub made : PersonTable rows table
 
--- The lists that the persons' levels work in: the names of all persons, and what each level writes anew.
-pub record LevelRoom (names deleted : List ℕ) (x : List Bool) (up down : List ℕ) : Type 0 where
-  pub names-size : length names ≡ 64 * levelSize
-  pub deleted-size : length deleted ≡ levelSize
-  pub flags-size : length x ≡ flagsSize
-  pub up-size : length up ≡ 5 * levelSize
-  pub down-size : length down ≡ 5 * levelSize
+-- The moves that add to a person, beside some that delete.
+pub record PersonMoves (rs : Rules) (roles : ℕ) (adds : Moves) : Type 0 where
+  pub dels : Moves
+  pub sides : SideMoves rs roles 1 5 2 6 adds dels
 
 -- ---------------------------------------------------------------- one row
 
@@ -75,6 +75,13 @@ pub record RowClear (p : ℕ) (out : List ℕ) : Type 0 where
   pub none : (a v : ℕ) → a < 8 → v < 16 → bitOf out p a v ≡ false
 
 -- ---------------------------------------------------------------- all rows
+
+-- The rows of the first n persons are what their flags show; all other bits are clear.
+pub record RowsShown (z : Sizes) (ws : List ℕ) (n : ℕ) (out : List ℕ) : Type 0 where
+  pub size : length out ≡ pageSize
+  pub bytes : (j : ℕ) → getD out j 0 < 256
+  pub own : (p a v : ℕ) → p < n → a < 8 → v < 16 → bitOf out p a v ≡ shownValue z (column ws p) a v
+  pub rest : (p a v : ℕ) → n ≤ p → a < 8 → v < 16 → bitOf out p a v ≡ false
 
 -- The rows of the first n persons are right; all other bits are clear.
 pub record RowsRight (b : Contents) (n : ℕ) (out : List ℕ) : Type 0 where

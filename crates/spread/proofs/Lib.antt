@@ -1,0 +1,2 @@
+-- The laws of facts put in for some persons.
+pub mod SpreadLaws
