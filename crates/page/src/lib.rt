@@ -60,13 +60,13 @@ pub fn refusal_line(r: Refusal) -> usize
     }
 }
 
-// A query for a person that asks for nothing.
-fn asked_nothing(mode: u8, roles: u32, p: u8) -> Query
-    ensures { λ q. ⌜ q ≡ askedNothing mode roles p ⌝ }
+// A query for person 0 that asks for nothing.
+fn asked_nothing(mode: u8, roles: u32) -> Query
+    ensures { λ q. ⌜ q ≡ askedNothing mode roles 0 ⌝ }
 {
     Query {
         mode,
-        person: Person(p),
+        person: Person(0),
         roles,
         q: 0,
         wants: [Want {
@@ -206,7 +206,7 @@ fn page_in(b: Book, out: &mut [u8]) -> Paged
     if out.len() != PAGE_SIZE {
         return Paged::Refused(Refusal::BadTable);
     }
-    let query = asked_nothing(1, b.query.roles, 0);
+    let query = asked_nothing(1, b.query.roles);
     let mut nothing = b;
     nothing.query = query;
     fill(nothing, out);

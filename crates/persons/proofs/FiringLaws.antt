@@ -1,6 +1,6 @@
 -- For whom a move fires: the terms one after another, each leaving those who show it; and those who lack the move's fact.
 use mathlib.Core.Path.{_≡_, refl, ap, sym, _∙_}
-use mathlib.Core.Bool.{Bool, true, false, not, _&&_}
+use mathlib.Core.Bool.{Bool, true, false, not, _&&_, and-true, and-false}
 use mathlib.Core.List.{List}
 use Prim.Native.Nat.{ℕ, _+_, _*_, _≤_, _<_}
 use native.Mathlib.Omega.{arith}
@@ -36,21 +36,13 @@ module _ {xs : List ℕ} {at n everyone : ℕ} {ws : List ℕ} {who j : ℕ} (r 
   meeting-more {k} low read = record {
     each = λ p. so-far .each p ∙ by-test (getD (column ws p) k false)
         (λ shown. ap (λ (b : Bool). member who p && b) (places-pass r (λ i. getD (column ws p) i false) j low read shown)
-        ∙ sym (ap (λ (b : Bool). b && rest xs at ws p (j + 1)) (left p ∙ ap (λ (b : Bool). member who p && b) shown ∙ and-on (member who p))))
-        (λ hidden. ap (λ (b : Bool). member who p && b) (places-fail r (λ i. getD (column ws p) i false) j low read hidden) ∙ and-off (member who p)
-        ∙ sym (ap (λ (b : Bool). b && rest xs at ws p (j + 1)) (left p ∙ ap (λ (b : Bool). member who p && b) hidden ∙ and-off (member who p))));
+        ∙ sym (ap (λ (b : Bool). b && rest xs at ws p (j + 1)) (left p ∙ ap (λ (b : Bool). member who p && b) shown ∙ and-true (member who p))))
+        (λ hidden. ap (λ (b : Bool). member who p && b) (places-fail r (λ i. getD (column ws p) i false) j low read hidden) ∙ and-false (member who p)
+        ∙ sym (ap (λ (b : Bool). b && rest xs at ws p (j + 1)) (left p ∙ ap (λ (b : Bool). member who p && b) hidden ∙ and-false (member who p))));
   }
     where
       left : (p : ℕ) → member (bitAnd who (getD ws k 0)) p ≡ member who p && getD (column ws p) k false
       left p = member-and who (getD ws k 0) p ∙ ap (λ (b : Bool). member who p && b) (sym (column-at ws p k))
-
-      and-on : (b : Bool) → (b && true) ≡ b
-      and-on true = refl
-      and-on false = refl
-
-      and-off : (b : Bool) → (b && false) ≡ false
-      and-off true = refl
-      and-off false = refl
 
   -- Where nobody is left nobody meets the move.
   pub meeting-nobody : who ≡ 0 → Meeting (moveFrom xs at) everyone ws 0
@@ -62,13 +54,8 @@ module _ {xs : List ℕ} {at n everyone : ℕ} {ws : List ℕ} {who j : ℕ} (r 
   -- Behind the last term those left meet it.
   pub meeting-all : n ≤ j → Meeting (moveFrom xs at) everyone ws who
   meeting-all h = record {
-    each = λ p. sym (so-far .each p ∙ ap (λ (b : Bool). member who p && b) (places-out r (λ i. getD (column ws p) i false) j h) ∙ and-on (member who p));
+    each = λ p. sym (so-far .each p ∙ ap (λ (b : Bool). member who p && b) (places-out r (λ i. getD (column ws p) i false) j h) ∙ and-true (member who p));
   }
-    where
-      and-on : (b : Bool) → (b && true) ≡ b
-      and-on true = refl
-      and-on false = refl
-
 -- Every fact of a level is allowed.
 pub every-fact : (f : ℕ) → f < 160 → getD everyFact f false ≡ true
 every-fact f l = getD-replicate 160 f true false l

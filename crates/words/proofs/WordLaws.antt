@@ -1,7 +1,7 @@
 -- The laws of words: their members by `|`, `&` and `^`, one person's flags out of all, and flags set for some persons.
 use mathlib.Core.Path.{_≡_, refl, ap, sym, subst, _∙_}
 use mathlib.Core.Logic.{dite}
-use mathlib.Core.Bool.{Bool, true, false, not, cond, _&&_, _||_, or-false, true≢false}
+use mathlib.Core.Bool.{Bool, true, false, not, cond, _&&_, _||_, and-true, and-false, or-false}
 use mathlib.Core.List.{List}
 use Prim.Native.Nat.{ℕ, zero, suc, _+_, _*_, _/_, _%_, _^_, _≤_, _<_}
 use native.Mathlib.Decide.{ℕ-discrete, decLt}
@@ -139,12 +139,8 @@ lit-only {who} {g = g} {before} false e a =
       size = a .size;
       flags = λ k p l. a .flags k p l ∙ ap (λ (n : ℕ). member (getD before k 0) p || (member n p && g k)) e
           ∙ ap (λ (t : Bool). member (getD before k 0) p || (t && g k)) (member-zero p)
-          ∙ ap (λ (t : Bool). member (getD before k 0) p || t) (sym (and-off (member who p)));
+          ∙ ap (λ (t : Bool). member (getD before k 0) p || t) (sym (and-false (member who p)));
     }
-  where
-    and-off : (b : Bool) → (b && false) ≡ false
-    and-off true = refl
-    and-off false = refl
 
 -- One flag set.
 pub lit-one : (who : ℕ) (ws : List ℕ) (k : ℕ) → k < 448 → length ws ≡ 448 → Lit who (λ j. eqb j k) ws (set ws k (bitOr (getD ws k 0) who))
@@ -153,14 +149,10 @@ lit-one who ws k low size =
       size = length-set ws k (bitOr (getD ws k 0) who);
       flags = λ j p l. dite (ℕ-discrete j k)
           (λ (e : j ≡ k). rw e (ap (λ (n : ℕ). member n p) (getD-set-same ws k (bitOr (getD ws k 0) who) 0 (omega arith))
-          ∙ member-or (getD ws k 0) who p ∙ ap (λ (t : Bool). member (getD ws k 0) p || t) (sym (rw (eq-eqb k k refl) (and-on (member who p))))))
+          ∙ member-or (getD ws k 0) who p ∙ ap (λ (t : Bool). member (getD ws k 0) p || t) (sym (rw (eq-eqb k k refl) (and-true (member who p))))))
           (λ (n : j ≡ k → ⊥). ap (λ (n : ℕ). member n p) (getD-set-other ws k j (bitOr (getD ws k 0) who) 0 n)
           ∙ rw (ne-eqb j k n) (lit-none who ws .flags j p l));
     }
-  where
-    and-on : (b : Bool) → (b && true) ≡ b
-    and-on true = refl
-    and-on false = refl
 
 module _ {who : ℕ} {g : ℕ → Bool} {before after : List ℕ} (lit : Lit who g before after) (size : length before ≡ 448) (p : ℕ) where
   -- Whoever is none of the persons shows what was shown.
@@ -227,11 +219,7 @@ put-more {p} {s} {before} {ws} {after} {k} who alone low so-far chosen lit =
         none false false c = refl
 
     own : member (getD ws k 0) p || (eqb p p && (getD s k false && eqb k k)) ≡ getD s k false
-    own = rw (so-far .rest k (omega arith) low, eq-eqb p p refl, eq-eqb k k refl) (and-on (getD s k false))
-      where
-        and-on : (b : Bool) → (b && true) ≡ b
-        and-on true = refl
-        and-on false = refl
+    own = rw (so-far .rest k (omega arith) low, eq-eqb p p refl, eq-eqb k k refl) (and-true (getD s k false))
 
     other : (q : ℕ) → (q ≡ p → ⊥) → member (getD ws k 0) q || (eqb q p && (getD s k false && eqb k k)) ≡ member (getD ws k 0) q
     other q n = rw (ne-eqb q p n) (or-false (member (getD ws k 0) q))
