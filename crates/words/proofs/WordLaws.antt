@@ -1,7 +1,7 @@
 -- The laws of words: their members by `|`, `&` and `^`, one person's flags out of all, and flags set for some persons.
 use mathlib.Core.Path.{_≡_, refl, ap, sym, subst, _∙_}
 use mathlib.Core.Logic.{dite}
-use mathlib.Core.Bool.{Bool, true, false, not, cond, _&&_, _||_, and-true, and-false, or-false}
+use mathlib.Core.Bool.{Bool, true, false, not, cond, _&&_, _||_, and-true, and-false, or-false, or-true}
 use mathlib.Core.List.{List}
 use Prim.Native.Nat.{ℕ, zero, suc, _+_, _*_, _/_, _%_, _^_, _≤_, _<_}
 use native.Mathlib.Decide.{ℕ-discrete, decLt}
@@ -187,42 +187,41 @@ pub put-first : {p : ℕ} (s : List Bool) {ws : List ℕ} → length ws ≡ 448 
 put-first s size clear =
     record { size = size; fits = omega arith; here = λ j l. absurd (omega arith); rest = λ j l m. clear .none j; there = λ j q l n. refl }
 
--- One flag more.
-pub put-more : {p : ℕ} {s : List Bool} {before ws after : List ℕ} {k : ℕ} (who : ℕ) → ((q : ℕ) → member who q ≡ eqb q p) → k < 448
-    → PutSoFar p s before ws k → {w : ℕ} → w ≡ cond (getD s k false) who 0 → Lit w (λ j. eqb j k) ws after → PutSoFar p s before after (k + 1)
-put-more {p} {s} {before} {ws} {after} {k} who alone low so-far chosen lit =
-    record {
-      size = lit .size ∙ so-far .size;
-      fits = omega arith;
-      here = λ j l. dite (ℕ-discrete j k)
-          (λ (e : j ≡ k). rw e (flag k p low ∙ own))
-          (λ (n : j ≡ k → ⊥). kept j p (omega arith) n ∙ so-far .here j (omega arith));
-      rest = λ j l m. kept j p m (omega arith) ∙ so-far .rest j (omega arith) m;
-      there = λ j q l n. dite (ℕ-discrete j k)
-          (λ (e : j ≡ k). rw e (flag k q low ∙ other q n ∙ so-far .there k q low n))
-          (λ (m : j ≡ k → ⊥). kept j q l m ∙ so-far .there j q l n);
-    }
-  where
-    set-one : Lit who (λ j. getD s k false && eqb j k) ws after
-    set-one = lit-only (getD s k false) chosen lit
+module _ {p : ℕ} {s : List Bool} {before ws : List ℕ} {k : ℕ} (low : k < 448) (so-far : PutSoFar p s before ws k) where
+  -- A flag that is set.
+  pub put-more : (who : ℕ) → ((q : ℕ) → member who q ≡ eqb q p) → {after : List ℕ} → getD s k false ≡ true → Lit who (λ j. eqb j k) ws after
+      → PutSoFar p s before after (k + 1)
+  put-more who alone {after} shown lit =
+      record {
+        size = lit .size ∙ so-far .size;
+        fits = omega arith;
+        here = λ j l. dite (ℕ-discrete j k)
+            (λ (e : j ≡ k). rw e (flag k p low ∙ rw (eq-eqb p p refl, eq-eqb k k refl) (or-true (member (getD ws k 0) p)) ∙ sym shown))
+            (λ (n : j ≡ k → ⊥). kept j p (omega arith) n ∙ so-far .here j (omega arith));
+        rest = λ j l m. kept j p m (omega arith) ∙ so-far .rest j (omega arith) m;
+        there = λ j q l n. flag j q l ∙ rw (ne-eqb q p n) (or-false (member (getD ws j 0) q)) ∙ so-far .there j q l n;
+      }
+    where
+      flag : (j q : ℕ) → j < 448 → member (getD after j 0) q ≡ member (getD ws j 0) q || (eqb q p && eqb j k)
+      flag j q l = lit .flags j q l ∙ ap (λ (t : Bool). member (getD ws j 0) q || (t && eqb j k)) (alone q)
 
-    flag : (j q : ℕ) → j < 448 → member (getD after j 0) q ≡ member (getD ws j 0) q || (eqb q p && (getD s k false && eqb j k))
-    flag j q l = set-one .flags j q l ∙ ap (λ (t : Bool). member (getD ws j 0) q || (t && (getD s k false && eqb j k))) (alone q)
+      kept : (j q : ℕ) → j < 448 → (j ≡ k → ⊥) → member (getD after j 0) q ≡ member (getD ws j 0) q
+      kept j q l n =
+          flag j q l ∙ ap (λ (t : Bool). member (getD ws j 0) q || (eqb q p && t)) (ne-eqb j k n)
+          ∙ ap (λ (t : Bool). member (getD ws j 0) q || t) (and-false (eqb q p)) ∙ or-false (member (getD ws j 0) q)
 
-    kept : (j q : ℕ) → j < 448 → (j ≡ k → ⊥) → member (getD after j 0) q ≡ member (getD ws j 0) q
-    kept j q l n = flag j q l ∙ rw (ne-eqb j k n) (none (member (getD ws j 0) q) (eqb q p) (getD s k false))
-      where
-        none : (a b c : Bool) → a || (b && (c && false)) ≡ a
-        none true b c = refl
-        none false true true = refl
-        none false true false = refl
-        none false false c = refl
-
-    own : member (getD ws k 0) p || (eqb p p && (getD s k false && eqb k k)) ≡ getD s k false
-    own = rw (so-far .rest k (omega arith) low, eq-eqb p p refl, eq-eqb k k refl) (and-true (getD s k false))
-
-    other : (q : ℕ) → (q ≡ p → ⊥) → member (getD ws k 0) q || (eqb q p && (getD s k false && eqb k k)) ≡ member (getD ws k 0) q
-    other q n = rw (ne-eqb q p n) (or-false (member (getD ws k 0) q))
+  -- A flag that is not.
+  pub put-skip : getD s k false ≡ false → PutSoFar p s before ws (k + 1)
+  put-skip hidden =
+      record {
+        size = so-far .size;
+        fits = omega arith;
+        here = λ j l. dite (ℕ-discrete j k)
+            (λ (e : j ≡ k). rw e (so-far .rest k (omega arith) low ∙ sym hidden))
+            (λ (n : j ≡ k → ⊥). so-far .here j (omega arith));
+        rest = λ j l m. so-far .rest j (omega arith) m;
+        there = so-far .there;
+      }
 
 pub put-all : {p : ℕ} {s : List Bool} {before ws : List ℕ} {k : ℕ} → PutSoFar p s before ws k → 448 ≤ k → length s ≡ 448 → length before ≡ 448
     → ColumnPut p s before ws

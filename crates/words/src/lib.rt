@@ -44,7 +44,11 @@ pub fn put_column(s: &[bool], p: u8, held: &mut [u64])
     let who = 1u64 << p;
     let mut k: usize = 0;
     while k < FLAGS_SIZE {
-        add(k, only(s[k], who), held);
-        k += 1;
+        if s[k] {
+            add(k, who, held);
+            k += 1;
+        } else {
+            k += 1;
+        }
     }
 }

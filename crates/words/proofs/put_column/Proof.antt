@@ -3,7 +3,7 @@
 use mathlib.Core.Path.{sym, _∙_}
 use Prim.Native.Nat.{_-_}
 use native.Mathlib.Omega.{arith}
-use Rattle.words.proofs.WordLaws.{member-one, PutSoFar, put-first, put-more, put-all}
+use Rattle.words.proofs.WordLaws.{member-one, PutSoFar, put-first, put-more, put-skip, put-all}
 use borrow.Author.Needs.{needs}
 use Rattle.words.proofs.put_column.Statement.{statement}
 use Rattle.words.proofs.put_column.Tie as tie
@@ -29,14 +29,11 @@ loop-holds c =
     let start = c .before .before in
     put-first (start .args .s .now) (start .pre .0 .1 .1) (start .pre .1)
 
-shared-slice-read-only : tie.Need-shared-slice-read-only Inv-loop μ-loop
-shared-slice-read-only c = omega (arith, at-start (c .before .before) .pre .0 .1 .0, c .before .loop-test .taken)
-
-only-requires : tie.Need-only-requires Inv-loop μ-loop
-only-requires c κs = search needs
+shared-slice-read-if1 : tie.Need-shared-slice-read-if1 Inv-loop μ-loop
+shared-slice-read-if1 c = omega (arith, at-start (c .before .before) .pre .0 .1 .0, c .before .loop-test .taken)
 
 add-requires : tie.Need-add-requires Inv-loop μ-loop
-add-requires c κs = (c .before .before .before .loop-test .taken, c .before .before .before .before .loop .inv .size)
+add-requires c κs = let turn = c .before .before .before in (turn .loop-test .taken, turn .before .loop .inv .size)
 
 add-k : tie.Need-add-k Inv-loop μ-loop
 add-k c = omega (arith, at-loop (c .before .before) .loop .inv .fits)
@@ -46,11 +43,20 @@ loop-less c = omega arith
 
 loop-again : tie.Need-loop-again Inv-loop μ-loop
 loop-again c =
-    let turn = at-loop (c .before .before) in
+    let set = c .before .before in
+    let turn = at-loop set in
     let start = at-start turn in
-    let add = c .before .before in
-    put-more _ (member-one (start .args .p) (start .pre .0 .0)) (add .before .before .before .before .loop-test .taken) (turn .loop .inv)
-    (add .before .before .only .ensures) (add .add .ensures)
+    put-more (set .before .before .before .before .loop-test .taken) (turn .loop .inv) _ (member-one (start .args .p) (start .pre .0 .0))
+    (set .before .before .if1 .taken) (set .add .ensures)
+
+add-k-2 : tie.Need-add-k-2 Inv-loop μ-loop
+add-k-2 c = omega (arith, c .before .before .before .loop .inv .fits)
+
+loop-less-2 : tie.Need-loop-less-2 Inv-loop μ-loop
+loop-less-2 c = omega arith
+
+loop-again-2 : tie.Need-loop-again-2 Inv-loop μ-loop
+loop-again-2 c = put-skip (c .before .before .loop-test .taken) (c .before .before .before .loop .inv) (c .if1 .left)
 
 same-length : tie.Need-same-length Inv-loop μ-loop
 same-length c = c .before .loop .inv .size ∙ sym (at-start (c .before) .pre .0 .1 .1)
@@ -68,11 +74,13 @@ put-column-spec =
     μ-loop
     shl-who
     loop-holds
-    shared-slice-read-only
-    only-requires
+    shared-slice-read-if1
     add-requires
     add-k
     loop-less
     loop-again
+    add-k-2
+    loop-less-2
+    loop-again-2
     same-length
     returns)
