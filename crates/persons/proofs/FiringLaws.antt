@@ -56,6 +56,7 @@ module _ {xs : List ℕ} {at n everyone : ℕ} {ws : List ℕ} {who j : ℕ} (r 
   meeting-all h = record {
     each = λ p. sym (so-far .each p ∙ ap (λ (b : Bool). member who p && b) (places-out r (λ i. getD (column ws p) i false) j h) ∙ and-true (member who p));
   }
+
 -- Every fact of a level is allowed.
 pub every-fact : (f : ℕ) → f < 160 → getD everyFact f false ≡ true
 every-fact f l = getD-replicate 160 f true false l

@@ -1,15 +1,11 @@
 // The levels of all persons at once, above crews that are settled: what each person can come to hold, where nothing is forbidden. The flags stand in
 // words, with a bit for each person, so that one look at a move serves all persons.
 ghost use mathlib.Core.Path.{_≡_};
-ghost use mathlib.Core.Bool.{_&&_};
 ghost use Prim.Native.Nat.{_+_, _≤_, _<_};
 ghost use lib.ListN.{length};
-ghost use Rattle.sets.specs.Sets.{member};
-ghost use Rattle.level.specs.Inner.Moves.{Fine, Sound, moveFrom, moveAt, movesIn, flagsMet};
-ghost use Rattle.level.specs.Inner.Sweep.{firesIn};
+ghost use Rattle.level.specs.Inner.Moves.{Fine, Sound, moveFrom, moveAt, movesIn};
 ghost use Rattle.widths.specs.Inner.Widths.{flagsSize, tableSize, moveSize};
-ghost use Rattle.words.specs.Inner.Words.{column};
-ghost use Rattle.persons.specs.Inner.Persons.{everyFact, NoFlags, Begun, Meeting, Firing, AllWhole, AllEnd, PersonsEnd};
+ghost use Rattle.persons.specs.Inner.Persons.{NoFlags, Begun, Meeting, Firing, AllWhole, AllEnd, PersonsEnd};
 use facts::Person;
 use widths::FLAGS_SIZE;
 use widths::LEVEL_SIZE;

@@ -1,7 +1,7 @@
 -- The laws of facts put in for some persons: the loops that set the flags, and the flags of the whole fact.
 use mathlib.Core.Path.{_≡_, refl, sym, ap, subst, _∙_}
 use mathlib.Core.Logic.{dite}
-use mathlib.Core.Bool.{Bool, true, false, not, cond, _&&_, _||_, and-false, or-false, or-true}
+use mathlib.Core.Bool.{Bool, true, false, not, cond, _&&_, _||_, and-true, and-false, or-false, or-true}
 use mathlib.Core.List.{List}
 use Prim.Native.Nat.{ℕ, _+_, _-_, _*_, _/_, _%_, _≤_, _<_}
 use native.Mathlib.Decide.{ℕ-discrete, decLt}
@@ -14,10 +14,6 @@ use Rattle.shown.proofs.ShownLaws.{touch-direct, touch-own, touch-value, touch-
 use Rattle.shown.proofs.HigherLaws.{touch-not-higher, touch-step}
 use Rattle.words.specs.Inner.Words.{Lit}
 use Rattle.words.proofs.WordLaws.{lit-none, lit-both, lit-same, lit-only}
-
-and-true : (b : Bool) → (b && true) ≡ b
-and-true true = refl
-and-true false = refl
 
 or-none : (a b : Bool) → a || (b && false) ≡ a
 or-none true b = refl

@@ -289,8 +289,8 @@ mod tests {
         assert!(all()[9].points.iter().all(|(persons, job)| usize::from(job.book.sizes.persons) == *persons));
     }
 
-    /// The library looks up beforehand in which order each person's moves fire. No answer shows it, but without it this
-    /// page takes some twenty times as long.
+    /// The library settles all persons at once. No answer shows it, but with a level for each person in turn this page
+    /// takes some twenty times as long, since no two neighbours' moves fire in the same order.
     #[test]
     fn chains_in_turn_make_a_page_no_dearer() {
         let micros = |taken| {
