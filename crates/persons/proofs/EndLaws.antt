@@ -62,6 +62,12 @@ sum-less f g (suc n) i le h l = dite (ℕ-discrete i n)
 
 -- ---------------------------------------------------------------- the sweep
 
+-- Who is in a word has a number below 64.
+person-low : (everyone : ℕ) → everyone < 2 ^ 64 → (p : ℕ) → member everyone p ≡ true → p < 64
+person-low everyone small p is = dite (decLt p 64)
+    (λ (h : p < 64). h)
+    (λ (h : p < 64 → ⊥). absurd (true≢false (sym is ∙ member-beyond everyone p 64 small (omega arith))))
+
 -- How far the persons of `everyone` have come.
 pub record Growing (ms : Moves) (T : List Bool) (everyone : ℕ) (before ws : List ℕ) : Type 0 where
   pub size : length ws ≡ 448
@@ -151,8 +157,7 @@ module _ {ms : Moves} (sound : Sound ms) {T : List Bool} {everyone : ℕ} {befor
         let p = found .0 in
         sum-less (facts-of ws) (facts-of after) 64 p
         (λ q h. by-test (member who q) (λ e. omega (arith, one-more q e)) (λ e. omega (arith, as-many q e)))
-        (dite (decLt p 64) (λ (h : p < 64). h)
-        (λ (h : p < 64 → ⊥). absurd (true≢false (sym (fires-for p (found .1) .0) ∙ member-beyond everyone p 64 small (omega arith)))))
+        (person-low everyone small p (fires-for p (found .1) .0))
         (omega (arith, one-more p (found .1)))
 
     -- So a move that fires for somebody leaves fewer facts to be added.
@@ -176,8 +181,7 @@ module _ {ms : Moves} (sound : Sound ms) {T : List Bool} {everyone : ℕ} {befor
       quiet : (p : ℕ) → member everyone p ≡ true → (j : ℕ) → j < ms .count → firesIn (moveAt ms j) everyFact (column ws p) ≡ false
       quiet p is j l =
           ap (λ (b : Bool). b && firesIn (moveAt ms j) everyFact (column ws p)) (sym is)
-          ∙ any-none (λ q. member everyone q && firesIn (moveAt ms j) everyFact (column ws q)) 64 p (still j l)
-          (dite (decLt p 64) (λ (h : p < 64). h) (λ (h : p < 64 → ⊥). absurd (true≢false (sym is ∙ member-beyond everyone p 64 small (omega arith)))))
+          ∙ any-none (λ q. member everyone q && firesIn (moveAt ms j) everyFact (column ws q)) 64 p (still j l) (person-low everyone small p is)
 
 -- ---------------------------------------------------------------- from the start to the end
 

@@ -122,7 +122,7 @@ lit-both {who} {g} {h} {before} {between} a b =
     both false true false h = refl
     both false false g h = refl
 
--- The same flags in other words.
+-- The same flags, told in another way.
 pub lit-same : {who : ℕ} {g h : ℕ → Bool} {before after : List ℕ} → ((k : ℕ) → k < 448 → g k ≡ h k) → Lit who g before after → Lit who h before after
 lit-same {who} {g} {h} {before} same a =
     record {
