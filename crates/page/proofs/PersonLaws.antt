@@ -26,7 +26,8 @@ use Rattle.search.proofs.DriveLaws.{closed-ends}
 use Rattle.search.proofs.StepLaws.{PersonEnds, starts-built, person-ends, free-serves}
 use Rattle.words.specs.Inner.Words.{column}
 use Rattle.persons.specs.Inner.Persons.{everyFact, Begins, Ends, PersonsEnd}
-use Rattle.page.specs.Inner.Rows.{askedNothing, roaming, Roams, CrewsSettled, PersonMoves, RowsShown, RowsRight}
+use Rattle.rows.specs.Inner.Rows.{RowsShown}
+use Rattle.page.specs.Inner.Rows.{askedNothing, roaming, Roams, CrewsSettled, PersonMoves, RowsRight}
 use Rattle.page.proofs.PageLaws.{to-roaming, roaming-admitted, roaming-free, flag-set, flag-clear}
 use Rattle.page.proofs.RowLaws.{rows-right}
 

@@ -1,26 +1,20 @@
 // The page: a table with a bit for each person and value, set where a plan reaches it. What the crews can come to is worked out once; then all
 // persons have their levels above them, at once. No request of any plan is given.
 ghost use mathlib.Core.Path.{_≡_};
-ghost use Prim.Native.Nat.{_<_, _≤_};
 ghost use lib.ListN.{length};
 ghost use Rattle.frames.specs.Book.{contentsOf};
 ghost use Rattle.frames.specs.Inner.Fits.{Admitted};
 ghost use Rattle.level.specs.Inner.Moves.{movesIn};
 ghost use Rattle.search.specs.Inner.Scan.{SideMoves, BlankTable};
-ghost use Rattle.widths.specs.Inner.Widths.{flagsSize};
-ghost use Rattle.words.specs.Inner.Words.{column};
 ghost use Rattle.page.specs.Page.{refusalNumber, refusalLine, said, pageSize, PageAnswered, PagePromise};
-ghost use Rattle.page.specs.Inner.Rows.{askedNothing, Roams, CrewsSettled, PersonMoves};
-ghost use Rattle.page.specs.Inner.Rows.{valuePut, RowPut, RowClear, RowsShown, RowsRight, Cleared};
+ghost use Rattle.page.specs.Inner.Rows.{askedNothing, Roams, CrewsSettled, PersonMoves, RowsRight};
 use facts::Attr;
 use facts::Person;
 use frames::Book;
 use frames::Query;
 use frames::Want;
-use sizes::Sizes;
 use widths::DRAFT_SIZE;
 use widths::FLAGS_SIZE;
-use widths::LEVEL_SIZE;
 use widths::MOVE_SIZE;
 use widths::MOVES_SIZE;
 use widths::ROWS_SIZE;
@@ -77,59 +71,6 @@ fn asked_nothing(mode: u8, roles: u32) -> Query
     }
 }
 
-// Sets the bit of value f % 16 of attribute f / 16 for person p, where it is a value of the book and the person's flags show it.
-fn put_value(z: Sizes, p: u8, held: &[u64], f: u8, out: &mut [u8])
-    requires { ⌜ ((p < 64) × (f < 128)) × (length (now held) ≡ flagsSize) ⌝ }
-    ensures { λ _. ⌜ now (out .exit) ≡ valuePut z p (column (now (held .entry)) p) f (now (out .entry)) ⌝ }
-{
-    let a = f / 16;
-    let v = f % 16;
-    let shown = words::has(held, LEVEL_SIZE + (f as usize), p);
-    let value = sizes::is_value(z, a, v);
-    if shown & value {
-        sets::put_at(out, 16 * (p as usize) + 2 * (a as usize), 2, v, true);
-    }
-}
-
-// The row of person p, from the flags of the person's level.
-fn put_row(z: Sizes, p: u8, held: &[u64], out: &mut [u8])
-    requires { ⌜ (p < 64) × (length (now held) ≡ flagsSize) ⌝ }
-    requires { ⌜ RowClear p (now out) ⌝ }
-    ensures { λ _. ⌜ RowPut z p (column (now (held .entry)) p) 128 (now (out .entry)) (now (out .exit)) ⌝ }
-{
-    let mut f: u8 = 0;
-    while f < 128 {
-        put_value(z, p, held, f, out);
-        f += 1;
-    }
-}
-
-// The rows of all persons, from the flags of all.
-fn put_rows(z: Sizes, held: &[u64], out: &mut [u8])
-    requires { ⌜ (z .persons ≤ 64) × (length (now held) ≡ flagsSize) ⌝ }
-    requires { ⌜ Cleared pageSize (now out) ⌝ }
-    ensures { λ _. ⌜ RowsShown z (now (held .entry)) (z .persons) (now (out .exit)) ⌝ }
-{
-    let persons = z.persons;
-    let mut p: u8 = 0;
-    while p < persons {
-        put_row(z, p, held, out);
-        p += 1;
-    }
-}
-
-// Every byte of the table is 0.
-fn clear(out: &mut [u8])
-    requires { ⌜ length (now out) ≡ pageSize ⌝ }
-    ensures { λ _. ⌜ Cleared pageSize (now (out .exit)) ⌝ }
-{
-    let mut i: usize = 0;
-    while i < PAGE_SIZE {
-        out[i] = 0;
-        i += 1;
-    }
-}
-
 // What the crews come to, once for all persons, as the table of a person's level.
 fn crews_table(b: Book, gains: &[u16], losses: &[u16], table: &mut [bool])
     requires { ⌜ Admitted (contentsOf b) × Roams (contentsOf b) ⌝ }
@@ -168,7 +109,7 @@ fn fill_by(b: Book, gains: &[u16], losses: &[u16], adds: &[u16], out: &mut [u8])
     let facts = b.facts;
     let mut table = [false; TABLE_SIZE];
     crews_table(b, gains, losses, &mut table);
-    clear(out);
+    rows::clear(out);
     let mut held = [0u64; FLAGS_SIZE];
     persons::settle(
         b.sizes.persons,
@@ -178,7 +119,7 @@ fn fill_by(b: Book, gains: &[u16], losses: &[u16], adds: &[u16], out: &mut [u8])
         &table,
         &mut held,
     );
-    put_rows(b.sizes, &held, out);
+    rows::put_rows(b.sizes, &held, out);
 }
 
 // The moves out of the accepted rules, then the crews and the persons.

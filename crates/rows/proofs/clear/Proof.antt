@@ -1,12 +1,12 @@
--- `page::clear` meets its contract: the invariant says that the first i bytes are 0; the measure is how many are left. Assumes nothing.
+-- `rows::clear` meets its contract: the invariant says that the first i bytes are 0; the measure is how many are left. Assumes nothing.
 use mathlib.Core.Path.{sym, _∙_}
 use Prim.Native.Nat.{_-_, _≤_}
 use native.Mathlib.Omega.{arith}
-use Rattle.page.specs.Inner.Rows.{Cleared}
-use Rattle.page.proofs.RowLaws.{cleared-none, cleared-more, cleared-all}
+use Rattle.rows.specs.Inner.Rows.{Cleared}
+use Rattle.rows.proofs.RowLaws.{cleared-none, cleared-more, cleared-all}
 use borrow.Author.Needs.{needs}
-use Rattle.page.proofs.clear.Statement.{statement}
-use Rattle.page.proofs.clear.Tie as tie
+use Rattle.rows.proofs.clear.Statement.{statement}
+use Rattle.rows.proofs.clear.Tie as tie
 
 abbrev Inv-loop : tie.InvT-loop
 Inv-loop out₀ i₀ out i = (i ≤ 1024) × Cleared i out

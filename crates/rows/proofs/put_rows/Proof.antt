@@ -1,13 +1,13 @@
--- `page::put_rows` meets its contract: the invariant says that the rows of the first p persons are what their flags show, and all others clear; the
+-- `rows::put_rows` meets its contract: the invariant says that the rows of the first p persons are what their flags show, and all others clear; the
 -- measure is how many persons are left. Assumes nothing.
 use mathlib.Core.Path.{sym, _∙_}
 use Prim.Native.Nat.{_-_, _≤_}
 use native.Mathlib.Omega.{arith}
-use Rattle.page.specs.Inner.Rows.{RowsShown}
-use Rattle.page.proofs.RowLaws.{rows-none, next-clear, rows-more, rows-all}
+use Rattle.rows.specs.Inner.Rows.{RowsShown}
+use Rattle.rows.proofs.RowLaws.{rows-none, next-clear, rows-more, rows-all}
 use borrow.Author.Needs.{needs}
-use Rattle.page.proofs.put_rows.Statement.{statement}
-use Rattle.page.proofs.put_rows.Tie as tie
+use Rattle.rows.proofs.put_rows.Statement.{statement}
+use Rattle.rows.proofs.put_rows.Tie as tie
 
 abbrev Inv-loop : tie.InvT-loop
 Inv-loop z held out₀ persons p₀ out p = (p ≤ persons) × RowsShown z held p out

@@ -1,10 +1,10 @@
--- `page::put_value` meets its contract: the bit is put where the flag and the test are on. Assumes nothing.
+-- `rows::put_value` meets its contract: the bit is put where the flag and the test are on. Assumes nothing.
 use native.Mathlib.Omega.{arith}
 use Rattle.words.specs.Inner.Words.{column}
-use Rattle.page.proofs.RowLaws.{value-shown, value-hidden}
+use Rattle.rows.proofs.RowLaws.{value-shown, value-hidden}
 use borrow.Author.Needs.{needs}
-use Rattle.page.proofs.put_value.Statement.{statement}
-use Rattle.page.proofs.put_value.Tie as tie
+use Rattle.rows.proofs.put_value.Statement.{statement}
+use Rattle.rows.proofs.put_value.Tie as tie
 
 -- The places that the answers name, each seen from a later one.
 abbrev entry : tie.After-has → tie.Start

@@ -1,14 +1,14 @@
--- `page::put_row` meets its contract: the invariant says that the first f bits of the row are put; the measure is how many are left. Assumes nothing.
+-- `rows::put_row` meets its contract: the invariant says that the first f bits of the row are put; the measure is how many are left. Assumes nothing.
 use mathlib.Core.Path.{sym, subst, _∙_}
 use mathlib.Core.List.{List}
 use Prim.Native.Nat.{ℕ, _+_, _-_, _≤_}
 use native.Mathlib.Omega.{arith}
 use Rattle.words.specs.Inner.Words.{column}
-use Rattle.page.specs.Inner.Rows.{RowPut}
-use Rattle.page.proofs.RowLaws.{row-none, row-more, row-all}
+use Rattle.rows.specs.Inner.Rows.{RowPut}
+use Rattle.rows.proofs.RowLaws.{row-none, row-more, row-all}
 use borrow.Author.Needs.{needs}
-use Rattle.page.proofs.put_row.Statement.{statement}
-use Rattle.page.proofs.put_row.Tie as tie
+use Rattle.rows.proofs.put_row.Statement.{statement}
+use Rattle.rows.proofs.put_row.Tie as tie
 
 abbrev Inv-loop : tie.InvT-loop
 Inv-loop z p held out₀ f₀ out f = (f ≤ 128) × RowPut z p (column held p) f out₀ out
