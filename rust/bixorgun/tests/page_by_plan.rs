@@ -343,7 +343,7 @@ fn has_room(text: &[u8], bytes: usize) -> bool {
 
 /// All bits, but of two books that have no room for the query of one value: they end in a shorter one.
 #[test]
-fn stored_books() {
+fn all_bits_of_stored_books() {
     let mut tally = Tally::default();
     let (mut larger, mut no_room) = (0, 0);
     for (name, text) in stored() {
