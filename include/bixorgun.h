@@ -26,9 +26,9 @@ extern "C" {
 
 /* The minor rises with every later change of a format or of this interface. */
 #define BIXORGUN_VERSION_MAJOR 0
-#define BIXORGUN_VERSION_MINOR 5
+#define BIXORGUN_VERSION_MINOR 6
 #define BIXORGUN_VERSION_PATCH 0
-#define BIXORGUN_VERSION "0.5.0"
+#define BIXORGUN_VERSION "0.6.0"
 
 /* ---------------------------------------------------------------- sizes, in bytes */
 
@@ -51,10 +51,10 @@ static inline size_t bixorgun_plan_size(size_t crews, size_t values)
 
 /* Every operation answers one number:
  *   bits 0-7    the result, one of those below;
- *   bits 8-15   the number of a refusal, 1 to 15 (0 with every other result);
- *   bits 16-63  the value: with REFUSED the line of refusals 1 to 9 alone (0 for refusal 1), 0 for 10 to 14, and for 15
- *               256 x rule + term, which bixorgun_rule and bixorgun_term take apart; with PLAN the count of requests,
- *               with STOPS the request at which replay stops, counted from 1; 0 with every other result.
+ *   bits 8-15   the number of a refusal, 1 to 17 (0 with every other result);
+ *   bits 16-63  the value: with REFUSED the line of refusals 1 to 9, 16 and 17 alone (0 for refusal 1), 0 for 10 to 14,
+ *               and for 15 256 x rule + term, which bixorgun_rule and bixorgun_term take apart; with PLAN the count of
+ *               requests, with STOPS the request at which replay stops, counted from 1; 0 with every other result.
  *               A value of 2^48 or more, which only replay of a plan of over 10^15 bytes could have, is given modulo 2^48.
  */
 #define BIXORGUN_DONE 0       /* open, request, show, page */
@@ -81,14 +81,15 @@ static inline uint64_t bixorgun_value(uint64_t answer)
     return answer >> 16;
 }
 
-/* The refusals. 1 to 9 are those of a book and come first, in every operation. */
+/* The refusals. 1 to 9, 16 and 17 are those of a book and come first, in every operation: 1, then the earliest bad line,
+ * and 16, 17 only where no line is bad, with the line of the query. A "not" term is one of kind 81 or 83. */
 #define BIXORGUN_BOOK_TOO_LONG 1     /* over 65,536 characters */
 #define BIXORGUN_BAD_LINE 2          /* an empty line, odd digits, another character, the last line unended */
 #define BIXORGUN_BAD_FRAME 3         /* first frame not 01, a later 01, kind not 01-05, a frame after 05, no 05 */
 #define BIXORGUN_BAD_LENGTH 4        /* not the length that the kind, with its A, n or q, gives */
 #define BIXORGUN_BAD_FIELD 5         /* a field outside its range; values and sets by the count of their attribute */
 #define BIXORGUN_BAD_EDGE 6          /* the junior is not the smaller number */
-#define BIXORGUN_BAD_TERM 7          /* term 03 or 04 in ops 01-04 (01, 02 and 05 are legal in every op) */
+#define BIXORGUN_BAD_TERM 7          /* term 03, 04 or 83 in ops 01-04 (7 falls on no other kind) */
 #define BIXORGUN_TOO_MANY_RULES 8    /* the 513th rule */
 #define BIXORGUN_NOT_RISING 9        /* the query's attributes */
 #define BIXORGUN_SHORT_PLAN_BUFFER 10 /* plan: under 10 x F bytes; page: table not 1,024 bytes */
@@ -97,6 +98,9 @@ static inline uint64_t bixorgun_value(uint64_t answer)
 #define BIXORGUN_NO_RULE 13          /* request: no rule has its op, role, a and v */
 #define BIXORGUN_BAD_PLAN_LENGTH 14  /* replay: no multiple of five */
 #define BIXORGUN_UNMET_TERM 15       /* request: rules have its op, role, a and v; each has a term that does not hold */
+#define BIXORGUN_BEYOND_NOT 16       /* a book with a "not" term: an op but 01, 03, 05, a second rule for an op, a and v
+                                      * (whatever their roles), or a term but 01, 03, 81, 83 */
+#define BIXORGUN_WRONG_MODE 17       /* mode 03 without a "not" term, or another with one; page: every book with one */
 
 /* Of an answer REFUSED with 15: the place of the first rule that has the request's op, role, a and v, among all the
  * book's rules (03 frames in the book's order, repeats counted, other lines not), counted from 1: 1 to 512.
@@ -116,15 +120,15 @@ static inline unsigned bixorgun_term(uint64_t answer)
 /* ---------------------------------------------------------------- operations */
 
 /* Writes the ledger of the book's starting facts over `ledger`, whose bytes are not read.
- * DONE, or REFUSED with 1-9 or 11; a refusal leaves every byte of `ledger` as it was. */
+ * DONE, or REFUSED with 1-9, 16 or 17, then 11; a refusal leaves every byte of `ledger` as it was. */
 uint64_t bixorgun_open(const uint8_t *book, size_t book_len, uint8_t *ledger, size_t ledger_len);
 
 /* Carries out a request, five bytes: op role subject a v.
  * DONE: it was permitted, and its one fact is set or cleared in `ledger` (it may have been so already).
- * REFUSED with 1-9, then 11, 12, then 13 or 15, both "not permitted"; a refusal leaves every byte of `ledger` as it
- * was. 13: no rule has its op, role, a and v. 15: some rules have them, and each has a term that does not hold of the
- * subject in `ledger` as it stands; bixorgun_rule and bixorgun_term of the answer tell the first such rule and its first
- * such term. */
+ * REFUSED with 1-9, 16 or 17, then 11, 12, then 13 or 15, both "not permitted"; a refusal leaves every byte of `ledger`
+ * as it was. 13: no rule has its op, role, a and v. 15: some rules have them, and each has a term that does not hold of
+ * the subject in `ledger` as it stands; bixorgun_rule and bixorgun_term of the answer tell the first such rule and its
+ * first such term. */
 uint64_t bixorgun_request(const uint8_t *book, size_t book_len, uint8_t *ledger, size_t ledger_len,
                           const uint8_t *request, size_t request_len);
 
@@ -132,20 +136,21 @@ uint64_t bixorgun_request(const uint8_t *book, size_t book_len, uint8_t *ledger,
  * DONE: the first 20 bytes of `view` are the eight attributes' sets, two bytes each (values below the attribute's own
  * count alone, so 0 for an attribute that the book lacks), and the set of crews, four bytes; big-endian, weight 2^v for
  * number v. Bytes behind them keep their content.
- * REFUSED with 1-9, 11 or 12, and, where nothing is refused, NO_ROOM for a `view` under 20 bytes: every byte of `view` as it was. */
+ * REFUSED with 1-9, 16 or 17, then 11, 12, and, where nothing is refused, NO_ROOM for a `view` under 20 bytes: every
+ * byte of `view` as it was. */
 uint64_t bixorgun_show(const uint8_t *book, size_t book_len, const uint8_t *ledger, size_t ledger_len, uint8_t person,
                        uint8_t *view, size_t view_len);
 
 /* Judges a list of requests, five bytes each, from the book's starting facts.
  * REACHES: all are made by the query's roles and permitted, and the last ledger meets the query. STOPS with k: request k is the first
  * that is ill-formed, outside the query's roles or not permitted. ENDS_SHORT: none stops, and the query is not met.
- * REFUSED with 1-9 or 14. */
+ * REFUSED with 1-9, 16 or 17, then 14. */
 uint64_t bixorgun_replay(const uint8_t *book, size_t book_len, const uint8_t *plan, size_t plan_len);
 
 /* Plans the book's query.
  * NO_WAY: no list of requests whatever by the query's roles leads to it; every byte of `out` as it was. PLAN with n: the first 5 x n
  * bytes of `out` are requests that replay answers REACHES to; bytes behind them keep their content.
- * REFUSED with 1-9 or 10; a refusal leaves every byte of `out` as it was. */
+ * REFUSED with 1-9, 16 or 17, then 10; a refusal leaves every byte of `out` as it was. */
 uint64_t bixorgun_plan(const uint8_t *book, size_t book_len, uint8_t *out, size_t out_len);
 
 /* Fills the page of the whole depot: what each person of the book can come to hold by the roles of the book's query.
@@ -154,7 +159,9 @@ uint64_t bixorgun_plan(const uint8_t *book, size_t book_len, uint8_t *out, size_
  * that person, that value alone and the roles of the book's query would get a plan. The plan may be empty, so what the
  * person effectively holds at the start is set. Persons, attributes and values that the book lacks are 0. Of the book's
  * query the roles alone count: its mode, person, sets and crews do not matter.
- * REFUSED with 1-9, then 10 for a `table` of any length but 1,024; a refusal leaves every byte of `table` as it was. */
+ * A book with a "not" term has no page: 17, also where the other operations accept it.
+ * REFUSED with 1-9, 16 or 17, then 10 for a `table` of any length but 1,024; a refusal leaves every byte of `table` as
+ * it was. */
 uint64_t bixorgun_page(const uint8_t *book, size_t book_len, uint8_t *table, size_t table_len);
 
 /* Of a table that bixorgun_page has filled: the set of an attribute's values that a person can come to hold, weight 2^v

@@ -25,7 +25,8 @@ static void print_bytes(const uint8_t *bytes, size_t n)
     putchar('\n');
 }
 
-/* A lead reads 13 and 15 in words: with 13 the rule is missing, with 15 what a rule asks for. */
+/* A lead reads 13 and 15 in words: with 13 the rule is missing, with 15 what a rule asks for. Who writes a book with "not"
+ * terms reads 16 and 17 in words: they are about the book as a whole, and their line is the query's. */
 static void print_refusal(FILE *to, uint64_t answer)
 {
     switch (bixorgun_refusal(answer)) {
@@ -35,6 +36,14 @@ static void print_refusal(FILE *to, uint64_t answer)
     case BIXORGUN_UNMET_TERM:
         fprintf(to, "refusal 15: rule %u of the book matches the request, but its term %u does not hold\n",
                 bixorgun_rule(answer), bixorgun_term(answer));
+        break;
+    case BIXORGUN_BEYOND_NOT:
+        fprintf(to, "refusal 16 on line %" PRIu64 ": a \"not\" term, 81 or 83, in a book with an op but 01, 03 and 05, "
+                "two rules for an op, a and v, or a term but 01, 03, 81 and 83\n", bixorgun_value(answer));
+        break;
+    case BIXORGUN_WRONG_MODE:
+        fprintf(to, "refusal 17 on line %" PRIu64 ": mode 03 without a \"not\" term, 81 or 83, or another mode with one; "
+                "page of a book with one\n", bixorgun_value(answer));
         break;
     default:
         fprintf(to, "result %u, refusal %u, line %" PRIu64 "\n", bixorgun_result(answer), bixorgun_refusal(answer),

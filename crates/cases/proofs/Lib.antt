@@ -1,3 +1,4 @@
+pub mod PageReading
 pub mod Search
 pub mod Tests
 pub mod Cases

@@ -1,5 +1,5 @@
--- The table of refusals, with the paper's number, line and example of each. Paper 01, "Turned back at the gate"; 15, each attribute's own
--- range, and 10 of the page, by paper 02. What a row means is said by the product's own definitions on the book's characters; no number is taken from them.
+-- The table of refusals, with the paper's number, line and example of each. Paper 01, "Turned back at the gate"; 15 to 17, each
+-- attribute's own range, and 10 of the page, by paper 02. What a row means is said by the product's own definitions on the book's characters; no number is taken from them.
 use mathlib.Core.Path.{_≡_}
 use mathlib.Core.List.{List, [], _∷_, _++_}
 use Prim.Native.Nat.{ℕ}
@@ -22,8 +22,10 @@ use Rattle.cases.specs.Claims.{Opened}
 
 -- How the example of a row is tried.
 pub data Trial : Type 0 where
-  -- 1-9: the book itself. Every operation refuses it.
+  -- 1-9, 16 and 17: the book itself. Every operation refuses it.
   on-book : Trial
+  -- 17 of the page: page refuses the book, whatever its table.
+  on-page : Trial
   -- 10: plan with a buffer of so many bytes.
   buffer-of : ℕ → Trial
   -- 10: page with a table of so many bytes.
@@ -92,6 +94,7 @@ pub record ShowRefused (chars : List ℕ) (p : Person) (n : ℕ) : Type 0 where
 -- Refusal n with line k falls on the book's characters as they are tried; k is 0 for those without a line.
 unfoldable pub Refuses : List ℕ → ℕ → ℕ → Trial → Type 0
 Refuses chars n k on-book = BookRefused chars n k
+Refuses chars n k on-page = (before : List ℕ) → PageRefuses chars n k before
 Refuses chars n k (buffer-of size) = (before : List ℕ) → length before ≡ size → PlanRefuses chars n k before
 Refuses chars n k (table-of size) = (before : List ℕ) → length before ≡ size → PageRefuses chars n k before
 Refuses chars n k (ledger-of size) = (k ≡ 0) × LedgerRefused chars size n
@@ -137,6 +140,18 @@ ownRanges = "010101020203"
 abbrev pub belowOwn : String → List ℕ
 belowOwn x = written (ownRanges ∷ x ∷ goodLast ∷ [])
 
+-- Role 0 may add value 0 to who does not directly hold value 1.
+abbrev pub notRule : String
+notRule = "030100000001810001"
+
+-- A last line of mode 03 that asks for nothing, as mode 02 is laid out.
+abbrev pub growLast : String
+growLast = "050300FFFF0000000000"
+
+-- That rule, another line, and such a last line.
+abbrev pub besideNot : String → List ℕ
+besideNot x = written (goodFirst ∷ notRule ∷ x ∷ growLast ∷ [])
+
 -- "Each returns its number, and 1-9 a line (1 for refusal 1: line 0)". Above each row its "when", then its example; where the "when" has
 -- several cases, one more example for each.
 unfoldable pub refusals : List RefusalRow
@@ -179,6 +194,8 @@ refusals =
     -- "term 03 or 04 in ops 01-04": `030100000001030000`, "G at least 1"
     ∷ refusalRow 7 2 (belowFirst "030100000001030000") on-book
     ∷ refusalRow 7 2 (belowFirst "030400000001040000") on-book
+    -- Paper 02, "83 [..] only in ops 05, 06, else refusal 7"
+    ∷ refusalRow 7 2 (belowFirst "030100000001830000") on-book
     -- "the 513th rule": "513 rules"
     ∷ refusalRow 8 514 (written (goodFirst ∷ replicate 513 goodRule ++ (goodLast ∷ []))) on-book
     -- "query attributes not rising": "attribute 00 twice"
@@ -204,4 +221,19 @@ refusals =
     ∷ refusalRow 15 0 unmetBook (asked-for "0101000001" 3 2)
     -- "plan length no multiple of five": "7 bytes"
     ∷ refusalRow 14 0 goodBook (list-of 7)
+    -- Paper 02, "A book with such a term has only ops 01, 03 and 05, at most one rule for each op, a and v, and only terms 01, 03, 81,
+    -- 83": "A book breaking the first limits gets 16 [..] with the line of the 05 frame". A deletion; another role for the same value; a
+    -- term 02; "A rule given twice counts as two here"
+    ∷ refusalRow 16 4 (besideNot "030200000000") on-book
+    ∷ refusalRow 16 4 (besideNot "030101000000") on-book
+    ∷ refusalRow 16 4 (besideNot "030100000101020000") on-book
+    ∷ refusalRow 16 4 (besideNot notRule) on-book
+    -- "mode 03 without a `not` term or another mode with one gets 17"
+    ∷ refusalRow 17 3 (written (goodFirst ∷ goodRule ∷ growLast ∷ [])) on-book
+    ∷ refusalRow 17 3 (written (goodFirst ∷ notRule ∷ goodLast ∷ [])) on-book
+    -- "16 before 17, both only where no line has any of 1-9"
+    ∷ refusalRow 16 4 (written (goodFirst ∷ notRule ∷ notRule ∷ goodLast ∷ [])) on-book
+    ∷ refusalRow 5 4 (written (goodFirst ∷ notRule ∷ notRule ∷ "050301FFFF0000000000" ∷ [])) on-book
+    -- "The page of Wish 5 refuses every book with a `not` term by 17"
+    ∷ refusalRow 17 3 (written (goodFirst ∷ notRule ∷ growLast ∷ [])) on-page
     ∷ []

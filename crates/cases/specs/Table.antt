@@ -1,4 +1,4 @@
--- The table of the paper's marked examples. Paper 01, "Marked examples for the definitions": "One person, one attribute, values 0 and
+-- The table of the paper's marked examples, and of three books that only grow. Paper 01, "Marked examples for the definitions": "One person, one attribute, values 0 and
 -- 1, no crews but those named, all roles, terms by kind 01, unless said."
 use mathlib.Core.List.{List, [], _∷_}
 use Rattle.cases.specs.Claims.{Row, reaches, no-way, shows, unchanged, deletes}
@@ -93,3 +93,33 @@ d12 =
 
 unfoldable pub table : List Row
 table = d1 ∷ d2 ∷ d3 ∷ d4 ∷ d5 ∷ d6 ∷ d7 ∷ d8 ∷ d9 ∷ d10-senior ∷ d10-junior ∷ d11 ∷ d12 ∷ []
+
+-- ---------------------------------------------------------------- books that only grow
+
+-- Paper 02, wish 6, "may join customs if not in returns": crew 1 is customs, crew 0 returns, which anybody may join; both are wanted, in
+-- mode 03. Customs first.
+unfoldable pub customs : Row
+customs =
+    record {
+      book = "0101020102" ∷ "030500010001830000" ∷ "030500000000" ∷ "05030000010000000003" ∷ [];
+      claim = reaches ("0500000100" ∷ "0500000000" ∷ []);
+    }
+
+-- Who is in returns at the start never joins customs, since nobody is removed.
+unfoldable pub customs-late : Row
+customs-late =
+    record {
+      book = "0101020102" ∷ "030500010001830000" ∷ "030500000000" ∷ "0403000000" ∷ "05030000010000000002" ∷ [];
+      claim = no-way;
+    }
+
+-- Value 0 for who lacks 1, and 1 for who lacks 0: nobody comes to hold both.
+unfoldable pub each-without : Row
+each-without =
+    record {
+      book = "0101000102" ∷ "030100000001810001" ∷ "030100000101810000" ∷ "05030000010100000300000000" ∷ [];
+      claim = no-way;
+    }
+
+unfoldable pub growingTable : List Row
+growingTable = customs ∷ customs-late ∷ each-without ∷ []

@@ -6,7 +6,7 @@ use native.Mathlib.Numerals.{add-one}
 use native.Mathlib.Omega.{arith}
 use lib.ListN.{length, take, drop, length-drop}
 use lib.Seq.{length-take-le}
-use Rattle.frames.specs.Book.{Answer, refused, accepted, bookOf}
+use Rattle.frames.specs.Book.{Answer, refused, accepted}
 use Rattle.answers.specs.Answers.{hexLine, refusedBytes}
 use Rattle.answers.specs.Inner.Written.{Written}
 use Rattle.answers.proofs.AnswerLaws.{line-long}
@@ -14,7 +14,7 @@ use Rattle.answers.proofs.WrittenLaws.{written-none, written-more, written-as}
 use Rattle.page.specs.declared.Paged.{Paged}
 use Rattle.page.specs.declared.Paged.the-variants.{Filled, Refused}
 use Rattle.page.specs.declared.Refusal.{Refusal}
-use Rattle.page.specs.Page.{Said, done, refusal, refusalNumber, refusalLine, said, PageAnsweredFor, PagePromise}
+use Rattle.page.specs.Page.{Said, done, refusal, refusalNumber, refusalLine, said, PageAnsweredFor, pageBook, PagePromise}
 use Rattle.depot_page.specs.Printed.{personLines, PrintedFor, Printed}
 
 -- ---------------------------------------------------------------- the lines
@@ -54,7 +54,7 @@ pageText (refusal number line) table = hexLine (refusedBytes number line)
 -- What is printed by an answer that keeps the promise: no book finds 1,024 bytes too short or too long.
 pub printed : {chars before table text : List ℕ} (answer : Paged) → length before ≡ 1024 → PagePromise chars before answer table
     → text ≡ pageText (said answer) table → Printed chars text
-printed {chars} {before} {table} {text} answer size promise e = record { answers = by-book (bookOf chars) (promise .kept) }
+printed {chars} {before} {table} {text} answer size promise e = record { answers = by-book (pageBook chars) (promise .kept) }
   where
     by-book : (t : Answer) → PageAnsweredFor t before (said answer) table → PrintedFor t text
     by-book (refused r) kept = e ∙ ap (λ (s : Said). pageText s table) (kept .0)

@@ -4,8 +4,8 @@ use mathlib.Core.Path.{_≡_}
 use mathlib.Core.List.{List, [], _++_}
 use Prim.Native.Nat.{ℕ, zero, suc, _*_}
 use lib.ListN.{take, drop}
-use Rattle.frames.specs.Book.{Contents, Answer, refused, accepted, bookOf}
-use Rattle.page.specs.Page.{PageGiven}
+use Rattle.frames.specs.Book.{Contents, Answer, refused, accepted}
+use Rattle.page.specs.Page.{PageGiven, pageBook}
 use Rattle.answers.specs.Answers.{hexLine, refusalBytes}
 
 -- The first n persons' sets, "for each person a two-byte set for each of eight attributes".
@@ -25,4 +25,4 @@ PrintedFor (refused r) text = text ≡ hexLine (refusalBytes r)
 PrintedFor (accepted b) text = PagePrinted b text
 
 pub record Printed (book text : List ℕ) : Type 0 where
-  pub answers : PrintedFor (bookOf book) text
+  pub answers : PrintedFor (pageBook book) text

@@ -1,11 +1,15 @@
-// The reader: from a book's characters to the accepted book, or to the one refusal 1-9 with its line.
+// The reader: from a book's characters to the accepted book, or to the one refusal 1-9, 16 or 17 with its line.
 ghost use mathlib.Core.Path.{_≡_};
-ghost use Prim.Native.Nat.{_+_, _*_, _<_, _≤_};
+ghost use mathlib.Core.Bool.{true, not, cond, _&&_, _||_};
+ghost use Prim.Native.Nat.{_+_, _-_, _*_, _<_, _≤_};
 ghost use lib.ListN.{length};
+ghost use lib.Dec.{eqb, ltb};
+ghost use Rattle.quantifiers.specs.Quantifiers.{all};
 ghost use Rattle.lines.specs.Digits.{byteAt};
 ghost use Rattle.lines.specs.Lines.{lines};
 ghost use Rattle.frames.specs.Book.{refusalNumber, refusalLine, termAt, termsOf, ruleOf, knownAfter, juniorsAfter, factOf, factsAfter, wantAt, wantsOf};
-ghost use Rattle.frames.specs.Book.{queryOf, queryAfter, noQuery, noRule, nothing, walk, bookOf, alone, toldBy, refused};
+ghost use Rattle.frames.specs.Book.{queryOf, queryAfter, noQuery, noRule, nothing, walk, bookFor, bookOf, listed, alone, toldBy, refused};
+ghost use Rattle.frames.specs.Limits.{isNot, plain, growing, sameKey, twice};
 use facts::Attr;
 use facts::Crew;
 use facts::Fact;
@@ -42,7 +46,7 @@ pub struct Want {
     pub set: u32,
 }
 
-// The query; the first q wants count. The crews are those of mode 02, none in mode 01.
+// The query; the first q wants count. The crews are those of modes 02 and 03, none in mode 01.
 pub struct Query {
     pub mode: u8,
     pub person: Person,
@@ -61,7 +65,7 @@ pub struct Book {
     pub query: Query,
 }
 
-// The refusals 1-9.
+// The refusals 1-9, 16 and 17.
 pub enum Refusal {
     TooLong,
     BadLine(gate::Fault, usize),
@@ -306,6 +310,118 @@ fn no_rule() -> Rule
     }
 }
 
+// Whether a term is a "not" term.
+fn is_not(t: Term) -> bool
+    ensures { λ r. ⌜ r ≡ isNot t ⌝ }
+{
+    (t.kind == 0x81) | (t.kind == 0x83)
+}
+
+// Whether a rule has no "not" term.
+fn is_plain(r: Rule) -> bool
+    ensures { λ b. ⌜ b ≡ plain r ⌝ }
+{
+    let n = r.n as usize;
+    let mut good = true;
+    let mut j: usize = 0;
+    while (j < n) & (j < 8) {
+        good = good & !is_not(r.terms[j]);
+        j += 1;
+    }
+    good
+}
+
+// Whether a term may stand in a rule of a book with "not" terms.
+fn is_growing_term(t: Term) -> bool
+    ensures { λ r. ⌜ r ≡ (isNot t || (eqb (t .kind) 1 || eqb (t .kind) 3)) ⌝ }
+{
+    is_not(t) | ((t.kind == 1) | (t.kind == 3))
+}
+
+// Whether a rule may stand in a book with "not" terms.
+fn is_growing(r: Rule) -> bool
+    ensures { λ b. ⌜ b ≡ growing r ⌝ }
+{
+    let n = r.n as usize;
+    let mut good = (r.op == 1) | ((r.op == 3) | (r.op == 5));
+    let mut j: usize = 0;
+    while (j < n) & (j < 8) {
+        good = good & is_growing_term(r.terms[j]);
+        j += 1;
+    }
+    good
+}
+
+// Whether each rule of the list may.
+fn are_growing(rs: Rules) -> bool
+    requires { ⌜ rs .count ≤ 512 ⌝ }
+    ensures { λ b. ⌜ b ≡ all growing (listed rs) ⌝ }
+{
+    let mut i: usize = 0;
+    while i < rs.count {
+        if !is_growing(rs.rules[i]) {
+            return false;
+        }
+        i += 1;
+    }
+    true
+}
+
+// Whether two rules have the same op, a and v.
+fn is_same_key(r: Rule, s: Rule) -> bool
+    ensures { λ b. ⌜ b ≡ sameKey r s ⌝ }
+{
+    (r.op == s.op) & ((r.a == s.a) & (r.v == s.v))
+}
+
+// Whether two rules of the list have. Rule i is compared with those behind it, from j on.
+fn is_twice(rs: Rules) -> bool
+    requires { ⌜ rs .count ≤ 512 ⌝ }
+    ensures { λ b. ⌜ b ≡ twice (listed rs) ⌝ }
+{
+    let mut i: usize = 0;
+    let mut j: usize = 1;
+    while i < rs.count {
+        if j < rs.count {
+            if is_same_key(rs.rules[i], rs.rules[j]) {
+                return true;
+            }
+            j += 1;
+            continue;
+        }
+        i += 1;
+        j = i + 1;
+    }
+    false
+}
+
+// Whether the rules of a book with "not" terms break its limits.
+fn is_beyond(rs: Rules) -> bool
+    requires { ⌜ rs .count ≤ 512 ⌝ }
+    ensures { λ b. ⌜ b ≡ (not (all growing (listed rs)) || twice (listed rs)) ⌝ }
+{
+    if !are_growing(rs) {
+        return true;
+    }
+    is_twice(rs)
+}
+
+// Whether the mode is wrong for a book of which `unmarked` says that it has no "not" term; for the page every mode is, where it has one.
+fn is_wrong_mode(paged: bool, unmarked: bool, mode: u8) -> bool
+    ensures { λ r. ⌜ r ≡ (cond (eqb mode 3) unmarked (not unmarked) || (paged && not unmarked)) ⌝ }
+{
+    let third = mode == 3;
+    ((third & unmarked) | (!third & !unmarked)) | (paged & !unmarked)
+}
+
+// The line before the cursor's. At the end of a book with a query it is the query's: behind that no line is good.
+fn last_line(c: lines::Cursor) -> usize
+    requires { ⌜ 1 ≤ c .line ⌝ }
+    ensures { λ r. ⌜ r ≡ c .line - 1 ⌝ }
+{
+    c.line - 1
+}
+
 // A refusal, and a book of nothing beside it.
 fn turned_back(r: Refusal) -> Reading
     ensures { λ a. ⌜ toldBy a ≡ alone (refused r) ⌝ }
@@ -335,10 +451,10 @@ fn turned_back(r: Refusal) -> Reading
     }
 }
 
-// Line by line: the earliest bad line, the end without a query, or the book.
-fn read_lines(book: &[u8]) -> Reading
+// Line by line: the earliest bad line, the end without a query, a fault of the whole, or the book.
+fn read_lines(book: &[u8], paged: bool) -> Reading
     requires { ⌜ length (now book) ≤ 65536 ⌝ }
-    ensures { λ r. ⌜ toldBy r ≡ alone (walk nothing 1 (lines (now (book .entry)))) ⌝ }
+    ensures { λ r. ⌜ toldBy r ≡ alone (walk paged nothing 1 (lines (now (book .entry)))) ⌝ }
 {
     let mut known = gate::Known {
         headed: false,
@@ -359,6 +475,8 @@ fn read_lines(book: &[u8]) -> Reading
     let mut frame = [0u8; 64];
     let mut digits = [0u8; 256];
     lines::fill_digits(&mut digits);
+    // Whether no rule so far has a "not" term.
+    let mut unmarked = true;
     let mut cursor = lines::opening_line();
     while cursor.at < book.len() {
         let read = reader::read_frame(book, cursor, &digits, &mut frame);
@@ -391,7 +509,9 @@ fn read_lines(book: &[u8]) -> Reading
         }
         if kind == 3 {
             let i = known.count;
-            rules[i] = rule_of(x);
+            let rule = rule_of(x);
+            unmarked = unmarked & is_plain(rule);
+            rules[i] = rule;
             known.count = i + 1;
             continue;
         }
@@ -406,6 +526,16 @@ fn read_lines(book: &[u8]) -> Reading
         count: known.count,
         rules,
     };
+    // The limits are those of a book with "not" terms: the rules of any other are not looked at again.
+    let mode = query.mode;
+    if !unmarked {
+        if is_beyond(list) {
+            return turned_back(Refusal::BadLine(gate::Fault::BeyondNot, last_line(cursor)));
+        }
+    }
+    if is_wrong_mode(paged, unmarked, mode) {
+        return turned_back(Refusal::BadLine(gate::Fault::WrongMode, last_line(cursor)));
+    }
     let b = Book {
         sizes,
         juniors,
@@ -419,12 +549,29 @@ fn read_lines(book: &[u8]) -> Reading
     }
 }
 
-// Any characters at all: the accepted book, or the one refusal 1-9.
+// Whether there are more characters than a book may have.
+fn is_too_long(book: &[u8]) -> bool
+    ensures { λ r. ⌜ r ≡ ltb 65536 (length (now (book .entry))) ⌝ }
+{
+    65536 < book.len()
+}
+
+// Any characters at all: the accepted book, or the one refusal 1-9, 16 or 17.
 pub fn read(book: &[u8]) -> Reading
     ensures { λ r. ⌜ toldBy r ≡ alone (bookOf (now (book .entry))) ⌝ }
 {
-    if 65536 < book.len() {
+    if is_too_long(book) {
         return turned_back(Refusal::TooLong);
     }
-    read_lines(book)
+    read_lines(book, false)
+}
+
+// The same for the page, which refuses every book with a "not" term by 17.
+pub fn read_for_page(book: &[u8]) -> Reading
+    ensures { λ r. ⌜ toldBy r ≡ alone (bookFor true (now (book .entry))) ⌝ }
+{
+    if is_too_long(book) {
+        return turned_back(Refusal::TooLong);
+    }
+    read_lines(book, true)
 }

@@ -44,7 +44,7 @@ module _ (k : Known) (x : List ℕ) (long : 64 < length x) where
   unfolding mislengthed lengthOf fieldsVerdict
   fields-long right =
       let due : length x ≡ dueLength x = eqb-true (length x) (dueLength x) (not-false _ right) in
-      by-kind (eqb (byteAt x 0) 1) (eqb (byteAt x 0) 2) (eqb (byteAt x 0) 3) (eqb (byteAt x 0) 4) (eqb (byteAt x 1) 2)
+      by-kind (eqb (byteAt x 0) 1) (eqb (byteAt x 0) 2) (eqb (byteAt x 0) 3) (eqb (byteAt x 0) 4) (between 2 3 (byteAt x 1))
       (edgeVerdict (k .sizes) x) (factVerdict (k .sizes) x) due
     where
       n : ℕ

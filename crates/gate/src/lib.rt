@@ -3,7 +3,7 @@ ghost use mathlib.Core.Path.{_≡_};
 ghost use mathlib.Core.Bool.{_&&_};
 ghost use Prim.Native.Nat.{_+_, _-_, _*_, _<_};
 ghost use Rattle.gate.specs.Gate.{faultNumber, pairAt, quadAt, misplaced};
-ghost use Rattle.gate.specs.Gate.{mislengthed, sizesVerdict, edgeVerdict, headGood, asksValue, termGood, termGoodAt, ruleGood, valueTermAt, foreign};
+ghost use Rattle.gate.specs.Gate.{mislengthed, sizesVerdict, edgeVerdict, headGood, asksValue, asksCrew, termGood, termGoodAt, ruleGood, valueTermAt, foreign};
 ghost use Rattle.gate.specs.Gate.{ruleVerdict, factGood, factVerdict, wantGoodAt, crewsGood, queryGood, risesAt, queryVerdict, fieldsVerdict, verdict};
 ghost use Rattle.quantifiers.specs.Quantifiers.{allBelow};
 ghost use Rattle.sizes.specs.Sizes.{isCrew};
@@ -18,7 +18,7 @@ pub struct Known {
     pub count: usize,
 }
 
-// What is wrong with a line: the refusals 2-9, in the table's order.
+// What is wrong with a line, the refusals 2-9, or with the book whose lines are all good, 16 and 17; in the table's order.
 pub enum Fault {
     Malformed,
     Misplaced,
@@ -28,6 +28,8 @@ pub enum Fault {
     ForeignTerm,
     TooManyRules,
     NotRising,
+    BeyondNot,
+    WrongMode,
 }
 
 pub enum Verdict {
@@ -48,6 +50,8 @@ pub fn fault_number(f: Fault) -> u8
         Fault::ForeignTerm => 7,
         Fault::TooManyRules => 8,
         Fault::NotRising => 9,
+        Fault::BeyondNot => 16,
+        Fault::WrongMode => 17,
     }
 }
 
@@ -105,7 +109,7 @@ fn due_length(x: &[u8]) -> usize
     let q = lines::byte_at(x, 5);
     let mode = lines::byte_at(x, 1);
     let named = 6 + 3 * (q as usize);
-    if mode == 2 {
+    if sizes::is_between(2, 3, mode) {
         return named + 4;
     }
     named
@@ -157,21 +161,33 @@ fn is_head(z: Sizes, op: u8, role: u8, a: u8, v: u8, n: u8) -> bool
     ((holds & value) | (joins & crew)) & (role <= 15) & (n <= 8)
 }
 
-// Whether a term of that kind asks for a value: 01, 02 and 05 do.
+// Whether a term of that kind is about a value: 01, 02, 05 and 81 are.
 fn asks_value(kind: u8) -> bool
     ensures { λ r. ⌜ r ≡ asksValue kind ⌝ }
 {
-    sizes::is_between(1, 2, kind) | (kind == 5)
+    if sizes::is_between(1, 2, kind) {
+        return true;
+    }
+    (kind == 5) | (kind == 0x81)
+}
+
+// Whether a term of that kind is about a crew: 03, 04 and 83 are.
+fn asks_crew(kind: u8) -> bool
+    ensures { λ r. ⌜ r ≡ asksCrew kind ⌝ }
+{
+    sizes::is_between(3, 4, kind) | (kind == 0x83)
 }
 
 fn is_term(z: Sizes, kind: u8, a: u8, v: u8) -> bool
     ensures { λ r. ⌜ r ≡ termGood z kind a v ⌝ }
 {
-    let holds = asks_value(kind);
-    let joins = sizes::is_between(3, 4, kind);
-    let value = sizes::is_value(z, a, v);
-    let crew = sizes::is_crew_field(z, a, v);
-    (holds & value) | (joins & crew)
+    if asks_value(kind) {
+        return sizes::is_value(z, a, v);
+    }
+    if asks_crew(kind) {
+        return sizes::is_crew_field(z, a, v);
+    }
+    false
 }
 
 fn is_term_at(z: Sizes, x: &[u8], j: usize) -> bool
@@ -210,7 +226,7 @@ fn is_rule(z: Sizes, x: &[u8]) -> bool
     head & terms
 }
 
-// Whether each term asks for a value, not for a crew.
+// Whether each term is about a value, not about a crew.
 fn are_value_terms(x: &[u8], n: u8) -> bool
     ensures { λ r. ⌜ r ≡ allBelow (valueTermAt (now (x .entry))) n ⌝ }
 {
@@ -303,7 +319,8 @@ fn are_listed_crews(z: Sizes, x: &[u8]) -> bool
     let q = lines::byte_at(x, 5);
     let set = quad_at(x, 6 + 3 * (q as usize));
     let inside = sets::is_within(set, z.crews);
-    !(mode == 2) | inside
+    let listed = sizes::is_between(2, 3, mode);
+    !listed | inside
 }
 
 fn is_query(z: Sizes, x: &[u8]) -> bool
@@ -314,7 +331,7 @@ fn is_query(z: Sizes, x: &[u8]) -> bool
     let crews = are_listed_crews(z, x);
     let mode = lines::byte_at(x, 1);
     let person = lines::byte_at(x, 2);
-    let known = sizes::is_between(1, 2, mode);
+    let known = sizes::is_between(1, 3, mode);
     known & (person < z.persons) & (q <= 8) & wants & crews
 }
 

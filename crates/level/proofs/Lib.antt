@@ -2,6 +2,7 @@ pub mod MoveLaws
 pub mod WorldLaws
 pub mod TermLaws
 pub mod RuleLaws
+pub mod RuleParts
 pub mod ChosenLaws
 pub mod NoteLaws
 pub mod TurnLaws

@@ -1,7 +1,7 @@
 -- Laws of terms: what is shown at a term's place is what the term asks, so a move is met where its rule's terms hold.
 use mathlib.Core.Path.{_≡_, refl, sym, ap, _∙_}
 use mathlib.Core.Logic.{dite}
-use mathlib.Core.Bool.{Bool, true}
+use mathlib.Core.Bool.{Bool, true, false}
 use mathlib.Core.List.{List, [], _∷_}
 use Prim.Native.Nat.{ℕ, zero, suc, _+_, _-_, _*_, _≤_, _<_}
 use native.Mathlib.Decide.{decLt, ℕ-discrete}
@@ -9,6 +9,7 @@ use native.Mathlib.Omega.{arith}
 use lib.ListN.{length, getD, take, set, length-set}
 use lib.Seq.{getD-set-same, getD-set-other}
 use borrow.Author.Tests.{lt-ltb, le-ltb, eq-eqb, ne-eqb}
+use Rattle.widths.specs.Inner.Widths.{levelSize}
 use Rattle.theory.specs.Inner.Facts.{State, _⊆_}
 use Rattle.theory.proofs.FactLaws.{at}
 use Rattle.gate.proofs.TermKindLaws.{no-value-kind}
@@ -21,6 +22,8 @@ use Rattle.quantifiers.proofs.BelowLaws.{from-same}
 use Rattle.level.specs.declared.Move.{Move}
 use Rattle.frames.specs.declared.Term.{Term}
 use Rattle.frames.specs.declared.Rule.{Rule}
+use Rattle.frames.specs.Limits.{isNot, plain}
+use Rattle.frames.proofs.LimitLaws.{no-not-kind, plain-at}
 use Rattle.frames.specs.Book.{noTerm}
 use Rattle.level.specs.Inner.Terms.{GoodRule, MoveOf, TermInRange, codeOf, effective, ruleShown, termShown}
 
@@ -43,6 +46,24 @@ visible-higher T S a v h =
     extended-at (visibleFact T S) a v h
     ∙ from-same (λ w. visibleFact T S (160 + (16 * a + w))) (λ w. effective T S (16 * a + w)) v 16 (λ w l. effective-fact T S (16 * a + w))
 
+-- What each place asks: that a fact is there, or, of the "not" terms, that the fact levelSize lower is lacking.
+module _ (kind a v : ℕ) where
+  pub code-direct : kind ≡ 1 → codeOf kind a v ≡ 16 * a + v
+  unfolding codeOf
+  code-direct is = rw is refl
+
+  pub code-in : kind ≡ 3 → codeOf kind a v ≡ 128 + a
+  unfolding codeOf
+  code-in is = rw is refl
+
+  pub code-lacks : kind ≡ 129 → codeOf kind a v ≡ levelSize + (16 * a + v)
+  unfolding codeOf
+  code-lacks is = rw is refl
+
+  pub code-not-in : kind ≡ 131 → codeOf kind a v ≡ levelSize + (128 + a)
+  unfolding codeOf
+  code-not-in is = rw is (omega arith)
+
 -- A kind by what it asks for, its fields in range.
 module _ (t : Term) (r : TermInRange t) where
   value-1 : t .kind ≡ 1 → (t .a < 8) × (t .v < 16)
@@ -54,8 +75,14 @@ module _ (t : Term) (r : TermInRange t) where
   value-5 : t .kind ≡ 5 → (t .a < 8) × (t .v < 16)
   value-5 e = r .value (rw e refl)
 
-  crew-in : (t .kind ≡ 1 → ⊥) → (t .kind ≡ 2 → ⊥) → (t .kind ≡ 5 → ⊥) → t .a < 32
-  crew-in n₁ n₂ n₅ = r .crew (no-value-kind (t .kind) n₁ n₂ n₅)
+  value-129 : t .kind ≡ 129 → (t .a < 8) × (t .v < 16)
+  value-129 e = r .value (rw e refl)
+
+  crew-3 : t .kind ≡ 3 → t .a < 32
+  crew-3 e = r .crew (rw e refl)
+
+  crew-in : (t .kind ≡ 1 → ⊥) → (t .kind ≡ 2 → ⊥) → (t .kind ≡ 5 → ⊥) → (t .kind ≡ 129 → ⊥) → t .a < 32
+  crew-in n₁ n₂ n₅ n₁₂₉ = r .crew (no-value-kind (t .kind) n₁ n₂ n₅ n₁₂₉)
 
   -- A term in range has a place.
   pub code-lt : codeOf (t .kind) (t .a) (t .v) < 448
@@ -66,32 +93,40 @@ module _ (t : Term) (r : TermInRange t) where
       (λ (n₂ : t .kind ≡ 2 → ⊥). dite (ℕ-discrete (t .kind) 5)
       (λ (e : t .kind ≡ 5). rw (ne-eqb (t .kind) 1 n₁, ne-eqb (t .kind) 2 n₂, eq-eqb (t .kind) 5 e) (omega (arith, value-5 e)))
       (λ (n₅ : t .kind ≡ 5 → ⊥). dite (ℕ-discrete (t .kind) 3)
-      (λ (e : t .kind ≡ 3). rw (ne-eqb (t .kind) 1 n₁, ne-eqb (t .kind) 2 n₂, ne-eqb (t .kind) 5 n₅, eq-eqb (t .kind) 3 e)
-      (omega (arith, crew-in n₁ n₂ n₅)))
-      (λ (n₃ : t .kind ≡ 3 → ⊥). rw (ne-eqb (t .kind) 1 n₁, ne-eqb (t .kind) 2 n₂, ne-eqb (t .kind) 5 n₅, ne-eqb (t .kind) 3 n₃)
-      (omega (arith, crew-in n₁ n₂ n₅))))))
+      (λ (e : t .kind ≡ 3). rw (ne-eqb (t .kind) 1 n₁, ne-eqb (t .kind) 2 n₂, ne-eqb (t .kind) 5 n₅, eq-eqb (t .kind) 3 e) (omega (arith, crew-3 e)))
+      (λ (n₃ : t .kind ≡ 3 → ⊥). dite (ℕ-discrete (t .kind) 129)
+      (λ (e : t .kind ≡ 129).
+      rw (ne-eqb (t .kind) 1 n₁, ne-eqb (t .kind) 2 n₂, ne-eqb (t .kind) 5 n₅, ne-eqb (t .kind) 3 n₃, eq-eqb (t .kind) 129 e) (omega (arith, value-129 e)))
+      (λ (n₁₂₉ : t .kind ≡ 129 → ⊥).
+      rw (ne-eqb (t .kind) 1 n₁, ne-eqb (t .kind) 2 n₂, ne-eqb (t .kind) 5 n₅, ne-eqb (t .kind) 3 n₃, ne-eqb (t .kind) 129 n₁₂₉)
+      (omega (arith, crew-in n₁ n₂ n₅ n₁₂₉)))))))
 
-  -- What is shown at a term's place is whether the term holds.
-  pub term-place : (T : List Bool) (S : State) → visible T S (codeOf (t .kind) (t .a) (t .v)) ≡ termShown T S t
-  unfolding codeOf termShown
-  term-place T S =
-      dite (ℕ-discrete (t .kind) 1) (λ (e : t .kind ≡ 1). rw (eq-eqb (t .kind) 1 e) (visible-direct T S (16 * t .a + t .v) (omega (arith, value-1 e))))
-      (λ (n₁ : t .kind ≡ 1 → ⊥). dite (ℕ-discrete (t .kind) 2)
-      (λ (e : t .kind ≡ 2). rw (ne-eqb (t .kind) 1 n₁, eq-eqb (t .kind) 2 e) (visible-effective T S (16 * t .a + t .v) (omega (arith, value-2 e))))
-      (λ (n₂ : t .kind ≡ 2 → ⊥). dite (ℕ-discrete (t .kind) 5)
-      (λ (e : t .kind ≡ 5). rw (ne-eqb (t .kind) 1 n₁, ne-eqb (t .kind) 2 n₂, eq-eqb (t .kind) 5 e) (visible-higher T S (t .a) (t .v) (value-5 e .1)))
-      (λ (n₅ : t .kind ≡ 5 → ⊥). dite (ℕ-discrete (t .kind) 3)
-      (λ (e : t .kind ≡ 3). rw (ne-eqb (t .kind) 1 n₁, ne-eqb (t .kind) 2 n₂, ne-eqb (t .kind) 5 n₅, eq-eqb (t .kind) 3 e)
-      (visible-direct T S (128 + t .a) (omega (arith, crew-in n₁ n₂ n₅))))
-      (λ (n₃ : t .kind ≡ 3 → ⊥). rw (ne-eqb (t .kind) 1 n₁, ne-eqb (t .kind) 2 n₂, ne-eqb (t .kind) 5 n₅, ne-eqb (t .kind) 3 n₃)
-      (crew (t .a) (crew-in n₁ n₂ n₅))))))
-    where
-      crew : (a : ℕ) → a < 32 → visible T S (288 + a) ≡ effective T S (128 + a)
-      crew a h = let e : 288 + a ≡ 160 + (128 + a) = omega arith in rw e (visible-effective T S (128 + a) (omega arith))
+  module _ (no-not : isNot t ≡ false) where
+    not-lacks : t .kind ≡ 129 → ⊥
+    not-lacks = no-not-kind t no-not .0
 
--- More facts break no term.
-pub term-mono : (T : List Bool) {S Z : State} (t : Term) → TermInRange t → S ⊆ Z → termShown T S t ≡ true → termShown T Z t ≡ true
-term-mono T {S} {Z} t r le h = sym (term-place t r T Z) ∙ visible-mono T le (codeOf (t .kind) (t .a) (t .v)) (term-place t r T S ∙ h)
+    -- What is shown at the place of a term that is no "not" term is whether it holds.
+    pub term-place : (T : List Bool) (S : State) → visible T S (codeOf (t .kind) (t .a) (t .v)) ≡ termShown T S t
+    unfolding codeOf termShown
+    term-place T S =
+        dite (ℕ-discrete (t .kind) 1) (λ (e : t .kind ≡ 1). rw (eq-eqb (t .kind) 1 e) (visible-direct T S (16 * t .a + t .v) (omega (arith, value-1 e))))
+        (λ (n₁ : t .kind ≡ 1 → ⊥). dite (ℕ-discrete (t .kind) 2)
+        (λ (e : t .kind ≡ 2). rw (ne-eqb (t .kind) 1 n₁, eq-eqb (t .kind) 2 e) (visible-effective T S (16 * t .a + t .v) (omega (arith, value-2 e))))
+        (λ (n₂ : t .kind ≡ 2 → ⊥). dite (ℕ-discrete (t .kind) 5)
+        (λ (e : t .kind ≡ 5). rw (ne-eqb (t .kind) 1 n₁, ne-eqb (t .kind) 2 n₂, eq-eqb (t .kind) 5 e) (visible-higher T S (t .a) (t .v) (value-5 e .1)))
+        (λ (n₅ : t .kind ≡ 5 → ⊥). dite (ℕ-discrete (t .kind) 3)
+        (λ (e : t .kind ≡ 3). rw (ne-eqb (t .kind) 1 n₁, ne-eqb (t .kind) 2 n₂, ne-eqb (t .kind) 5 n₅, eq-eqb (t .kind) 3 e)
+        (visible-direct T S (128 + t .a) (omega (arith, crew-3 e))))
+        (λ (n₃ : t .kind ≡ 3 → ⊥).
+        rw (ne-eqb (t .kind) 1 n₁, ne-eqb (t .kind) 2 n₂, ne-eqb (t .kind) 5 n₅, ne-eqb (t .kind) 3 n₃, ne-eqb (t .kind) 129 not-lacks)
+        (crew (t .a) (crew-in n₁ n₂ n₅ not-lacks))))))
+      where
+        crew : (a : ℕ) → a < 32 → visible T S (288 + a) ≡ effective T S (128 + a)
+        crew a h = let e : 288 + a ≡ 160 + (128 + a) = omega arith in rw e (visible-effective T S (128 + a) (omega arith))
+
+    -- More facts break no such term.
+    pub term-mono : (T : List Bool) {S Z : State} → S ⊆ Z → termShown T S t ≡ true → termShown T Z t ≡ true
+    term-mono T {S} {Z} le h = sym (term-place T Z) ∙ visible-mono T le (codeOf (t .kind) (t .a) (t .v)) (term-place T S ∙ h)
 
 all-zip : (p : ℕ → Bool) (q : Term → Bool) (n : ℕ) (ks : List ℕ) (ts : List Term) → n ≤ length ks → n ≤ length ts
     → ((j : ℕ) → j < n → p (getD ks j 0) ≡ q (getD ts j noTerm)) → all p (take n ks) ≡ all q (take n ts)
@@ -101,12 +136,16 @@ all-zip p q (suc n) [] ts a b h = absurd (omega arith)
 all-zip p q (suc n) (k ∷ ks) [] a b h = absurd (omega arith)
 all-zip p q (suc n) (k ∷ ks) (t ∷ ts) a b h = rw (h 0 (omega arith), all-zip p q n ks ts (omega arith) (omega arith) (λ j l. h (suc j) (omega arith)))
 
--- The move's terms hold just where the rule's do.
-pub move-met : (T : List Bool) (S : State) {r : Rule} {m : Move} → GoodRule r → MoveOf r m → moveShown T S m ≡ ruleShown T S r
+-- The terms of a good rule without "not" terms are none.
+pub term-plain : (r : Rule) → GoodRule r → plain r ≡ true → (j : ℕ) → j < r .n → isNot (getD (r .terms) j noTerm) ≡ false
+term-plain r g no-not j l = plain-at r (record { few = g .few; room = g .size }) no-not j l
+
+-- The move's terms hold just where the rule's do, of a rule without "not" terms.
+pub move-met : (T : List Bool) (S : State) {r : Rule} {m : Move} → GoodRule r → plain r ≡ true → MoveOf r m → moveShown T S m ≡ ruleShown T S r
 unfolding moveShown ruleShown placesOf
-move-met T S {r} {m} g k =
+move-met T S {r} {m} g no-not k =
     rw (k .n) (all-zip (visible T S) (termShown T S) (r .n) (m .terms) (r .terms) (omega (arith, g .few, k .fine .size)) (omega (arith, g .few, g .size))
-    (λ j l. ap (visible T S) (k .places j l) ∙ term-place (getD (r .terms) j noTerm) (g .terms j l) T S))
+    (λ j l. ap (visible T S) (k .places j l) ∙ term-place (getD (r .terms) j noTerm) (g .terms j l) (term-plain r g no-not j l) T S))
 
 -- The places of the first `j` terms are written, and no others.
 pub record PlacesSoFar (r : Rule) (ks : List ℕ) (j : ℕ) : Type 0 where

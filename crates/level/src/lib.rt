@@ -46,6 +46,9 @@ pub fn place(kind: u8, a: u8, v: u8) -> u16
     if kind == 3 {
         return 128 + x;
     }
+    if kind == 0x81 {
+        return LEVEL_SIZE as u16 + (16 * x + y);
+    }
     288 + x
 }
 

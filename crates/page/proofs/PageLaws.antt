@@ -20,7 +20,9 @@ use Rattle.sizes.specs.Sizes.{isPerson, isValue}
 use Rattle.sizes.proofs.SizeLaws.{value-bounds}
 use Rattle.frames.specs.declared.Query.{Query}
 use Rattle.frames.specs.Book.{Contents, withQuery, noWant, queryOf, wantsOf, wantAt}
+use Rattle.frames.specs.Limits.{allPlain}
 use Rattle.frames.specs.Inner.Fits.{inSizes, Admitted}
+use Rattle.frames.proofs.LimitLaws.{plain-within, plain-right}
 use Rattle.inherit.specs.Inheritance.{personHolds}
 use Rattle.inherit.proofs.InheritanceLaws.{person-holds-mono, person-holds-local}
 use Rattle.ledger.specs.Show.{valueSet}
@@ -33,6 +35,7 @@ use Rattle.theory.specs.Inner.Plan.{Ask, end, addThenDelete, Best}
 use Rattle.reach.specs.Inner.Tracked.{isNumber, lift, track, bytesOf}
 use Rattle.reach.specs.Inner.Goal.{forbidden, bad}
 use Rattle.reach.specs.Inner.Depot.{depot}
+use Rattle.reach.specs.Inner.Leveled.{Leveled}
 use Rattle.reach.proofs.Chained.{Kept, trackedOf}
 use Rattle.reach.proofs.TrackLaws.{lift-mono, person-held}
 use Rattle.reach.proofs.ChainLaws.{chain-ran}
@@ -60,10 +63,10 @@ pub roams-itself : (b : Contents) → Roams (roaming b 0)
 unfolding roaming withQuery
 roams-itself b = record { same = refl }
 
--- The book stays accepted with it.
-pub roaming-admitted : (b : Contents) (p : ℕ) → Admitted b → isPerson (b .sizes) p ≡ true → Admitted (roaming b p)
+-- A book without "not" terms stays accepted with it, and is planned level by level.
+roaming-admitted : (b : Contents) (p : ℕ) → Admitted b → allPlain (b .rules) ≡ true → isPerson (b .sizes) p ≡ true → Admitted (roaming b p)
 unfolding roaming withQuery allBelow
-roaming-admitted b p ok is =
+roaming-admitted b p ok no-not is =
     record {
       sized = ok .sized;
       edges = ok .edges;
@@ -76,7 +79,13 @@ roaming-admitted b p ok is =
       rules-counted = ok .rules-counted;
       rules-few = ok .rules-few;
       query-in = record { mode = refl; person = is; few = omega arith; room = refl; wants = refl; crews = refl };
+      within-not = plain-within (b .rules) no-not;
+      right-mode = plain-right (b .rules) no-not 1 refl;
     }
+
+pub roaming-leveled : (b : Contents) (p : ℕ) → Admitted b → allPlain (b .rules) ≡ true → isPerson (b .sizes) p ≡ true → Leveled (roaming b p)
+unfolding roaming withQuery
+roaming-leveled b p ok no-not is = record { book = roaming-admitted b p ok no-not is; plain = no-not; mode = refl }
 
 -- Mode 01 forbids nothing.
 pub roaming-free : (b : Contents) (p g : ℕ) → bad (roaming b p) g ≡ false

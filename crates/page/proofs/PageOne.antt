@@ -12,10 +12,10 @@ use Rattle.quantifiers.proofs.BoolLaws.{and-both}
 use Rattle.sets.specs.Sets.{byteOf, memberAt}
 use Rattle.sets.proofs.SetLaws.{same-members}
 use Rattle.sizes.specs.Sizes.{isPerson, isValue}
-use Rattle.frames.specs.Book.{Contents, Answer, refused, accepted, bookOf}
+use Rattle.frames.specs.Book.{Contents, Answer, refused, accepted}
 use Rattle.planner.proofs.PromiseLaws.{never-both}
 use Rattle.page.specs.declared.Paged.{Paged}
-use Rattle.page.specs.Page.{Said, said, PageGiven, PageAnsweredFor, PagePromise}
+use Rattle.page.specs.Page.{Said, said, PageGiven, PageAnsweredFor, pageBook, PagePromise}
 
 module _ {b : Contents} {one two : List ℕ} (g : PageGiven b one) (h : PageGiven b two) where
   -- A bit of one is that of the other: it is never both a plan and no way.
@@ -53,7 +53,7 @@ module _ {b : Contents} {one two : List ℕ} (g : PageGiven b one) (h : PageGive
 -- Two answers to the same characters and the same table say the same, and leave the same bytes.
 pub page-one : (chars before : List ℕ) {r s : Paged} {one two : List ℕ} → PagePromise chars before r one → PagePromise chars before s two
     → (said r ≡ said s) × (one ≡ two)
-page-one chars before {r} {s} {one} {two} p q = by-book (bookOf chars) (said r) (said s) (p .kept) (q .kept)
+page-one chars before {r} {s} {one} {two} p q = by-book (pageBook chars) (said r) (said s) (p .kept) (q .kept)
   where
     by-book : (t : Answer) (x y : Said) → PageAnsweredFor t before x one → PageAnsweredFor t before y two → (x ≡ y) × (one ≡ two)
     by-book (refused f) x y k l = (k .0 ∙ sym (l .0), k .1 ∙ sym (l .1))

@@ -13,11 +13,13 @@ use Rattle.sizes.specs.Sizes.{isPerson}
 use Rattle.frames.specs.declared.Query.{Query}
 use Rattle.frames.specs.declared.Book.{Book}
 use Rattle.frames.specs.Book.{Contents, withQuery, contentsOf}
+use Rattle.frames.specs.Limits.{allPlain}
 use Rattle.frames.specs.Inner.Fits.{Admitted}
 use Rattle.shown.specs.Inner.Shown.{direct}
 use Rattle.shown.proofs.ShownLaws.{direct-low, direct-high}
 use Rattle.level.specs.Inner.Moves.{Moves}
 use Rattle.reach.specs.Inner.Goal.{bad}
+use Rattle.reach.specs.Inner.Leveled.{Leveled}
 use Rattle.flags.specs.Inner.Flags.{PersonTable, BadFlags}
 use Rattle.flags.proofs.FlagLaws.{start-flags}
 use Rattle.search.specs.Inner.Drive.{Driving}
@@ -28,7 +30,7 @@ use Rattle.words.specs.Inner.Words.{column}
 use Rattle.persons.specs.Inner.Persons.{everyFact, Begins, Ends, PersonsEnd}
 use Rattle.rows.specs.Inner.Rows.{RowsShown}
 use Rattle.page.specs.Inner.Rows.{askedNothing, roaming, Roams, CrewsSettled, PersonMoves, RowsRight}
-use Rattle.page.proofs.PageLaws.{to-roaming, roaming-admitted, roaming-free, flag-set, flag-clear}
+use Rattle.page.proofs.PageLaws.{to-roaming, roaming-leveled, roaming-free, flag-set, flag-clear}
 use Rattle.page.proofs.RowLaws.{rows-right}
 
 -- A book with such a query in the place of its own.
@@ -36,11 +38,11 @@ pub nothing-asked : (b : Contents) {q : Query} → q ≡ askedNothing 1 (b .quer
 unfolding roaming
 nothing-asked b e = ap (withQuery b) e
 
-pub nothing-accepted : (b : Contents) → Admitted b → Admitted (roaming b 0)
-nothing-accepted b ok = roaming-admitted b 0 ok (lt-ltb 0 (b .sizes .persons) (omega (arith, ok .sized .persons-some)))
+pub nothing-accepted : (b : Contents) → Admitted b → allPlain (b .rules) ≡ true → Leveled (roaming b 0)
+nothing-accepted b ok no-not = roaming-leveled b 0 ok no-not (lt-ltb 0 (b .sizes .persons) (omega (arith, ok .sized .persons-some)))
 
 -- With nothing asked the crews' levels are found settled.
-pub crews-settled : {b : Contents} → Admitted b → Roams b → {rows : List Bool} {up down : List ℕ} {found : Bool} {ups at : ℕ} {table : List Bool}
+pub crews-settled : {b : Contents} → Leveled b → Roams b → {rows : List Bool} {up down : List ℕ} {found : Bool} {ups at : ℕ} {table : List Bool}
     → Scanned b (b .sizes .crews) rows up down found ups at → PersonTable rows table → CrewsSettled b table
 crews-settled {b} ok roams scanned made =
     record {
@@ -62,13 +64,13 @@ none-set f = dite (decLt f 160)
 all-allowed : AllAllowed everyFact
 all-allowed = record { size = refl; at = λ f l. getD-replicate 160 f true false l }
 
-module _ (bk : Book) (ok : Admitted (contentsOf bk)) (roams : Roams (contentsOf bk)) {adds : Moves}
+module _ (bk : Book) (ok : Leveled (contentsOf bk)) (roams : Roams (contentsOf bk)) {adds : Moves}
     (mv : PersonMoves (bk .rules) (bk .query .roles) adds) {table : List Bool} (crews : CrewsSettled (contentsOf bk) table)
     (p : ℕ) (is : isPerson (bk .sizes) p ≡ true) where
   -- The book accepted with the person's query.
-  accepted-for : Admitted (roaming (contentsOf bk) p)
+  accepted-for : Leveled (roaming (contentsOf bk) p)
   unfolding contentsOf
-  accepted-for = roaming-admitted (contentsOf bk) p ok is
+  accepted-for = roaming-leveled (contentsOf bk) p (ok .book) (ok .plain) is
 
   -- The crews' levels serve it.
   served : Driving (roaming (contentsOf bk) p) (contentsOf bk .sizes .crews) (crews .rows) (crews .ups) (crews .up) (crews .at) (crews .down)
@@ -90,22 +92,22 @@ module _ (bk : Book) (ok : Admitted (contentsOf bk)) (roams : Roams (contentsOf 
   unfolding contentsOf roaming withQuery
   person-level-ends begins ends =
       let begun = starts-built (start-flags (roaming (contentsOf bk) p) refl (omega arith) (begins .started)) (begins .built) in
-      person-ends (roaming (contentsOf bk) p) accepted-for (bk .rules) refl (ok .rules-few) (mv .sides) served (crews .made) no-bad begun all-allowed
+      person-ends (roaming (contentsOf bk) p) accepted-for (bk .rules) refl (ok .book .rules-few) (mv .sides) served (crews .made) no-bad begun all-allowed
       (roaming-free (contentsOf bk) p) (ends .grown .whole) (closed-ends (mv .dels) none-set (ends .grown .added) (ends .closed))
 
 -- The rows that the flags of all persons show.
-module _ (bk : Book) (ok : Admitted (contentsOf bk)) (roams : Roams (contentsOf bk)) {adds : Moves}
+module _ (bk : Book) (ok : Leveled (contentsOf bk)) (roams : Roams (contentsOf bk)) {adds : Moves}
     (mv : PersonMoves (bk .rules) (bk .query .roles) adds) {table : List Bool} (crews : CrewsSettled (contentsOf bk) table) {ws : List ℕ}
     (ended : PersonsEnd adds (bk .facts) (bk .sizes .crews) table (bk .sizes .persons) ws) where
   person-held : (p : ℕ) → p < bk .sizes .persons → PersonEnds (roaming (contentsOf bk) p) (column ws p)
   person-held p l = person-level-ends bk ok roams mv crews p (lt-ltb p (bk .sizes .persons) l) (ended .begins p l) (ended .ends p l)
 
   person-accepted : (p : ℕ) → p < bk .sizes .persons → Admitted (roaming (contentsOf bk) p)
-  person-accepted p l = accepted-for bk ok roams mv crews p (lt-ltb p (bk .sizes .persons) l)
+  person-accepted p l = accepted-for bk ok roams mv crews p (lt-ltb p (bk .sizes .persons) l) .book
 
   pub persons-right : {out : List ℕ} → RowsShown (bk .sizes) ws (bk .sizes .persons) out → RowsRight (contentsOf bk) (bk .sizes .persons) out
   unfolding contentsOf
   persons-right rows =
-      rows-right ok rows
+      rows-right (ok .book) rows
       (λ p l. flag-set (contentsOf bk) p (person-accepted p l) (person-held p l))
       (λ p l. flag-clear (contentsOf bk) p (person-accepted p l) (person-held p l))

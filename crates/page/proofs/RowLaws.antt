@@ -12,7 +12,7 @@ use Rattle.quantifiers.proofs.BoolLaws.{not-on}
 use Rattle.sizes.specs.Sizes.{isValue}
 use Rattle.sizes.proofs.SizeLaws.{value-bounds}
 use Rattle.frames.specs.declared.Refusal as frames
-use Rattle.frames.specs.Book.{Contents, withQuery, refused, accepted, bookOf}
+use Rattle.frames.specs.Book.{Contents, withQuery, refused, accepted}
 use Rattle.frames.specs.Inner.Fits.{Admitted}
 use Rattle.planner.specs.Promise.{NoWay}
 use Rattle.words.specs.Inner.Words.{column}
@@ -20,7 +20,7 @@ use Rattle.rows.specs.Inner.Rows.{bitOf, RowsShown}
 use Rattle.page.specs.declared.Paged.{Paged}
 use Rattle.page.specs.declared.Paged.the-variants.{Refused}
 use Rattle.page.specs.declared.Refusal.the-variants.{BadBook}
-use Rattle.page.specs.Page.{done, refusal, said, asking, Reachable, PageGiven, PageAnswered, PagePromise}
+use Rattle.page.specs.Page.{done, refusal, said, asking, Reachable, PageGiven, PageAnswered, pageBook, PagePromise}
 use Rattle.page.specs.Inner.Rows.{roaming, RowsRight}
 use Rattle.page.proofs.PageLaws.{roams-asking}
 
@@ -81,9 +81,9 @@ module _ (b : Contents) (before : List ℕ) where
   answered-filled e given = record { other = λ h. absurd (h e); filled = λ l. (refl, given) }
 
 -- The promise, of a refused book and of an accepted one.
-pub promise-refused : (chars before : List ℕ) {r : frames.Refusal} → bookOf chars ≡ refused r → PagePromise chars before (Refused (BadBook r)) before
+pub promise-refused : (chars before : List ℕ) {r : frames.Refusal} → pageBook chars ≡ refused r → PagePromise chars before (Refused (BadBook r)) before
 promise-refused chars before e = record { kept = rw e (refl, refl) }
 
-pub promise-accepted : (chars before : List ℕ) (answer : Paged) (out : List ℕ) {b : Contents} → bookOf chars ≡ accepted b
+pub promise-accepted : (chars before : List ℕ) (answer : Paged) (out : List ℕ) {b : Contents} → pageBook chars ≡ accepted b
     → PageAnswered b before (said answer) out → PagePromise chars before answer out
 promise-accepted chars before answer out e answered = record { kept = rw e answered }

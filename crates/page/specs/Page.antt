@@ -8,7 +8,7 @@ use lib.ListN.{length, getD, replicate}
 use Rattle.sets.specs.Sets.{put, memberAt}
 use Rattle.sizes.specs.Sizes.{isPerson, isValue}
 use Rattle.frames.specs.declared.Want.{Want}
-use Rattle.frames.specs.Book.{Contents, withQuery, noWant, Answer, refused, accepted, bookOf}
+use Rattle.frames.specs.Book.{Contents, withQuery, noWant, Answer, refused, accepted, bookFor}
 use Rattle.frames.specs.Book as frames
 use Rattle.planner.specs.Promise.{NoWay, Works}
 use Rattle.page.specs.declared.Paged.{Paged}
@@ -83,11 +83,15 @@ pub record PageAnswered (b : Contents) (before : List ℕ) (answer : Said) (out 
   pub other : (length before ≡ pageSize → ⊥) → (answer ≡ refusal 10 0) × (out ≡ before)
   pub filled : length before ≡ pageSize → (answer ≡ done) × PageGiven b out
 
--- Refusals 1-9 come first.
+-- The book's refusals come first.
 abbrev pub PageAnsweredFor : Answer → List ℕ → Said → List ℕ → Type 0
 PageAnsweredFor (refused r) before answer out = (answer ≡ refusal (frames.refusalNumber r) (frames.refusalLine r)) × (out ≡ before)
 PageAnsweredFor (accepted b) before answer out = PageAnswered b before answer out
 
+-- The book as the page reads it. Paper 02, wish 6: "The page of Wish 5 refuses every book with a "not" term by 17".
+abbrev pub pageBook : List ℕ → Answer
+pageBook chars = bookFor true chars
+
 -- The promise of page, on the book's characters.
 pub record PagePromise (chars : List ℕ) (before : List ℕ) (answer : Paged) (out : List ℕ) : Type 0 where
-  pub kept : PageAnsweredFor (bookOf chars) before (said answer) out
+  pub kept : PageAnsweredFor (pageBook chars) before (said answer) out

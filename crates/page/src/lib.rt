@@ -1,10 +1,13 @@
 // The page: a table with a bit for each person and value, set where a plan reaches it. What the crews can come to is worked out once; then all
 // persons have their levels above them, at once. No request of any plan is given.
 ghost use mathlib.Core.Path.{_≡_};
+ghost use mathlib.Core.Bool.{true};
 ghost use lib.ListN.{length};
 ghost use Rattle.frames.specs.Book.{contentsOf};
+ghost use Rattle.frames.specs.Limits.{allPlain};
 ghost use Rattle.frames.specs.Inner.Fits.{Admitted};
 ghost use Rattle.level.specs.Inner.Moves.{movesIn};
+ghost use Rattle.reach.specs.Inner.Leveled.{Leveled};
 ghost use Rattle.search.specs.Inner.Scan.{SideMoves, BlankTable};
 ghost use Rattle.page.specs.Page.{refusalNumber, refusalLine, said, pageSize, PageAnswered, PagePromise};
 ghost use Rattle.page.specs.Inner.Rows.{askedNothing, Roams, CrewsSettled, PersonMoves, RowsRight};
@@ -28,7 +31,7 @@ pub enum Paged {
     Refused(Refusal),
 }
 
-// The refusals 1-10.
+// The book's refusals, and 10.
 pub enum Refusal {
     BadBook(frames::Refusal),
     BadTable,
@@ -73,7 +76,7 @@ fn asked_nothing(mode: u8, roles: u32) -> Query
 
 // What the crews come to, once for all persons, as the table of a person's level.
 fn crews_table(b: Book, gains: &[u16], losses: &[u16], table: &mut [bool])
-    requires { ⌜ Admitted (contentsOf b) × Roams (contentsOf b) ⌝ }
+    requires { ⌜ Leveled (contentsOf b) × Roams (contentsOf b) ⌝ }
     requires { ⌜ SideMoves (b .rules) (b .query .roles) 3 3 4 4 (movesIn (now gains)) (movesIn (now losses)) × BlankTable (now table) ⌝ }
     ensures { λ _. ⌜ CrewsSettled (contentsOf b) (now (table .exit)) ⌝ }
 {
@@ -100,7 +103,7 @@ fn crews_table(b: Book, gains: &[u16], losses: &[u16], table: &mut [bool])
 
 // The crews once, then the persons, with the moves of both.
 fn fill_by(b: Book, gains: &[u16], losses: &[u16], adds: &[u16], out: &mut [u8])
-    requires { ⌜ Admitted (contentsOf b) × Roams (contentsOf b) ⌝ }
+    requires { ⌜ Leveled (contentsOf b) × Roams (contentsOf b) ⌝ }
     requires { ⌜ SideMoves (b .rules) (b .query .roles) 3 3 4 4 (movesIn (now gains)) (movesIn (now losses)) ×
         PersonMoves (b .rules) (b .query .roles) (movesIn (now adds)) ⌝ }
     requires { ⌜ length (now out) ≡ pageSize ⌝ }
@@ -124,7 +127,7 @@ fn fill_by(b: Book, gains: &[u16], losses: &[u16], adds: &[u16], out: &mut [u8])
 
 // The moves out of the accepted rules, then the crews and the persons.
 fn fill(b: Book, out: &mut [u8])
-    requires { ⌜ Admitted (contentsOf b) × Roams (contentsOf b) ⌝ }
+    requires { ⌜ Leveled (contentsOf b) × Roams (contentsOf b) ⌝ }
     requires { ⌜ length (now out) ≡ pageSize ⌝ }
     ensures { λ _. ⌜ RowsRight (contentsOf b) (b .sizes .persons) (now (out .exit)) ⌝ }
 {
@@ -139,9 +142,9 @@ fn fill(b: Book, out: &mut [u8])
     fill_by(b, &ms[..gains], &ms[gains..losses], &ms[losses..adds], out)
 }
 
-// The page of an accepted book. Of its query the roles alone are used.
+// The page of an accepted book without "not" terms. Of its query the roles alone are used.
 fn page_in(b: Book, out: &mut [u8]) -> Paged
-    requires { ⌜ Admitted (contentsOf b) ⌝ }
+    requires { ⌜ Admitted (contentsOf b) × (allPlain (contentsOf b .rules) ≡ true) ⌝ }
     ensures { λ r. ⌜ PageAnswered (contentsOf b) (now (out .entry)) (said r) (now (out .exit)) ⌝ }
 {
     if out.len() != PAGE_SIZE {
@@ -158,7 +161,7 @@ fn page_in(b: Book, out: &mut [u8]) -> Paged
 pub fn page(book: &[u8], out: &mut [u8]) -> Paged
     ensures { λ r. ⌜ PagePromise (now (book .entry)) (now (out .entry)) r (now (out .exit)) ⌝ }
 {
-    let reading = frames::read(book);
+    let reading = frames::read_for_page(book);
     let outcome = reading.outcome;
     if let frames::Outcome::Refused(r) = outcome {
         return Paged::Refused(Refusal::BadBook(r));

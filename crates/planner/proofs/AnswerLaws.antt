@@ -2,7 +2,7 @@
 use mathlib.Core.Path.{_≡_, refl, ap, sym, subst, _∙_}
 use mathlib.Core.Bool.{Bool, true, false, true≢false}
 use mathlib.Core.List.{List, _++_, map, append-assoc}
-use Prim.Native.Nat.{ℕ, zero, suc, _+_, _-_, _*_, _≤_, _<_}
+use Prim.Native.Nat.{ℕ, _+_, _-_, _*_, _≤_, _<_}
 use native.Mathlib.Omega.{arith}
 use lib.ListN.{length, take, drop, length-map, length-append, length-drop}
 use lib.Seq.{take-append-seam, drop-append-seam, drop-append-add, drop-drop}
@@ -18,12 +18,13 @@ use Rattle.theory.specs.Inner.Plan.{Ask}
 use Rattle.level.specs.Inner.Notes.{asks}
 use Rattle.level.proofs.NoteLaws.{asks-length}
 use Rattle.reach.specs.Inner.Tracked.{bytesOf}
+use Rattle.reach.specs.Inner.Leveled.{Leveled}
 use Rattle.drafts.specs.Inner.Drafts.{carried, flat}
 use Rattle.drafts.proofs.DraftLaws.{run-carried, flat-append, fives-flat, length-flat}
 use Rattle.search.specs.Inner.Drive.{starts, drafted}
 use Rattle.search.specs.Inner.Scan.{NoRun, BestWritten}
 use Rattle.sizes.specs.Sizes.{factCount}
-use Rattle.planner.specs.Promise.{NoWay, Works}
+use Rattle.planner.specs.Promise.{Works}
 use Rattle.planner.specs.declared.Planned.{Planned}
 use Rattle.planner.specs.declared.Planned.the-variants.{Refused}
 use Rattle.planner.specs.declared.Refusal.the-variants.{BadBook}
@@ -34,7 +35,10 @@ use Rattle.planner.proofs.PromiseLaws.{lastLedger, no-run-no-way, best-
 
 -- ---------------------------------------------------------------- the requests written
 
-module _ (b : Contents) (ok : Admitted b) {up down : List ℕ} {ups at : ℕ} (w : BestWritten b up down ups at) where
+module _ (b : Contents) (leveled : Leveled b) {up down : List ℕ} {ups at : ℕ} (w : BestWritten b up down ups at) where
+  abbrev ok : Admitted b
+  ok = leveled .book
+
   drafted-is : drafted up ups down at ≡ map bytesOf (w .us) ++ map bytesOf (w .ds)
   drafted-is =
       ap (λ (x : List (List ℕ)). x ++ map bytesOf (asks down at (5280 - at))) (sym (w .bytes-up))
@@ -43,12 +47,15 @@ module _ (b : Contents) (ok : Admitted b) {up down : List ℕ} {ups at : ℕ} (w
   length-of : (us : List Ask) (out : List ℕ) (k n : ℕ) → map bytesOf us ≡ map bytesOf (asks out k n) → length us ≡ n
   length-of us out k n e = sym (length-map us bytesOf) ∙ ap (λ (x : List (List ℕ)). length x) e ∙ length-map (asks out k n) bytesOf ∙ asks-length out k n
 
-  whole : length (w .us ++ w .ds) ≡ ups + (5280 - at)
-  whole = omega (arith, length-append (w .us) (w .ds), length-of (w .us) up 0 ups (w .bytes-up), length-of (w .ds) down at (5280 - at) (w .bytes-down))
-
   -- They are at most two for each fact.
-  pub written-few : ups + (5280 - at) ≤ 2 * factCount (b .sizes)
-  written-few = omega (arith, plan-few b ok (starts b) (w .best .way), whole, length-append (w .us) (w .ds))
+  written-few : ups + (5280 - at) ≤ 2 * factCount (b .sizes)
+  written-few =
+      omega (
+        arith,
+        plan-few b ok (starts b) (w .best .way),
+        length-of (w .us) up 0 ups (w .bytes-up),
+        length-of (w .ds) down at (5280 - at) (w .bytes-down),
+      )
 
   -- Carried out, they end at the best plan's last ledger.
   last-is : carried (b .facts) (drafted up ups down at) ≡ lastLedger b ok (w .best)
@@ -56,45 +63,30 @@ module _ (b : Contents) (ok : Admitted b) {up down : List ℕ} {ups at : ℕ} (w
       ap (carried (b .facts)) drafted-is ∙ run-carried b (b .query .roles) (b .facts) 1 (map bytesOf (w .us) ++ map bytesOf (w .ds))
       (lastLedger b ok (w .best)) (best-leads b ok (w .best) .led)
 
-  -- Where that does not meet the query, there is no way.
-  pub not-reached : met b (holds (carried (b .facts) (drafted up ups down at))) ≡ false → NoWay b
-  not-reached e = best-no-way b ok (w .best) (ap (λ (l : List ℕ). met b (holds l)) (sym last-is) ∙ e)
-
-  -- Where it does, the plan in the buffer's front is given.
-  pub reached : met b (holds (carried (b .facts) (drafted up ups down at))) ≡ true → (before : List ℕ) (n : ℕ) (out : List ℕ) → n ≡ ups + (5280 - at)
-      → 5 * n ≤ length before
-      → out ≡ flat (drafted up ups down at) ++ drop (5 * n) before → PlanGiven b before n out
-  reached e before n out count room is =
+  -- That decides: where it meets the query they work, and where it does not there is no way.
+  pub found-best : (found : Bool) → found ≡ met b (holds (carried (b .facts) (drafted up ups down at))) → PlanFound b up down found ups at
+  found-best found e =
       record {
-        count = ap (λ (x : List (List ℕ)). length x) fives-are ∙ length-map (w .us ++ w .ds) bytesOf ∙ whole ∙ sym count;
-        works = subst (Works b) (sym chain-is) works;
-        reaches = replay-reaches b (front n out) (omega (arith, ap (λ (x : List ℕ). length x) front-is, five)) (works .last)
-            (subst (λ (c : List (List ℕ)). Leads b c (works .last)) (sym chain-is) (works .led)) (works .meets);
-        few = omega (arith, count, written-few);
-        size = omega (arith, ap (λ (x : List ℕ). length x) is′, length-append bytes (drop (5 * n) before), length-drop (5 * n) before, five);
-        behind = ap (drop (5 * n)) is′ ∙ ap (λ (k : ℕ). drop k (bytes ++ drop (5 * n) before)) (sym five) ∙ drop-append-seam bytes (drop (5 * n) before);
+        works = λ t. subst (Works b) (sym drafted-is) (best-works b ok (w .best) (sym meets ∙ t));
+        none = λ f. best-no-way b leveled (w .best) (sym meets ∙ f);
+        few-up = w .few-up;
+        most-down = w .most-down;
+        few = written-few;
       }
     where
-      bytes : List ℕ
-      bytes = flat (map bytesOf (w .us ++ w .ds))
+      meets : found ≡ met b (holds (lastLedger b ok (w .best)))
+      meets = e ∙ ap (λ (l : List ℕ). met b (holds l)) last-is
 
-      is′ : out ≡ bytes ++ drop (5 * n) before
-      is′ = is ∙ ap (λ (c : List (List ℕ)). flat c ++ drop (5 * n) before) (drafted-is ∙ sym (map-append bytesOf (w .us) (w .ds)))
-
-      five : length bytes ≡ 5 * n
-      five = length-flat (w .us ++ w .ds) ∙ ap (λ (k : ℕ). 5 * k) (whole ∙ sym count)
-
-      front-is : front n out ≡ bytes
-      front-is = ap (take (5 * n)) is′ ∙ ap (λ (k : ℕ). take k (bytes ++ drop (5 * n) before)) (sym five) ∙ take-append-seam bytes (drop (5 * n) before)
-
-      fives-are : fives (front n out) ≡ map bytesOf (w .us ++ w .ds)
-      fives-are = ap fives front-is ∙ fives-flat (w .us ++ w .ds)
-
-      chain-is : fives (front n out) ≡ map bytesOf (w .us) ++ map bytesOf (w .ds)
-      chain-is = fives-are ∙ map-append bytesOf (w .us) (w .ds)
-
-      works : Works b (map bytesOf (w .us) ++ map bytesOf (w .ds))
-      works = best-works b ok (w .best) (ap (λ (l : List ℕ). met b (holds l)) (sym last-is) ∙ e)
+-- No run ends clear of the forbidden facts: nothing is found.
+pub found-none : (b : Contents) → Leveled b → {up down : List ℕ} → NoRun b → PlanFound b up down false 0 5280
+found-none b leveled stuck =
+    record {
+      works = λ e. absurd (true≢false (sym e));
+      none = λ e. no-run-no-way b leveled stuck;
+      few-up = omega arith;
+      most-down = omega arith;
+      few = omega arith;
+    }
 
 -- Additions copied to the front, then deletions behind them.
 pub both-copied : (up : List ℕ) (ups : ℕ) (down : List ℕ) (at : ℕ) (before middle out : List ℕ) → length up ≡ 26400 → ups ≤ 5280
@@ -158,45 +150,60 @@ given-plan found up ups down at before {out} {n} e count is =
     long : length (drafted up ups down at) ≡ ups + (5280 - at)
     long = drafted-length up ups down at
 
-module _ (b : Contents) (ok : Admitted b) {up down : List ℕ} where
-  -- No run ends clear of the forbidden facts: nothing is found.
-  pub found-none : NoRun b → PlanFound b up down false 0 5280
-  found-none stuck =
+-- A plan that works, written to the buffer's front, is given.
+module _ (b : Contents) (up : List ℕ) (ups : ℕ) (down : List ℕ) (at : ℕ) (works : Works b (drafted up ups down at))
+    (few : ups + (5280 - at) ≤ 2 * factCount (b .sizes)) where
+  pub reached : (before : List ℕ) (n : ℕ) (out : List ℕ) → n ≡ ups + (5280 - at) → 5 * n ≤ length before
+      → out ≡ flat (drafted up ups down at) ++ drop (5 * n) before → PlanGiven b before n out
+  reached before n out count room is =
       record {
-        reached = λ e. absurd (true≢false (sym e));
-        none = λ e. no-run-no-way b ok stuck;
-        few-up = omega arith;
-        most-down = omega arith;
-        few = omega arith;
+        count = ap (λ (x : List (List ℕ)). length x) chain-is ∙ drafted-length up ups down at ∙ sym count;
+        works = subst (Works b) (sym chain-is) works;
+        reaches = replay-reaches b (front n out) (omega (arith, ap (λ (x : List ℕ). length x) front-is, five)) (works .last)
+            (subst (λ (c : List (List ℕ)). Leads b c (works .last)) (sym chain-is) (works .led)) (works .meets);
+        few = omega (arith, count, few);
+        size = omega (arith, ap (λ (x : List ℕ). length x) is′, length-append bytes (drop (5 * n) before), length-drop (5 * n) before, five);
+        behind = ap (drop (5 * n)) is′ ∙ ap (λ (k : ℕ). drop k (bytes ++ drop (5 * n) before)) (sym five) ∙ drop-append-seam bytes (drop (5 * n) before);
       }
-
-  -- The best plan's last ledger decides.
-  pub found-best : {ups at : ℕ} (found : Bool) → BestWritten b up down ups at
-      → found ≡ met b (holds (carried (b .facts) (drafted up ups down at))) → PlanFound b up down found ups at
-  found-best {ups} {at} found w e =
-      record {
-        reached = λ t. record { written = w; meets = sym e ∙ t };
-        none = λ f. not-reached b ok w (sym e ∙ f);
-        few-up = w .few-up;
-        most-down = w .most-down;
-        few = written-few b ok w;
-      }
-
-  -- What is given for it is what demand 3 says.
-  pub given-decided : {ups at : ℕ} {found : Bool} → PlanFound b up down found ups at → (before : List ℕ) {s : Said} {out : List ℕ}
-      → 10 * factCount (b .sizes) ≤ length before → planReply s out ≡ given found (drafted up ups down at) before → Decided b before s out
-  given-decided {ups} {at} {found} f before {s} {out} long e = by-found found refl e
     where
-      count : length (drafted up ups down at) ≡ ups + (5280 - at)
-      count = drafted-length up ups down at
+      qs : List Ask
+      qs = asks up 0 ups ++ asks down at (5280 - at)
 
-      by-found : (t : Bool) → found ≡ t → planReply s out ≡ given t (drafted up ups down at) before → Decided b before s out
-      by-found false is g =
-          subst (λ (r : PlanReply). Decided b before (r .answer) (r .buffer)) (sym g) (f .none is, refl)
-      by-found true is g =
-          subst (λ (r : PlanReply). Decided b before (r .answer) (r .buffer)) (sym g)
-          (reached b ok (f .reached is .written) (f .reached is .meets) before (length (drafted up ups down at)) _ count
-          (omega (arith, count, f .few, long)) refl)
+      bytes : List ℕ
+      bytes = flat (map bytesOf qs)
+
+      same-chain : map bytesOf qs ≡ drafted up ups down at
+      same-chain = map-append bytesOf (asks up 0 ups) (asks down at (5280 - at))
+
+      is′ : out ≡ bytes ++ drop (5 * n) before
+      is′ = is ∙ ap (λ (c : List (List ℕ)). flat c ++ drop (5 * n) before) (sym same-chain)
+
+      five : length bytes ≡ 5 * n
+      five =
+          length-flat qs
+          ∙ ap (λ (k : ℕ). 5 * k)
+          (sym (length-map qs bytesOf) ∙ ap (λ (x : List (List ℕ)). length x) same-chain ∙ drafted-length up ups down at ∙ sym count)
+
+      front-is : front n out ≡ bytes
+      front-is = ap (take (5 * n)) is′ ∙ ap (λ (k : ℕ). take k (bytes ++ drop (5 * n) before)) (sym five) ∙ take-append-seam bytes (drop (5 * n) before)
+
+      chain-is : fives (front n out) ≡ drafted up ups down at
+      chain-is = ap fives front-is ∙ fives-flat qs ∙ same-chain
+
+-- What is given for what was found is what demand 3 says.
+pub given-decided : (b : Contents) {up down : List ℕ} {ups at : ℕ} {found : Bool} → PlanFound b up down found ups at → (before : List ℕ) {s : Said}
+    {out : List ℕ} → 10 * factCount (b .sizes) ≤ length before → planReply s out ≡ given found (drafted up ups down at) before → Decided b before s out
+given-decided b {up} {down} {ups} {at} {found} f before {s} {out} long e = by-found found refl e
+  where
+    count : length (drafted up ups down at) ≡ ups + (5280 - at)
+    count = drafted-length up ups down at
+
+    by-found : (t : Bool) → found ≡ t → planReply s out ≡ given t (drafted up ups down at) before → Decided b before s out
+    by-found false is g =
+        subst (λ (r : PlanReply). Decided b before (r .answer) (r .buffer)) (sym g) (f .none is, refl)
+    by-found true is g =
+        subst (λ (r : PlanReply). Decided b before (r .answer) (r .buffer)) (sym g)
+        (reached b up ups down at (f .works is) (f .few) before (length (drafted up ups down at)) _ count (omega (arith, count, f .few, long)) refl)
 
 -- ---------------------------------------------------------------- the answer
 

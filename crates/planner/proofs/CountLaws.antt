@@ -6,27 +6,27 @@ use mathlib.Core.List.{List, [], _∷_, _++_, map}
 use Prim.Native.Nat.{ℕ, zero, suc, _+_, _-_, _*_, _/_, _%_, _≤_, _<_}
 use native.Mathlib.Decide.{decLt}
 use native.Mathlib.Omega.{arith}
-use lib.Dec.{ltb}
+use lib.Dec.{eqb}
 use lib.ListN.{length}
-use borrow.Author.Tests.{ltb-true}
+use borrow.Author.Tests.{eqb-true, eq-eqb, ltb-true}
 use Rattle.facts.specs.declared.Fact.{Fact}
 use Rattle.facts.specs.declared.Fact.the-variants.{Holds, CrewHolds, Member}
 use Rattle.sizes.specs.Sizes.{valuesOf, isPerson, isCrew, isValue, valueCount, factCount}
 use Rattle.sizes.proofs.SizeLaws.{value-in, facts-are}
-use Rattle.quantifiers.proofs.BoolLaws.{and-both}
+use Rattle.quantifiers.proofs.BoolLaws.{and-both, and-from}
 use Rattle.frames.specs.Book.{Contents}
 use Rattle.frames.specs.Inner.Fits.{inSizes, Admitted}
 use Rattle.requests.proofs.RequestLaws.{well-formed-fact}
 use Rattle.theory.specs.Inner.Facts.{State, _⊆_, update}
 use Rattle.quantifiers.specs.Quantifiers.{oneIf, countBelow, sumBelow}
+use Rattle.quantifiers.specs.Inner.Lists.{Each}
 use Rattle.theory.proofs.FactLaws.{update-same, update-other, at, count-update}
 use Rattle.quantifiers.proofs.BelowLaws.{count-le, count-mono, sum-most}
-use Rattle.theory.specs.Inner.Plan.{Ask, Req, req, apply, end, Runs, World, Lawful, Step, Plan}
+use Rattle.theory.specs.Inner.Plan.{Ask, Req, req, apply, end, Runs, World, Step, Plan}
 use Rattle.reach.specs.Inner.Tracked.{personLevel, tracked, numberOf, factAt, isNumber, track, bytesOf, asked, May}
 use Rattle.reach.specs.Inner.Goal.{bad}
 use Rattle.reach.proofs.TrackLaws.{tracked-value, tracked-crew, tracked-member, fact-tracked, track-at}
 use Rattle.reach.specs.Inner.Depot.{depot}
-use Rattle.reach.proofs.DepotLaws.{depot-lawful}
 
 -- ---------------------------------------------------------------- counting
 
@@ -79,23 +79,28 @@ in-set-update S I f on h =
     fun-ext λ g. at (λ g. (update S f on g && I g) ≡ update (inSet S I) f on g) f g (rw (update-same, update-same, h) (and-true on))
     (λ n. rw (update-other, update-other) refl)
 
-module _ {W : World} (lawful : Lawful W) (I : State) (in-set : (S : State) (on : Bool) (q : Ask) → W .May S (req on q) → I (q .fact) ≡ true) where
+-- Requests on facts of the set alone; no request is about a fact outside the first F.
+module _ (W : World) (known : (S : State) (on : Bool) (q : Ask) → W .May S (req on q) → q .fact < W .F) (I : State) where
   -- Each request that changes a fact of the set changes the count by one.
-  counted : (S : State) (on : Bool) (q : Ask) → Step W S (req on q)
+  counted : (S : State) (on : Bool) (q : Ask) → I (q .fact) ≡ true → Step W S (req on q)
       → countBelow (inSet (update S (q .fact) on) I) (W .F) + oneIf (inSet S I (q .fact)) ≡ countBelow (inSet S I) (W .F) + oneIf on
-  counted S on q m = rw (in-set-update S I (q .fact) on (in-set S on q (m .may))) (count-update (inSet S I) (q .fact) on (W .F) (lawful .known S on q (m .may)))
+  counted S on q i m = rw (in-set-update S I (q .fact) on i) (count-update (inSet S I) (q .fact) on (W .F) (known S on q (m .may)))
 
-  additions : (S : State) (us : List Ask) → Runs (Step W) S (map (req true) us) → countBelow (inSet S I) (W .F) + length us ≤ countBelow I (W .F)
-  additions S [] r = omega (arith, count-mono (in-set-in S I) (W .F))
-  additions S (q ∷ us) r =
+  additions : (S : State) (us : List Ask) → Each (λ q. I (q .fact) ≡ true) us → Runs (Step W) S (map (req true) us)
+      → countBelow (inSet S I) (W .F) + length us ≤ countBelow I (W .F)
+  unfolding Each
+  additions S [] i r = omega (arith, count-mono (in-set-in S I) (W .F))
+  additions S (q ∷ us) i r =
       let none : oneIf (inSet S I (q .fact)) ≡ 0 = rw (r .0 .new) refl in
-      omega (arith, counted S true q (r .0), none, additions (update S (q .fact) true) us (r .1))
+      omega (arith, counted S true q (i .0) (r .0), none, additions (update S (q .fact) true) us (i .1) (r .1))
 
-  deletions : (S : State) (ds : List Ask) → Runs (Step W) S (map (req false) ds) → length ds ≤ countBelow (inSet S I) (W .F)
-  deletions S [] r = omega arith
-  deletions S (q ∷ ds) r =
-      let one : oneIf (inSet S I (q .fact)) ≡ 1 = rw (r .0 .new, in-set S false q (r .0 .may)) refl in
-      omega (arith, counted S false q (r .0), one, deletions (update S (q .fact) false) ds (r .1))
+  deletions : (S : State) (ds : List Ask) → Each (λ q. I (q .fact) ≡ true) ds → Runs (Step W) S (map (req false) ds)
+      → length ds ≤ countBelow (inSet S I) (W .F)
+  unfolding Each
+  deletions S [] i r = omega arith
+  deletions S (q ∷ ds) i r =
+      let one : oneIf (inSet S I (q .fact)) ≡ 1 = rw (r .0 .new, i .0) refl in
+      omega (arith, counted S false q (i .0) (r .0), one, deletions (update S (q .fact) false) ds (i .1) (r .1))
 
 -- A chain in two parts runs in both.
 pub runs-first : (P : State → Req → Type 0) (S : State) (xs ys : List Req) → Runs P S (xs ++ ys) → Runs P S xs
@@ -195,7 +200,7 @@ module _ (b : Contents) where
         omega (arith, top, level-values k)
 
     -- The person's level.
-    level-person : countBelow (λ i. inside (160 * b .sizes .crews + i)) 160 ≤ valueCount (b .sizes) + b .sizes .crews
+    pub level-person : countBelow (λ i. inside (160 * b .sizes .crews + i)) 160 ≤ valueCount (b .sizes) + b .sizes .crews
     level-person =
         let k = b .sizes .crews in
         let members = few (λ i. inside (160 * k + (128 + i))) k 32
@@ -215,16 +220,45 @@ module _ (b : Contents) where
         omega (arith, top, count-split inside (160 * k) 160, crews, sum-most (λ _. n) n k (λ i l. omega arith), level-person) in
         rw (facts-are (b .sizes)) whole
 
-    in-depot : (S : State) (on : Bool) (q : Ask) → depot b .May S (req on q) → inside (q .fact) ≡ true
-    in-depot S on q m = inside-may S on q m
+    in-depot : (S : State) (on : Bool) (q : Ask) → depot b .May S (req on q) → q .fact < 5280
+    in-depot S on q m = m .bounded
+
+    -- Requests that run are about such facts.
+    all-inside : (on : Bool) (S : State) (qs : List Ask) → Runs (Step (depot b)) S (map (req on) qs) → Each (λ q. inside (q .fact) ≡ true) qs
+    unfolding Each
+    all-inside on S [] r = tt
+    all-inside on S (q ∷ qs) r = (inside-may S on q (r .0 .may), all-inside on (update S (q .fact) on) qs (r .1))
 
     -- Additions that each change the state are no more than the paper's count of facts.
     pub additions-few : (S : State) (us : List Ask) → Runs (Step (depot b)) S (map (req true) us) → length us ≤ factCount (b .sizes)
-    additions-few S us r = omega (arith, additions (depot-lawful b) inside in-depot S us r, inside-few)
+    additions-few S us r = omega (arith, additions (depot b) in-depot inside S us (all-inside true S us r) r, inside-few)
 
     -- So are deletions.
     pub deletions-few : (S : State) (ds : List Ask) → Runs (Step (depot b)) S (map (req false) ds) → length ds ≤ factCount (b .sizes)
-    deletions-few S ds r = omega (arith, deletions (depot-lawful b) inside in-depot S ds r, count-mono (in-set-in S inside) 5280, inside-few)
+    deletions-few S ds r =
+        omega (arith, deletions (depot b) in-depot inside S ds (all-inside false S ds r) r, count-mono (in-set-in S inside) 5280, inside-few)
+
+    -- Additions on the query's person alone are no more than the person's values and crews.
+    abbrev own : State
+    own g = inside g && eqb (g / 160) (personLevel b)
+
+    own-count : countBelow own 5280 ≤ valueCount (b .sizes) + b .sizes .crews
+    own-count =
+        let k = b .sizes .crews in
+        let at-level : (g : ℕ) → own g ≡ true → g / 160 ≡ k = λ g t. eqb-true (g / 160) k (and-both (inside g) (eqb (g / 160) k) t .1) in
+        let top = cap own (160 * k + 160) 5280 (omega (arith, ok .sized .crews-most)) (λ g l t. omega (arith, at-level g t)) in
+        let crews = few own 0 (160 * k) (λ g l t. absurd (omega (arith, at-level g t))) in
+        let person = count-mono (λ i t. and-both (inside (160 * k + i)) (eqb ((160 * k + i) / 160) k) t .0) 160 in
+        omega (arith, top, count-split own (160 * k) 160, crews, person, level-person)
+
+    pub own-additions-few : (S : State) (us : List Ask) → Runs (Step (depot b)) S (map (req true) us) → Each (λ q. q .fact / 160 ≡ personLevel b) us
+        → length us ≤ valueCount (b .sizes) + b .sizes .crews
+    unfolding Each
+    own-additions-few S us r on-level = omega (arith, additions (depot b) in-depot own S us (all-own us (all-inside true S us r) on-level) r, own-count)
+      where
+        all-own : (qs : List Ask) → Each (λ q. inside (q .fact) ≡ true) qs → Each (λ q. q .fact / 160 ≡ personLevel b) qs → Each (λ q. own (q .fact) ≡ true) qs
+        all-own [] i l = tt
+        all-own (q ∷ qs) i l = (and-from _ _ (i .0) (eq-eqb (q .fact / 160) (personLevel b) (l .0)), all-own qs (i .1) (l .1))
 
     -- A plan has at most two requests for each fact.
     pub plan-few : (S₀ : State) {us ds : List Ask} → Plan (depot b) (bad b) S₀ us ds → length us + length ds ≤ 2 * factCount (b .sizes)

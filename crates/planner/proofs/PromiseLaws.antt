@@ -1,4 +1,5 @@
--- The best plan's last ledger decides: where it meets the query the plan works, and where it does not, no chain does.
+-- Additions and deletions that run, and end with a ledger that meets the query, are a plan that works. The best plan's last ledger
+-- decides: where it does not meet the query, no chain does.
 use mathlib.Core.Path.{_≡_, refl, ap, sym, subst, _∙_}
 use mathlib.Core.Bool.{Bool, true, false, not, true≢false}
 use mathlib.Core.List.{List, [], _∷_, _++_, map}
@@ -21,7 +22,8 @@ use Rattle.reach.proofs.Chained.{Kept, trackedOf, fiveOf}
 use Rattle.reach.specs.Inner.Goal.{goal, bad}
 use Rattle.reach.proofs.TrackLaws.{lift-mono, track-at}
 use Rattle.reach.specs.Inner.Depot.{depot}
-use Rattle.reach.proofs.ChainLaws.{kept-after, track-after, adding-of, Chained, chain-ran, run-chained}
+use Rattle.reach.specs.Inner.Leveled.{Leveled}
+use Rattle.reach.proofs.ChainLaws.{kept-after, track-after, adding-of, Ran, Chained, chain-ran, run-chained}
 use Rattle.reach.proofs.GoalLaws.{goal-mono, met-goal, met-clear, goal-met, goal-local, clear-of, clear-from}
 use Rattle.search.specs.Inner.Drive.{starts}
 use Rattle.search.specs.Inner.Scan.{NoRun}
@@ -104,68 +106,97 @@ module _ (b : Contents) (ok : Admitted b) where
             (subst (λ (S : State). Runs (Step (depot b)) S rs) (sym next) (r .1)),
       )
 
+  -- ---------------------------------------------------------------- additions, then deletions
+
+  module _ (us ds : List Ask) (runs : Runs (Step (depot b)) (starts b) (addThenDelete us ds)) where
+    may-run : Runs (depot b .May) (starts b) (addThenDelete us ds)
+    may-run = runs-map (Step (depot b)) (depot b .May) (λ S r m. m .may) (starts b) (addThenDelete us ds) runs
+
+    -- Carried out from the starting facts.
+    pub run-done : Chained b ok (b .facts) 1 (addThenDelete us ds)
+    run-done = run-chained b ok (addThenDelete us ds) (b .facts) 1 kept-first may-run
+
+    up-named : Named b true us
+    up-named = named-all b ok true (starts b) us (runs-first (Step (depot b)) (starts b) (map (req true) us) (map (req false) ds) runs)
+
+    down-named : Named b false ds
+    down-named =
+        named-all b ok false (end (starts b) (map (req true) us)) ds
+        (runs-last (Step (depot b)) (starts b) (map (req true) us) (map (req false) ds) runs)
+
+    -- They lead to their last ledger.
+    pub run-leads : Leads b (map bytesOf us ++ map bytesOf ds) (run-done .last)
+    run-leads = record { led = ap (run b (b .query .roles) (b .facts) 1) (sym (fives-plan us ds)) ∙ run-done .led }
+
+    -- Where that meets the query, and no fact is added twice nor deleted twice, the plan works.
+    pub run-works : Distinct us → Distinct ds → met b (holds (run-done .last)) ≡ true → Works b (map bytesOf us ++ map bytesOf ds)
+    run-works once-up once-down meets =
+        record {
+          last = run-done .last;
+          led = run-leads;
+          meets = meets;
+          changes = subst (Changing (b .facts)) (fives-plan us ds) (changing (addThenDelete us ds) (b .facts) kept-first runs);
+          added-once = once-before b true (map bytesOf us) (map bytesOf ds) (once-own b true us once-up up-named)
+              (λ f. never-other b true f ds down-named) (once-other b true ds down-named);
+          deleted-once = once-behind b false us (map bytesOf ds) up-named (once-own b false ds once-down down-named);
+        }
+
+  -- The best plan, carried out from the starting facts, leads to its last ledger, and works where that meets the query.
+  module _ {us ds : List Ask} (best : Best (depot b) (bad b) (starts b) us ds) where
+    abbrev pub done : Chained b ok (b .facts) 1 (addThenDelete us ds)
+    done = run-done us ds (best .way .runs)
+
+    abbrev pub lastLedger : List ℕ
+    lastLedger = done .last
+
+    pub best-leads : Leads b (map bytesOf us ++ map bytesOf ds) lastLedger
+    best-leads = run-leads us ds (best .way .runs)
+
+    pub best-works : met b (holds lastLedger) ≡ true → Works b (map bytesOf us ++ map bytesOf ds)
+    best-works meets = run-works us ds (best .way .runs) (best .way .once-up) (best .way .once-down) meets
+
+-- ---------------------------------------------------------------- no way
+
+module _ (b : Contents) (leveled : Leveled b) where
+  abbrev ok : Admitted b
+  ok = leveled .book
+
+  -- A chain to a ledger that meets the query ends clear of the forbidden facts.
+  clear-ran : {chain : List (List ℕ)} {l : List ℕ} → Ran b ok (b .facts) chain l → met b (holds l) ≡ true
+      → Clear (bad b) (end (starts b) (trackedOf b chain))
+  clear-ran {chain} {l} ran m =
+      subst (Clear (bad b)) (sym (ran .ends-at)) (clear-of b (holds l) (met-clear b ok (holds l) (ran .kept .inside) (leveled .mode) m))
+
   -- Where no run ends clear, no chain leads to a ledger that meets the query.
   pub no-run-no-way : NoRun b → NoWay b
   no-run-no-way never =
       record {
         none = λ chain l leads m.
-            let ran = chain-ran b ok chain (b .facts) 1 l kept-first (leads .led) in
-            never .never (trackedOf b chain) (ran .runs)
-            (subst (Clear (bad b)) (sym (ran .ends-at)) (clear-of b (holds l) (met-clear b ok (holds l) (ran .kept .inside) m)));
+            let ran = chain-ran b ok chain (b .facts) 1 l (kept-first b ok) (leads .led) in
+            never .never (trackedOf b chain) (ran .runs) (clear-ran ran m);
       }
 
   module _ {us ds : List Ask} (best : Best (depot b) (bad b) (starts b) us ds) where
-    may-run : Runs (depot b .May) (starts b) (addThenDelete us ds)
-    may-run = runs-map (Step (depot b)) (depot b .May) (λ S r m. m .may) (starts b) (addThenDelete us ds) (best .way .runs)
+    abbrev last : List ℕ
+    last = lastLedger b ok best
 
-    -- The plan carried out from the starting facts.
-    pub done : Chained b ok (b .facts) 1 (addThenDelete us ds)
-    done = run-chained b ok (addThenDelete us ds) (b .facts) 1 kept-first may-run
-
-    abbrev pub lastLedger : List ℕ
-    lastLedger = done .last
-
-    clear-last : Clear (bad b) (track b (holds lastLedger))
-    clear-last = subst (Clear (bad b)) (sym (done .ends-at)) (best .way .clear)
+    clear-last : Clear (bad b) (track b (holds last))
+    clear-last = subst (Clear (bad b)) (sym (done b ok best .ends-at)) (best .way .clear)
 
     -- Where the best plan's last ledger does not meet the query, no chain leads to one that does.
-    pub best-no-way : met b (holds lastLedger) ≡ false → NoWay b
+    pub best-no-way : met b (holds last) ≡ false → NoWay b
     best-no-way short =
         record {
           none = λ chain l leads m.
-              let ran = chain-ran b ok chain (b .facts) 1 l kept-first (leads .led) in
-              let clear = clear-of b (holds l) (met-clear b ok (holds l) (ran .kept .inside) m) in
-              let within = best .best (trackedOf b chain) (ran .runs) (subst (Clear (bad b)) (sym (ran .ends-at)) clear) in
-              let more : track b (holds l) ⊆ track b (holds lastLedger) =
-              λ g e. ap (λ (S : State). S g) (done .ends-at) ∙ within g (ap (λ (S : State). S g) (ran .ends-at) ∙ e) in
-              let here : goal b (lift b (track b (holds l))) ≡ true = sym (goal-local b ok (holds l) (ran .kept .inside)) ∙ met-goal b (holds l) m in
-              let there : goal b (holds lastLedger) ≡ true = goal-local b ok (holds lastLedger) (done .kept .inside) ∙ goal-mono b (lift-mono b more) here in
-              true≢false (sym (goal-met b ok (holds lastLedger) (done .kept .inside) (clear-from b (holds lastLedger) clear-last) there) ∙ short);
-        }
-
-    up-named : Named b true us
-    up-named = named-all b ok true (starts b) us (runs-first (Step (depot b)) (starts b) (map (req true) us) (map (req false) ds) (best .way .runs))
-
-    down-named : Named b false ds
-    down-named =
-        named-all b ok false (end (starts b) (map (req true) us)) ds
-        (runs-last (Step (depot b)) (starts b) (map (req true) us) (map (req false) ds) (best .way .runs))
-
-    -- The plan leads to that ledger.
-    pub best-leads : Leads b (map bytesOf us ++ map bytesOf ds) lastLedger
-    best-leads = record { led = ap (run b (b .query .roles) (b .facts) 1) (sym (fives-plan us ds)) ∙ done .led }
-
-    -- Where the best plan's last ledger meets the query, the plan works.
-    pub best-works : met b (holds lastLedger) ≡ true → Works b (map bytesOf us ++ map bytesOf ds)
-    best-works meets =
-        record {
-          last = lastLedger;
-          led = best-leads;
-          meets = meets;
-          changes = subst (Changing (b .facts)) (fives-plan us ds) (changing (addThenDelete us ds) (b .facts) kept-first (best .way .runs));
-          added-once = once-before b true (map bytesOf us) (map bytesOf ds) (once-own b true us (best .way .once-up) up-named)
-              (λ f. never-other b true f ds down-named) (once-other b true ds down-named);
-          deleted-once = once-behind b false us (map bytesOf ds) up-named (once-own b false ds (best .way .once-down) down-named);
+              let ran = chain-ran b ok chain (b .facts) 1 l (kept-first b ok) (leads .led) in
+              let inside = done b ok best .kept .inside in
+              let within = best .best (trackedOf b chain) (ran .runs) (clear-ran ran m) in
+              let more : track b (holds l) ⊆ track b (holds last) =
+              λ g e. ap (λ (S : State). S g) (done b ok best .ends-at) ∙ within g (ap (λ (S : State). S g) (ran .ends-at) ∙ e) in
+              let here : goal b (lift b (track b (holds l))) ≡ true =
+              sym (goal-local b ok (holds l) (ran .kept .inside)) ∙ met-goal b (leveled .mode) (holds l) m in
+              let there : goal b (holds last) ≡ true = goal-local b ok (holds last) inside ∙ goal-mono b (lift-mono b more) here in
+              true≢false (sym (goal-met b ok (holds last) inside (leveled .mode) (clear-from b (holds last) clear-last) there) ∙ short);
         }
 
 -- "Exactly": where there is a plan that works, no way is not given.

@@ -64,7 +64,7 @@ pub record Answered (b : Contents) (before : List ℕ) (answer : Said) (out : Li
   pub short : length before < 10 * factCount (b .sizes) → (answer ≡ said8F 10 0) × (out ≡ before)
   pub long : 10 * factCount (b .sizes) ≤ length before → Decided b before answer out
 
--- Refusals 1-9 come first.
+-- The book's refusals come first.
 abbrev pub AnsweredFor : Answer → List ℕ → Said → List ℕ → Type 0
 AnsweredFor (refused r) before answer out = (answer ≡ said8F (frames.refusalNumber r) (frames.refusalLine r)) × (out ≡ before)
 AnsweredFor (accepted b) before answer out = Answered b before answer out

@@ -1,4 +1,4 @@
-// The planner: level by level what can be reached, and a plan out of the requests written on the way.
+// The planner: what can be reached, level by level or in a book that only grows, and a plan out of the requests written on the way.
 ghost use mathlib.Core.Path.{_≡_};
 ghost use Prim.Native.Nat.{_+_, _-_, _*_, _≤_, _<_};
 ghost use lib.ListN.{length, drop};
@@ -7,6 +7,7 @@ ghost use Rattle.frames.specs.Inner.Fits.{Admitted};
 ghost use mathlib.Core.List.{_++_};
 ghost use Rattle.facts.specs.Facts.{holds};
 ghost use Rattle.replay.specs.Met.{met};
+ghost use Rattle.reach.specs.Inner.Leveled.{Leveled};
 ghost use Rattle.drafts.specs.Inner.Drafts.{carried, flat};
 ghost use Rattle.planner.specs.Answer.{refusalNumber, refusalLine, said, Answered, PlanPromise};
 ghost use Rattle.planner.specs.Inner.Found.{PlanFound, planReply, given};
@@ -24,7 +25,7 @@ pub enum Planned {
     Refused(Refusal),
 }
 
-// The refusals 1-10.
+// The book's refusals, and 10.
 pub enum Refusal {
     BadBook(frames::Refusal),
     ShortBuffer,
@@ -65,7 +66,7 @@ fn is_reached(b: Book, up: &[u8], ups: usize, down: &[u8], at: usize) -> bool
 
 // The requests of the best plan, found where they lead to a ledger that meets the query; none else.
 fn best_plan(b: Book, up: &mut [u8], down: &mut [u8]) -> LevelOutcome
-    requires { ⌜ Admitted (contentsOf b) ⌝ }
+    requires { ⌜ Leveled (contentsOf b) ⌝ }
     requires { ⌜ (length (now up) ≡ draftSize) × (length (now down) ≡ draftSize) ⌝ }
     ensures { λ r. ⌜ PlanFound (contentsOf b) (now (up .exit)) (now (down .exit)) (r .found) (r .ups) (r .at) ⌝ }
 {
@@ -82,6 +83,31 @@ fn best_plan(b: Book, up: &mut [u8], down: &mut [u8]) -> LevelOutcome
         found,
         ups: r.ups,
         at: r.at,
+    }
+}
+
+// The requests of a plan, by the query's mode: a book of mode 03 only grows, and any other is planned by levels.
+fn find_plan(b: Book, up: &mut [u8], down: &mut [u8]) -> LevelOutcome
+    requires { ⌜ Admitted (contentsOf b) ⌝ }
+    requires { ⌜ (length (now up) ≡ draftSize) × (length (now down) ≡ draftSize) ⌝ }
+    ensures { λ r. ⌜ PlanFound (contentsOf b) (now (up .exit)) (now (down .exit)) (r .found) (r .ups) (r .at) ⌝ }
+{
+    let mode = b.query.mode;
+    if mode != 3 {
+        return best_plan(b, up, down);
+    }
+    let r = own::find(b, up);
+    if !r.found {
+        return LevelOutcome {
+            found: false,
+            ups: 0,
+            at: DEPOT_SIZE,
+        };
+    }
+    LevelOutcome {
+        found: true,
+        ups: r.n,
+        at: DEPOT_SIZE,
     }
 }
 
@@ -123,7 +149,7 @@ fn plan_in(b: Book, out: &mut [u8]) -> Planned
     }
     let mut up = [0u8; DRAFT_SIZE];
     let mut down = [0u8; DRAFT_SIZE];
-    let r = best_plan(b, &mut up, &mut down);
+    let r = find_plan(b, &mut up, &mut down);
     give(r.found, &up, r.ups, &down, r.at, out)
 }
 

@@ -46,18 +46,21 @@ module _ {A : Type 0} where
       by-head true i g next = (x, (and-both (p x) (all p xs) e .0, i))
       by-head false i g next = next g
 
-  -- By a test that more pass, all pass where all did, and some one where some one did.
+  -- By a test that more pass, all pass where all did.
   pub all-mono : (p q : A → Bool) (xs : List A) → ((x : A) → p x ≡ true → q x ≡ true) → all p xs ≡ true → all q xs ≡ true
   all-mono p q xs h e = all-in p p q xs e e (λ x i j found. h x i)
 
-  pub any-mono : (p q : A → Bool) (xs : List A) → ((x : A) → p x ≡ true → q x ≡ true) → any p xs ≡ true → any q xs ≡ true
-  unfolding any
-  any-mono p q [] h e = e
-  any-mono p q (x ∷ xs) h e = by-head (p x) refl e (any-mono p q xs h)
+  -- Where all pass a test, some one passes any test that each which passed two others passes.
+  pub any-in : (p q r : A → Bool) (xs : List A) → all p xs ≡ true → any q xs ≡ true → ((x : A) → p x ≡ true → q x ≡ true → r x ≡ true) → any r xs ≡ true
+  unfolding all any
+  any-in p q r [] e f h = f
+  any-in p q r (x ∷ xs) e f h =
+      let one = and-both (p x) (all p xs) e in
+      by-head (q x) refl f (h x (one .0)) (λ g. any-in p q r xs (one .1) g h)
     where
-      by-head : (b : Bool) → p x ≡ b → (b || any p xs) ≡ true → (any p xs ≡ true → any q xs ≡ true) → (q x || any q xs) ≡ true
-      by-head true i f rest = rw (h x i) refl
-      by-head false i f rest = or-right (q x) (any q xs) (rest f)
+      by-head : (b : Bool) → q x ≡ b → (b || any q xs) ≡ true → (q x ≡ true → r x ≡ true) → (any q xs ≡ true → any r xs ≡ true) → (r x || any r xs) ≡ true
+      by-head true i f here rest = rw (here i) refl
+      by-head false i f here rest = or-right (r x) (any r xs) (rest f)
 
   -- By tests that agree, all pass alike, and some one alike.
   pub all-agree : (p q : A → Bool) → ((x : A) → p x ≡ q x) → (xs : List A) → all p xs ≡ all q xs

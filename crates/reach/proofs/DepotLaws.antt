@@ -1,4 +1,5 @@
--- The laws of the depot as a world of the theory: its permission is monotone, and turns on the facts of its own level and those below.
+-- The laws of the depot as a world of the theory: its permission is monotone, where no rule has a "not" term, and turns on the facts of its
+-- own level and those below.
 use mathlib.Core.Path.{_≡_, sym, _∙_}
 use mathlib.Core.Bool.{Bool, true}
 use Prim.Native.Nat.{_+_, _*_, _/_, _<_}
@@ -6,6 +7,7 @@ use native.Mathlib.Omega.{arith}
 use Rattle.facts.specs.declared.Person.{Person}
 use Rattle.facts.specs.declared.Fact.{Fact}
 use Rattle.facts.specs.declared.Fact.the-variants.{Holds, CrewHolds, Member}
+use Rattle.frames.specs.Limits.{allPlain}
 use Rattle.frames.specs.Book.{Contents}
 use Rattle.frames.specs.declared.Term.{Term}
 use Rattle.requests.specs.declared.Request.{Request}
@@ -19,9 +21,9 @@ use Rattle.reach.specs.Inner.Tracked.{personLevel, tracked, numberOf, li
 use Rattle.reach.specs.Inner.Depot.{depot, levelOf}
 use Rattle.reach.proofs.TrackLaws.{tracked-value, tracked-crew, tracked-member, level-low, lift-mono, lift-same}
 
--- More facts permit no fewer requests, and every request is about a tracked fact.
-pub depot-lawful : (b : Contents) → Lawful (depot b)
-depot-lawful b = record { mono = more; known = in-F }
+-- Of rules without "not" terms more facts permit no fewer requests; and every request is about a tracked fact.
+pub depot-lawful : (b : Contents) → allPlain (b .rules) ≡ true → Lawful (depot b)
+depot-lawful b plain-rules = record { mono = more; known = in-F }
   where
     more : {S T : State} (r : Req) → S ⊆ T → depot b .May S r → depot b .May T r
     more {S} {T} (req on q) le m =
@@ -32,7 +34,7 @@ depot-lawful b = record { mono = more; known = in-F }
           of-fact = m .of-fact;
           number = m .number;
           bounded = m .bounded;
-          allows = permitted-mono (b .juniors) (lift-mono b le) (b .rules) (asked q) (m .allows);
+          allows = permitted-mono (b .juniors) (lift-mono b le) (b .rules) (asked q) plain-rules (m .allows);
         }
 
     in-F : (S : State) (on : Bool) (q : Ask) → depot b .May S (req on q) → q .fact < 5280

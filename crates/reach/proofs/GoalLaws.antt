@@ -1,4 +1,4 @@
--- The query is met where nothing forbidden holds and the goal is reached.
+-- In modes 01 and 02 the query is met where nothing forbidden holds and the goal is reached.
 use mathlib.Core.Path.{_≡_, refl, ap, sym, _∙_}
 use mathlib.Core.Logic.{⊎-elim}
 use mathlib.Core.Bool.{Bool, true, false, not, cond, _&&_, true≢false}
@@ -6,9 +6,9 @@ use mathlib.Core.List.{List}
 use Prim.Native.Nat.{ℕ, zero, suc, _+_, _*_, _/_, _%_, _^_, _≤_, _<_}
 use native.Mathlib.Nat.{mod-lt}
 use native.Mathlib.Omega.{arith}
-use lib.Dec.{eqb, leb}
+use lib.Dec.{eqb}
 use lib.Pow.{pow-pos, pow-mono, split}
-use borrow.Author.Tests.{eqb-true, eqb-false, eq-eqb, ltb-true, leb-true, not-true, not-false}
+use borrow.Author.Tests.{eqb-true, eqb-false, eq-eqb, ltb-true, not-true, not-false}
 use Rattle.sets.specs.Sets.{member, within, subset}
 use Rattle.sets.proofs.SetLaws.{same-members, subset-member, subset-from}
 use Rattle.facts.specs.declared.Attr.{Attr}
@@ -16,7 +16,8 @@ use Rattle.facts.specs.declared.Crew.{Crew}
 use Rattle.facts.specs.declared.Person.{Person}
 use Rattle.facts.specs.declared.Fact.{Fact}
 use Rattle.facts.specs.declared.Fact.the-variants.{Holds, CrewHolds, Member}
-use Rattle.sizes.specs.Sizes.{isPerson, isCrew, isAttr, isValue, valuesOf}
+use Rattle.sizes.specs.Sizes.{between, isPerson, isCrew, isAttr, isValue, valuesOf}
+use Rattle.sizes.proofs.SizeLaws.{between-true}
 use Rattle.inherit.specs.Inheritance.{isJunior, Falling, Below, here, down, downward, crewHolds, personHolds, Subset}
 use Rattle.inherit.proofs.InheritanceLaws.{junior-member, reached, reaches, crew-holds-direct, crew-holds-junior, crew-holds-cases, person-holds-cases}
 use Rattle.inherit.proofs.InheritanceLaws.{person-holds-direct, person-holds-from}
@@ -79,14 +80,18 @@ subset-refl x = subset-from x x (λ v m. m)
 
 -- ---------------------------------------------------------------- the parts of the query
 
+-- Of modes 01 and 02 the one that is not 01 is 02.
+second : (m : ℕ) → between 1 2 m ≡ true → eqb m 1 ≡ false → m ≡ 2
+second m range e = let other : m ≡ 1 → ⊥ = eqb-false m 1 e in omega (arith, between-true 1 2 m range, other)
+
 -- A met query, by its mode.
-met-by-mode : (b : Contents) (F : Fact → Bool) {R : Type 0} → met b F ≡ true
+met-by-mode : (b : Contents) → between 1 2 (b .query .mode) ≡ true → (F : Fact → Bool) {R : Type 0} → met b F ≡ true
     → (eqb (b .query .mode) 1 ≡ true → metAtLeast b F ≡ true → R) → (eqb (b .query .mode) 1 ≡ false → metExactly b F ≡ true → R) → R
-met-by-mode b F {R} e least exactly = by-flag (eqb (b .query .mode) 1) refl
+met-by-mode b range F {R} e least exactly = by-flag (eqb (b .query .mode) 1) refl
   where
     by-flag : (m : Bool) → eqb (b .query .mode) 1 ≡ m → R
     by-flag true m = least m (sym (met-at-least b F m) ∙ e)
-    by-flag false m = exactly m (sym (met-exactly b F m) ∙ e)
+    by-flag false m = exactly m (sym (met-exactly b F (second (b .query .mode) range m)) ∙ e)
 
 module _ (b : Contents) {F H : Fact → Bool} (sub : Subset F H) where
   -- With more facts the goal stays reached.
@@ -101,10 +106,10 @@ module _ (b : Contents) {F H : Fact → Bool} (sub : Subset F H) where
       (at-least-mono b sub (both .1))))
 
 -- Where the query is met, its goal is reached.
-pub met-goal : (b : Contents) (F : Fact → Bool) → met b F ≡ true → goal b F ≡ true
+pub met-goal : (b : Contents) → between 1 2 (b .query .mode) ≡ true → (F : Fact → Bool) → met b F ≡ true → goal b F ≡ true
 unfolding goal
-met-goal b F e =
-    met-by-mode b F e
+met-goal b range F e =
+    met-by-mode b range F e
     (λ m f. rw m f)
     (λ m f.
     let parts = exactly-parts b F f in
@@ -158,12 +163,8 @@ module _ (b : Contents) (ok : Admitted b) where
       (λ j l. all-at (wantFits (b .sizes) (b .query)) (b .query .q) j (ok .query-in .wants) l))
 
   -- In mode 02 the listed crews are the book's.
-  listed-within : eqb (b .query .mode) 1 ≡ false → within (b .query .crews) (b .sizes .crews) ≡ true
-  listed-within m =
-      let range = and-both (leb 1 (b .query .mode)) (leb (b .query .mode) 2) (ok .query-in .mode) in
-      let ne : b .query .mode ≡ 1 → ⊥ = eqb-false (b .query .mode) 1 m in
-      let two : b .query .mode ≡ 2 = omega (arith, leb-true 1 (b .query .mode) (range .0), leb-true (b .query .mode) 2 (range .1)) in
-      rw (eq-eqb (b .query .mode) 2 two) at (ok .query-in .crews)
+  listed-within : b .query .mode ≡ 2 → within (b .query .crews) (b .sizes .crews) ≡ true
+  listed-within two = rw two at (ok .query-in .crews)
 
   member-bound : (p : Person) (c : Crew) → inSizes (b .sizes) (Member p c) ≡ true → c .0 < b .sizes .crews
   unfolding inSizes
@@ -235,19 +236,19 @@ module _ (b : Contents) (ok : Admitted b) where
         rw listed refl
 
     -- Where the query is met, no tracked fact that holds is forbidden.
-    pub met-clear : met b F ≡ true → (f : Fact) → tracked b f ≡ true → F f ≡ true → forbidden b f ≡ false
+    pub met-clear : between 1 2 (b .query .mode) ≡ true → met b F ≡ true → (f : Fact) → tracked b f ≡ true → F f ≡ true → forbidden b f ≡ false
     unfolding forbidden
-    met-clear e f t h =
-        met-by-mode b F e
+    met-clear range e f t h =
+        met-by-mode b range F e
         (λ m i. rw m refl)
         (λ m i. rw m (exactly-clear i f t h))
 
     -- -------------------------------------------------------------- the goal without forbidden facts is the query
 
-    module _ (mode : eqb (b .query .mode) 1 ≡ false) (clear : (f : Fact) → tracked b f ≡ true → F f ≡ true → forbidden b f ≡ false) where
+    module _ (two : b .query .mode ≡ 2) (clear : (f : Fact) → tracked b f ≡ true → F f ≡ true → forbidden b f ≡ false) where
       free : (f : Fact) → tracked b f ≡ true → F f ≡ true → forbids b f ≡ false
       unfolding forbidden
-      free f t h = rw mode at (clear f t h)
+      free f t h = sym (ap (λ (m : ℕ). not (eqb m 1) && forbids b f) two) ∙ clear f t h
 
       listed-of : (c : ℕ) → F (Member (b .query .person) (record { 0 = c })) ≡ true → member (b .query .crews) c ≡ true
       unfolding forbids
@@ -258,7 +259,7 @@ module _ (b : Contents) (ok : Admitted b) where
       crews-exact : subset (b .query .crews) (directCrews b F) ≡ true → directCrews b F ≡ b .query .crews
       crews-exact sub =
           direct-crews-below b F
-          ∙ same-set (λ c. F (Member (b .query .person) (record { 0 = c }))) (b .sizes .crews) (b .query .crews) (ok .sized .crews-most) (listed-within mode)
+          ∙ same-set (λ c. F (Member (b .query .person) (record { 0 = c }))) (b .sizes .crews) (b .query .crews) (ok .sized .crews-most) (listed-within two)
           (λ c l h. listed-of c h) (rw (direct-crews-below b F) at sub)
 
       -- An effective value is not banned.
@@ -311,12 +312,15 @@ module _ (b : Contents) (ok : Admitted b) where
           exactly-from b F (crews-exact (both .0)) (values-exact (both .1))
 
     -- Where no tracked fact that holds is forbidden and the goal is reached, the query is met.
-    pub goal-met : ((f : Fact) → tracked b f ≡ true → F f ≡ true → forbidden b f ≡ false) → goal b F ≡ true → met b F ≡ true
+    pub goal-met : between 1 2 (b .query .mode) ≡ true → ((f : Fact) → tracked b f ≡ true → F f ≡ true → forbidden b f ≡ false) → goal b F ≡ true
+        → met b F ≡ true
     unfolding goal
-    goal-met clear e =
+    goal-met range clear e =
         by-mode (eqb (b .query .mode) 1) (metAtLeast b F) (subset (b .query .crews) (directCrews b F) && metAtLeast b F) e
         (λ m i. met-at-least b F m ∙ i)
-        (λ m i. met-exactly b F m ∙ goal-exactly m clear i)
+        (λ m i.
+        let two = second (b .query .mode) range m in
+        met-exactly b F two ∙ goal-exactly two clear i)
 
 -- ---------------------------------------------------------------- what the query reads
 

@@ -1,10 +1,9 @@
 // Replay: what a list of requests does from a book's starting facts, and whether it reaches the query.
 ghost use mathlib.Core.Path.{_≡_};
-ghost use mathlib.Core.Bool.{cond, not, _&&_, _||_};
+ghost use mathlib.Core.Bool.{cond, _&&_, _||_};
 ghost use Prim.Native.Nat.{_+_, _*_, _/_, _≤_};
 ghost use lib.Dec.{eqb, ltb};
 ghost use lib.ListN.{length};
-ghost use Rattle.sets.specs.Sets.{subset};
 ghost use Rattle.facts.specs.Facts.{holds};
 ghost use Rattle.frames.specs.Book.{listed, contentsOf};
 ghost use Rattle.frames.specs.Inner.Fits.{Short, Admitted};
@@ -12,11 +11,15 @@ ghost use Rattle.quantifiers.specs.Inner.Lists.{Each};
 ghost use Rattle.requests.specs.Requests.{requestOf};
 ghost use Rattle.quantifiers.specs.Quantifiers.{all};
 ghost use Rattle.ledger.specs.Ledger.{after};
-ghost use Rattle.ledger.specs.Show.{setBelow};
+ghost use Rattle.ledger.specs.Show.{setBelow, valueSet};
+ghost use Rattle.sizes.specs.Sizes.{valuesOf};
+ghost use Rattle.sizes.specs.Inner.Ranges.{InRange};
 ghost use Rattle.replay.specs.Chains.{goes, run, fives};
 ghost use Rattle.replay.specs.Inner.Lent.{standing, fiveAt, due, ranTo, runFor};
-ghost use Rattle.replay.specs.Met.{wants, effectiveSet, met};
+ghost use Rattle.replay.specs.Inner.Direct.{directFact, heldSet, wanted};
+ghost use Rattle.replay.specs.Met.{wants, met};
 ghost use Rattle.replay.specs.Replay.{refusalNumber, refusalLine, said, replayIn, replayed};
+use facts::Attr;
 use facts::Crew;
 use facts::Fact;
 use facts::Person;
@@ -43,6 +46,12 @@ pub enum Refusal {
 pub enum Replayed {
     Judged(Judgement),
     Refused(Refusal),
+}
+
+// A row of a person's direct facts: the crews, or the values of an attribute.
+enum Direct {
+    Crews,
+    Values(Attr),
 }
 
 // How far the requests went: to the end, or up to the one that stopped them.
@@ -200,24 +209,47 @@ fn run_in(b: Book, ledger: &mut [u8], plan: &[u8]) -> Course
     Course::Stopped(k)
 }
 
-// The set of the crews below n that the person is directly in.
-fn direct_crews(ledger: &[u8], p: Person, n: u8) -> u32
+// A fact of a person's row: membership in crew i, or value i of an attribute.
+fn direct_fact(of: Direct, p: Person, i: u8) -> Fact
+    ensures { λ r. ⌜ r ≡ directFact of p i ⌝ }
+{
+    match of {
+        Direct::Crews => Fact::Member(p, Crew(i)),
+        Direct::Values(a) => Fact::Holds(p, a, i),
+    }
+}
+
+// The set of the crews below n that the person is directly in, or of the values below n that it directly holds.
+fn direct_set(ledger: &[u8], of: Direct, p: Person, n: u8) -> u32
     requires { ⌜ n ≤ 32 ⌝ }
-    ensures { λ r. ⌜ r ≡ setBelow (λ c. holds (now (ledger .entry)) (Fact.Member p (record { 0 = c }))) n ⌝ }
+    ensures { λ r. ⌜ r ≡ setBelow (λ i. holds (now (ledger .entry)) (directFact of p i)) n ⌝ }
 {
     let mut set: u32 = 0;
-    let mut c: u8 = 0;
-    while c < n {
-        let on = facts::fact_holds(ledger, Fact::Member(p, Crew(c)));
-        set = sets::with(set, c, on);
-        c += 1;
+    let mut i: u8 = 0;
+    while i < n {
+        let on = facts::fact_holds(ledger, direct_fact(of, p, i));
+        set = sets::with(set, i, on);
+        i += 1;
     }
     set
 }
 
-// Whether the values held of an attribute are exactly a named set, or at least it.
+// The values of an attribute that the person directly holds, or effectively.
+fn held_set(directly: bool, z: Sizes, ledger: &[u8], juniors: &[u32], p: Person, a: Attr) -> u32
+    requires { ⌜ InRange z × (length (now juniors) ≡ 32) ⌝ }
+    ensures { λ r. ⌜ r ≡ cond directly (setBelow (λ v. holds (now (ledger .entry)) (Fact.Holds p a v)) (valuesOf z (a .0)))
+        (valueSet z (now (juniors .entry)) (holds (now (ledger .entry))) p (a .0)) ⌝ }
+{
+    if directly {
+        let n = sizes::values_of(z, a.0);
+        return direct_set(ledger, Direct::Values(a), p, n);
+    }
+    ledger::value_set(z, ledger, juniors, p, a.0)
+}
+
+// Whether the values held of an attribute, or the crews, are exactly a set, or at least it.
 fn is_wanted(exactly: bool, set: u32, held: u32) -> bool
-    ensures { λ r. ⌜ r ≡ cond exactly (eqb held set) (subset set held) ⌝ }
+    ensures { λ r. ⌜ r ≡ wanted exactly set held ⌝ }
 {
     if exactly {
         return held == set;
@@ -225,11 +257,11 @@ fn is_wanted(exactly: bool, set: u32, held: u32) -> bool
     sets::is_subset(set, held)
 }
 
-// Whether the person holds each named set: exactly, or at least.
-fn has_wanted(b: Book, exactly: bool, ledger: &[u8]) -> bool
+// Whether the person holds each named set: exactly, or at least; directly, or effectively.
+fn has_wanted(b: Book, exactly: bool, directly: bool, ledger: &[u8]) -> bool
     requires { ⌜ Admitted (contentsOf b) ⌝ }
-    ensures { λ r. ⌜ r ≡ all (λ w. cond exactly (eqb (effectiveSet (contentsOf b) (holds (now (ledger .entry))) (w .attr .0)) (w .set))
-        (subset (w .set) (effectiveSet (contentsOf b) (holds (now (ledger .entry))) (w .attr .0)))) (wants (contentsOf b)) ⌝ }
+    ensures { λ r. ⌜ r ≡ all (λ w. wanted exactly (w .set) (heldSet directly (contentsOf b) (holds (now (ledger .entry))) (w .attr .0)))
+        (wants (contentsOf b)) ⌝ }
 {
     let z = b.sizes;
     let juniors = b.juniors;
@@ -238,7 +270,7 @@ fn has_wanted(b: Book, exactly: bool, ledger: &[u8]) -> bool
     let mut j: usize = 0;
     while j < n {
         let w = query.wants[j];
-        let held = ledger::value_set(z, ledger, &juniors, query.person, w.attr.0);
+        let held = held_set(directly, z, ledger, &juniors, query.person, w.attr);
         if !is_wanted(exactly, w.set, held) {
             return false;
         }
@@ -247,30 +279,32 @@ fn has_wanted(b: Book, exactly: bool, ledger: &[u8]) -> bool
     true
 }
 
-// Whether the person is directly in exactly the listed crews, where the query asks it.
-fn is_listed(exactly: bool, query: Query, crews: u8, ledger: &[u8]) -> bool
+// Whether the person is directly in exactly, or at least, the listed crews, where the query lists them.
+fn is_listed(mode: u8, query: Query, crews: u8, ledger: &[u8]) -> bool
     requires { ⌜ crews ≤ 32 ⌝ }
-    ensures { λ r. ⌜ r ≡ not exactly || eqb (setBelow (λ c. holds (now (ledger .entry)) (Fact.Member (query .person) (record { 0 = c }))) crews)
-        (query .crews) ⌝ }
+    ensures { λ r. ⌜ r ≡ eqb mode 1 || wanted (eqb mode 2) (query .crews)
+        (setBelow (λ c. holds (now (ledger .entry)) (Fact.Member (query .person) (record { 0 = c }))) crews) ⌝ }
 {
-    if !exactly {
+    if mode == 1 {
         return true;
     }
-    direct_crews(ledger, query.person, crews) == query.crews
+    let held = direct_set(ledger, Direct::Crews, query.person, crews);
+    is_wanted(mode == 2, query.crews, held)
 }
 
-// Whether the query is met, by its mode.
+// Whether the query is met, by its mode: 01 at least, 02 exactly, 03 at least and directly.
 pub fn is_met(b: Book, ledger: &[u8]) -> bool
     requires { ⌜ Admitted (contentsOf b) ⌝ }
     ensures { λ r. ⌜ r ≡ met (contentsOf b) (holds (now (ledger .entry))) ⌝ }
 {
     let query = b.query;
     let z = b.sizes;
-    let exactly = query.mode != 1;
-    if !is_listed(exactly, query, z.crews, ledger) {
+    let mode = query.mode;
+    if !is_listed(mode, query, z.crews, ledger) {
         return false;
     }
-    has_wanted(b, exactly, ledger)
+    let directly = (mode != 1) & (mode != 2);
+    has_wanted(b, mode == 2, directly, ledger)
 }
 
 fn replay_in(b: Book, plan: &[u8]) -> Replayed

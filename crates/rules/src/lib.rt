@@ -154,6 +154,12 @@ pub fn term_holds(ledger: &[u8], juniors: &[u32], s: Subject, t: Term) -> bool
     if kind == 5 {
         return holds_at_least(ledger, juniors, s, Attr(a), v);
     }
+    if kind == 0x81 {
+        return !holds_directly(ledger, s, Attr(a), v);
+    }
+    if kind == 0x83 {
+        return !is_directly_in(ledger, s, Crew(a));
+    }
     false
 }
 

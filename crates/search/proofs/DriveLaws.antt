@@ -18,7 +18,6 @@ use Rattle.quantifiers.proofs.BelowLaws.{any-same, any-cases}
 use Rattle.quantifiers.proofs.BoolLaws.{and-both, not-on}
 use Rattle.frames.specs.declared.Rules.{Rules}
 use Rattle.frames.specs.Book.{Contents, listed}
-use Rattle.frames.specs.Inner.Fits.{Admitted}
 use Rattle.quantifiers.proofs.ListLaws.{map-append}
 use Rattle.theory.specs.Inner.Facts.{State, _⊆_, minus, Clear}
 use Rattle.theory.specs.Inner.Plan.{Ask, Req, Runs, end, addThenDelete, Brings, AddClosed, Best}
@@ -38,6 +37,7 @@ use Rattle.level.proofs.TermLaws.{visible-effective}
 use Rattle.level.proofs.NoteLaws.{asks-same}
 use Rattle.level.proofs.LevelLaws.{on-level-in, on-level-out, stuck-none}
 use Rattle.level.proofs.UptoLaws.{upto-first, upto-next, upto-ends, upto-best}
+use Rattle.reach.specs.Inner.Leveled.{Leveled}
 use Rattle.reach.specs.Inner.Tracked.{personLevel, tracked, numberOf, lift, track, isNumber, bytesOf, May}
 use Rattle.reach.specs.Inner.Goal.{bad}
 use Rattle.reach.proofs.TrackLaws.{tracked-crew, level-low}
@@ -78,9 +78,9 @@ closed-ends {adds} dels {p} {T} {bads} {x = x} {us = us} free added closed =
 
 -- ---------------------------------------------------------------- numbers that are no crew's
 
-module _ (b : Contents) (ok : Admitted b) where
+module _ (b : Contents) (ok : Leveled b) where
   no-juniors : (c j : ℕ) → b .sizes .crews ≤ c → isJunior (b .juniors) c j ≡ false
-  no-juniors c j far = not-on (isJunior (b .juniors) c j) (λ e. omega (arith, ok .edges c j (sym (junior-member (b .juniors) c j) ∙ e) .1))
+  no-juniors c j far = not-on (isJunior (b .juniors) c j) (λ e. omega (arith, ok .book .edges c j (sym (junior-member (b .juniors) c j) ∙ e) .1))
 
   crew-none : (S : State) (a : Attr) (v c : ℕ) → b .sizes .crews ≤ c → crewHolds (b .juniors) (lift b S) a v c ≡ false
   unfolding lift
@@ -124,7 +124,7 @@ module _ (b : Contents) (ok : Admitted b) where
         R = allFacts;
         us = [];
         ds = [];
-        upto = upto-first (depot-lawful b) (depot-local b) (λ g. refl) (bad b) (starts b)
+        upto = upto-first (depot-lawful b (ok .plain)) (depot-local b) (λ g. refl) (bad b) (starts b)
             (bounds-first (depot b) (bad b) (starts b) allFacts within-all permitted-all) within-all;
         full = λ g low high. le-leb (g / 160) (personLevel b) high;
         none = λ g high. lt-leb (g / 160) (personLevel b) high;
@@ -169,7 +169,7 @@ module _ (b : Contents) (ok : Admitted b) where
         own = λ f h. made .last f (omega arith)
             ∙ any-same (λ j. isJunior (b .juniors) k j && getD rows (160 * j + f) false)
             (λ j. isJunior (b .juniors) k j && crewHolds (b .juniors) (lift b R) (record { 0 = f / 16 }) (f % 16) j) k
-            (λ j l. ap (λ (x : Bool). isJunior (b .juniors) k j && x) (right .values j f (omega (arith, ok .sized .crews-most)) (λ i. l) h));
+            (λ j l. ap (λ (x : Bool). isJunior (b .juniors) k j && x) (right .values j f (omega (arith, ok .book .sized .crews-most)) (λ i. l) h));
       }
 
   -- The table of the query's person out of all rows.
@@ -223,7 +223,7 @@ module _ (b : Contents) (ok : Admitted b) where
           ∙ ap (λ (y : Bool). eqb k d || y)
           (any-same (λ j. isJunior (b .juniors) k j && downward (b .juniors) (λ y. eqb y d) j)
           (λ j. isJunior (b .juniors) k j && getD rows (160 * j + (128 + d)) false) k
-          (λ j m. ap (λ (y : Bool). isJunior (b .juniors) k j && y) (sym (right .crews j d (omega (arith, ok .sized .crews-most)) (λ i. m) h)))))))
+          (λ j m. ap (λ (y : Bool). isJunior (b .juniors) k j && y) (sym (right .crews j d (omega (arith, ok .book .sized .crews-most)) (λ i. m) h)))))))
           (λ (other : c ≡ k → ⊥).
           stays c (128 + d) other (omega arith)
           ∙ right .crews c d l (λ i. omega (arith, low i)) h)
@@ -273,7 +273,7 @@ module _ (b : Contents) (ok : Admitted b) where
       drive-stuck stuck =
           let f = stuck .fact in
           let h : f < 160 = direct-in s f (stuck .held) in
-          stuck-none w (depot-lawful b) (bad b) (direct bads) same-bad (starts b) (direct s) (λ g e. same-s (g % 160) (omega arith) ∙ e)
+          stuck-none w (depot-lawful b (ok .plain)) (bad b) (direct bads) same-bad (starts b) (direct s) (λ g e. same-s (g % 160) (omega arith) ∙ e)
           (λ g e i. drive .upto .starts g i)
           f h (sym (same-s f h) ∙ stuck .held) (stuck .missing) (stuck .rounds) (rw whole-u (drive .upto .bounds))
 
@@ -282,7 +282,7 @@ module _ (b : Contents) (ok : Admitted b) where
         next-upto : Upto (depot b) levelOf (bad b) (starts b) (suc k) (onLevel k (drive .R) (direct x))
             (drive .us ++ map (toWhole k) vs) (map (toWhole k) es ++ drive .ds)
         next-upto =
-            upto-next (depot-lawful b) (depot-local b) (λ g. refl) (bad b) (starts b) (drive .upto) (world T adds dels p) w
+            upto-next (depot-lawful b (ok .plain)) (depot-local b) (λ g. refl) (bad b) (starts b) (drive .upto) (world T adds dels p) w
             (direct s) (direct u) (direct x) vs es (direct bads)
             same-bad same-s same-u (ends .rounds) (ends .additions) (ends .deletions) (ends .grown)
 
@@ -291,11 +291,11 @@ module _ (b : Contents) (ok : Admitted b) where
 
         -- After the last level there is the best plan; it ends with what is settled, but for the forbidden facts.
         pub drive-best : k ≡ personLevel b → Best (depot b) (bad b) (starts b) (drive .us ++ map (toWhole k) vs) (map (toWhole k) es ++ drive .ds)
-        drive-best is = upto-best (depot-lawful b) (depot-local b) (λ g. refl) (bad b) (starts b) {n = suc k} (none-behind is) next-upto
+        drive-best is = upto-best (depot-lawful b (ok .plain)) (depot-local b) (λ g. refl) (bad b) (starts b) {n = suc k} (none-behind is) next-upto
 
         pub drive-ends : k ≡ personLevel b → end (starts b) (addThenDelete (drive .us ++ map (toWhole k) vs) (map (toWhole k) es ++ drive .ds))
             ≡ minus (onLevel k (drive .R) (direct x)) (bad b)
-        drive-ends is = upto-ends (depot-lawful b) (depot-local b) (λ g. refl) (bad b) (starts b) {n = suc k} (none-behind is) next-upto
+        drive-ends is = upto-ends (depot-lawful b (ok .plain)) (depot-local b) (λ g. refl) (bad b) (starts b) {n = suc k} (none-behind is) next-upto
 
       -- The level settled in the buffers of the levels below it, behind their requests.
       module _ {x : List Bool} {up down : List ℕ} {n at′ : ℕ} (settled : Settled adds dels p T bads s u x ups up₀ up n at down₀ down at′) where

@@ -1,6 +1,5 @@
 pub mod Tables
 pub mod TermBridge
-pub mod RuleParts
 pub mod WithinLaws
 pub mod SubjectLaws
 pub mod DriveLaws

@@ -8,8 +8,8 @@ use lib.ListN.{length}
 use Rattle.frames.specs.declared.Query.{Query}
 use Rattle.frames.specs.declared.Book.{Book}
 use Rattle.frames.specs.Book.{contentsOf}
-use Rattle.frames.specs.Inner.Fits.{Admitted}
 use Rattle.level.specs.Inner.Moves.{movesIn}
+use Rattle.reach.specs.Inner.Leveled.{Leveled}
 use Rattle.flags.specs.Inner.Flags as flags
 use Rattle.flags.proofs.FlagLaws.{small-wants, start-flags}
 use Rattle.flags.proofs.BadLaws.{bad-all, below-same}
@@ -22,15 +22,15 @@ use Rattle.search.proofs.StepLaws.{crew-scanned, serves-first, starts-b
 module _ {q : Query} {crews : ℕ} {facts juniors adds dels : List ℕ} (g : CrewParts q crews facts juniors adds dels) where
   pub crews-few : crews ≤ 32
   unfolding contentsOf
-  crews-few = omega (arith, g .same-crews, g .accepted .sized .crews-most)
+  crews-few = omega (arith, g .same-crews, g .accepted .book .sized .crews-most)
 
   pub juniors-room : length juniors ≡ 32
   unfolding contentsOf
-  juniors-room = ap length (g .same-juniors) ∙ g .accepted .edge-room
+  juniors-room = ap length (g .same-juniors) ∙ g .accepted .book .edge-room
 
   pub wants-small : flags.SmallWants q
   unfolding contentsOf
-  wants-small = subst flags.SmallWants (sym (g .same-query)) (small-wants (g .accepted))
+  wants-small = subst flags.SmallWants (sym (g .same-query)) (small-wants (g .accepted .book))
 
   -- What is settled, for the query's own person.
   pub own-drive : {k : ℕ} {rows : List Bool} {ups : ℕ} {up : List ℕ} {at : ℕ} {down : List ℕ}
@@ -38,7 +38,7 @@ module _ {q : Query} {crews : ℕ} {facts juniors adds dels : List ℕ} (g : Cre
   own-drive s = serves-own (g .accepted) (s .each g)
 
 -- The parts of a book, and what is said of all books that have them, of that one.
-module _ (bk : Book) (ok : Admitted (contentsOf bk)) {adds dels : List ℕ}
+module _ (bk : Book) (ok : Leveled (contentsOf bk)) {adds dels : List ℕ}
     (moves : SideMoves (bk .rules) (bk .query .roles) 3 3 4 4 (movesIn adds) (movesIn dels)) where
   pub parts-of : CrewParts (bk .query) (bk .sizes .crews) (bk .facts) (bk .juniors) adds dels
   parts-of =
@@ -77,8 +77,8 @@ module _ {q : Query} {crews : ℕ} {facts juniors adds dels : List ℕ} (k : ℕ
       (g .same-query) settled)) in
       let reaches = subst (λ (js : List ℕ). flags.Reaching js reach) (g .same-juniors) reaching in
       let is-below = told ∙ ap (λ (t : Query). flags.listedReach (t .crews) reach k) (g .same-query)
-      ∙ below-same (contentsOf (g .book)) reach k (omega (arith, low, g .accepted .sized .crews-most)) reaches in
-      let bads = bad-all (contentsOf (g .book)) (small-wants (g .accepted)) k below (omega (arith, low)) (λ h. is-below) (own .size) (own .forbidden) in
+      ∙ below-same (contentsOf (g .book)) reach k (omega (arith, low, g .accepted .book .sized .crews-most)) reaches in
+      let bads = bad-all (contentsOf (g .book)) (small-wants (g .accepted .book)) k below (omega (arith, low)) (λ h. is-below) (own .size) (own .forbidden) in
       let begun = starts-built (start-flags (contentsOf (g .book)) refl (omega (arith, low)) (own .started)) (own .built) in
       crew-scanned (g .book) (g .accepted) k low (g .moves) (serves .each g) blank (table-same (g .same-juniors) made) bads begun (own .allowed)
       (own .result) (row-same (g .same-juniors) filled) size-up size-down

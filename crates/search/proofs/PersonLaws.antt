@@ -10,6 +10,7 @@ use Rattle.sizes.specs.Sizes.{isPerson}
 use Rattle.frames.specs.Book.{Contents, withQuery}
 use Rattle.frames.specs.Inner.Fits.{wantOf, Admitted}
 use Rattle.replay.specs.Met.{wants}
+use Rattle.reach.specs.Inner.Leveled.{Leveled}
 use Rattle.reach.specs.Inner.Tracked.{factAt, isNumber, track}
 use Rattle.reach.specs.Inner.Goal.{banned, belowListed, forbids, forbidden, bad}
 use Rattle.flags.specs.Inner.Flags as flags
@@ -44,13 +45,19 @@ to-admitted b p ok is =
         wants = ok .query-in .wants;
         crews = ok .query-in .crews;
       };
+      within-not = ok .within-not;
+      right-mode = ok .right-mode;
     }
 
+pub to-leveled : (b : Contents) (p : ℕ) → Leveled b → isPerson (b .sizes) p ≡ true → Leveled (toPerson b p)
+unfolding toPerson withQuery
+to-leveled b p ok is = record { book = to-admitted b p (ok .book) is; plain = ok .plain; mode = ok .mode }
+
 -- What serves every person serves the query's own.
-pub serves-own : {b : Contents} → Admitted b → {k : ℕ} {rows : List Bool} {ups : ℕ} {up : List ℕ} {at : ℕ} {down : List ℕ}
+pub serves-own : {b : Contents} → Leveled b → {k : ℕ} {rows : List Bool} {ups : ℕ} {up : List ℕ} {at : ℕ} {down : List ℕ}
     → Serves b k rows ups up at down → Driving b k rows ups up at down
 serves-own {b} ok {k} {rows} {ups} {up} {at} {down} s =
-    subst (λ (t : Contents). Driving t k rows ups up at down) (to-self b) (s .each (b .query .person .0) (ok .query-in .person))
+    subst (λ (t : Contents). Driving t k rows ups up at down) (to-self b) (s .each (b .query .person .0) (ok .book .query-in .person))
 
 module _ (b : Contents) (p k : ℕ) (is-crew : k < b .sizes .crews) where
   here : (f : ℕ) → f < 160 → (160 * k + f) / 160 ≡ k

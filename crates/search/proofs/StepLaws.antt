@@ -17,7 +17,6 @@ use Rattle.quantifiers.proofs.BelowLaws.{any-same}
 use Rattle.frames.specs.declared.Rules.{Rules}
 use Rattle.frames.specs.declared.Book.{Book}
 use Rattle.frames.specs.Book.{Contents, withQuery, contentsOf, listed}
-use Rattle.frames.specs.Inner.Fits.{Admitted}
 use Rattle.theory.specs.Inner.Facts.{State, _⊆_, minus}
 use Rattle.theory.specs.Inner.Plan.{Ask, end, addThenDelete, Best}
 use Rattle.level.specs.Inner.Moves.{Moves, movesIn}
@@ -31,6 +30,7 @@ use Rattle.level.specs.Inner.Settle.{Result}
 use Rattle.shown.proofs.ShownLaws.{direct-low, direct-in}
 use Rattle.level.proofs.ChosenLaws.{moves-sound}
 use Rattle.level.proofs.TermLaws.{visible-effective}
+use Rattle.reach.specs.Inner.Leveled.{Leveled}
 use Rattle.reach.specs.Inner.Tracked.{personLevel, lift}
 use Rattle.reach.specs.Inner.Goal.{bad}
 use Rattle.reach.specs.Inner.Depot.{depot}
@@ -41,7 +41,7 @@ use Rattle.search.proofs.Tables.{CrewTableRight, PersonTableRight}
 use Rattle.search.proofs.TermBridge.{person-effective}
 use Rattle.search.proofs.WithinLaws.{within, all-good}
 use Rattle.search.proofs.SubjectLaws.{crew-level, crew-terms, crew-adds, crew-dels, person-level, person-terms, person-adds, person-dels}
-use Rattle.search.proofs.PersonLaws.{to-admitted, start-for, bad-for}
+use Rattle.search.proofs.PersonLaws.{to-leveled, start-for, bad-for}
 use Rattle.search.proofs.DriveLaws.{Handed, drive-first, crew-table, person-table, rows-next, drive-stuck, drive-next}
 use Rattle.search.proofs.DriveLaws.{LevelEnds, settled-ends, drive-best, drive-ends, up-next, down-next}
 
@@ -81,9 +81,9 @@ pub row-same : {js js′ : List ℕ} {k : ℕ} {x rows rows′ : List Bool} → 
 row-same {k = k} {x} {rows} {rows′} e filled = subst (λ (js : List ℕ). flags.FilledRow js k x rows rows′) e filled
 
 -- The rules of an accepted book are in order, and so are the moves chosen from them.
-pub book-good : (bk : Book) → Admitted (contentsOf bk) → length (bk .rules .rules) ≡ 512 → GoodRules (bk .rules)
+pub book-good : (bk : Book) → Leveled (contentsOf bk) → length (bk .rules .rules) ≡ 512 → GoodRules (bk .rules)
 unfolding contentsOf
-book-good bk ok room = all-good (contentsOf bk) ok (bk .rules) refl (ok .rules-few) room
+book-good bk ok room = all-good (contentsOf bk) ok (bk .rules) refl (ok .book .rules-few) room
 
 pub side-moves : {rs : Rules} {roles : ℕ} → GoodRules rs → length (rs .rules) ≡ 512 → {adds dels : List ℕ} {add₁ add₂ del₁ del₂ : ℕ}
     → MovesOf rs add₁ add₂ roles (movesIn adds) (rs .count) → MovesOf rs del₁ del₂ roles (movesIn dels) (rs .count)
@@ -104,7 +104,7 @@ pub record Stepped (b : Contents) (k : ℕ) (rows : List Bool) (up down : List �
   pub settled : found ≡ true → Driving b k rows ups up at down
   pub stuck : found ≡ false → NoRun b
 
-module _ (b : Contents) (ok : Admitted b) (rs : Rules) (same-rules : b .rules ≡ listed rs) (few : rs .count ≤ 512) where
+module _ (b : Contents) (ok : Leveled b) (rs : Rules) (same-rules : b .rules ≡ listed rs) (few : rs .count ≤ 512) where
   -- ---------------------------------------------------------------- a crew's level
 
   module _ (k : ℕ) (is-crew : k < b .sizes .crews) {adds dels : Moves} (mv : SideMoves rs (b .query .roles) 3 3 4 4 adds dels)
@@ -144,13 +144,13 @@ module _ (b : Contents) (ok : Admitted b) (rs : Rules) (same-rules : b .rules �
         }
 
 -- Before the first level nothing is settled, whoever the person is.
-pub serves-first : {b : Contents} → Admitted b → {rows : List Bool} {up down : List ℕ} → flags.FirstRows rows → length up ≡ 26400 → length down ≡ 26400
+pub serves-first : {b : Contents} → Leveled b → {rows : List Bool} {up down : List ℕ} → flags.FirstRows rows → length up ≡ 26400 → length down ≡ 26400
     → Serves b 0 rows 0 up 5280 down
 serves-first {b} ok {rows} {up} {down} first size-up size-down =
-    record { each = λ p is. drive-first (toPerson b p) (to-admitted b p ok is) rows up down first size-up size-down }
+    record { each = λ p is. drive-first (toPerson b p) (to-leveled b p ok is) rows up down first size-up size-down }
 
 -- Made once with the book's own query, a crew's level serves every person's: table, flags and row are the same for all.
-module _ (bk : Book) (ok : Admitted (contentsOf bk)) (k : ℕ) (is-crew : k < bk .sizes .crews) {adds dels : Moves}
+module _ (bk : Book) (ok : Leveled (contentsOf bk)) (k : ℕ) (is-crew : k < bk .sizes .crews) {adds dels : Moves}
     (mv : SideMoves (bk .rules) (bk .query .roles) 3 3 4 4 adds dels)
     {rows before table bads s u : List Bool} {ups : ℕ} {up₀ : List ℕ} {at : ℕ} {down₀ : List ℕ}
     (serves : Serves (contentsOf bk) k rows ups up₀ at down₀) (blank : BlankTable before) (made : flags.CrewTable (bk .juniors) k rows before table)
@@ -160,13 +160,13 @@ module _ (bk : Book) (ok : Admitted (contentsOf bk)) (k : ℕ) (is-crew : k < bk
   for-each : (p : ℕ) → isPerson (contentsOf bk .sizes) p ≡ true → Stepped (toPerson (contentsOf bk) p) (k + 1) rows′ up down found (ups + n) at′
   unfolding contentsOf toPerson withQuery
   for-each p is =
-      crew-stepped (toPerson (contentsOf bk) p) (to-admitted (contentsOf bk) p ok is) (bk .rules) refl (ok .rules-few) k is-crew mv
+      crew-stepped (toPerson (contentsOf bk) p) (to-leveled (contentsOf bk) p ok is) (bk .rules) refl (ok .book .rules-few) k is-crew mv
       (serves .each p is) blank made (bad-for (contentsOf bk) p k is-crew badf) (start-for (contentsOf bk) p k is-crew start) all result filled size-up size-down
 
   pub crew-scanned : Scanned (contentsOf bk) (k + 1) rows′ up down found (ups + n) at′
   crew-scanned = record { settled = λ e. record { each = λ p is. for-each p is .settled e }; stuck = λ e p is. for-each p is .stuck e }
 
-module _ (b : Contents) (ok : Admitted b) (rs : Rules) (same-rules : b .rules ≡ listed rs) (few : rs .count ≤ 512) where
+module _ (b : Contents) (ok : Leveled b) (rs : Rules) (same-rules : b .rules ≡ listed rs) (few : rs .count ≤ 512) where
   -- ---------------------------------------------------------------- the query's person's level
 
   module _ {adds dels : Moves} (mv : SideMoves rs (b .query .roles) 1 5 2 6 adds dels)
@@ -205,7 +205,7 @@ module _ (b : Contents) (ok : Admitted b) (rs : Rules) (same-rules : b .rules �
                 best = drive-best b ok rs same-rules few (mv .room) drive at-last person-inside person-handed (settled-ends done) refl;
                 bytes-up = up-next b ok rs same-rules few (mv .room) drive at-last person-inside person-handed done;
                 bytes-down = down-next b ok rs same-rules few (mv .room) drive at-last person-inside person-handed done;
-                few-up = omega (arith, drive .few-up, done .few-up, ok .sized .crews-most);
+                few-up = omega (arith, drive .few-up, done .few-up, ok .book .sized .crews-most);
                 most-down = omega (arith, drive .most-down, done .down-to);
                 size-up = size-up;
                 size-down = size-down;
@@ -238,14 +238,14 @@ module _ (b : Contents) (ok : Admitted b) (rs : Rules) (same-rules : b .rules �
         same-end = fun-ext λ g. ap (λ (t : Bool). onLevel (b .sizes .crews) (drive .R) (direct x) g && not t) (free g) ∙ and-true _
 
 -- Where nothing is forbidden for person 0 no crew is stuck: the empty chain ends clear.
-pub free-serves : {b : Contents} → Admitted b → ((g : ℕ) → bad (toPerson b 0) g ≡ false)
+pub free-serves : {b : Contents} → Leveled b → ((g : ℕ) → bad (toPerson b 0) g ≡ false)
     → {k : ℕ} {rows : List Bool} {up down : List ℕ} {found : Bool} {ups at : ℕ}
     → Scanned b k rows up down found ups at → Serves b k rows ups up at down
 free-serves {b} ok free {k} {rows} {up} {down} {found} {ups} {at} s = by-found found refl
   where
     by-found : (t : Bool) → found ≡ t → Serves b k rows ups up at down
     by-found true e = s .settled e
-    by-found false e = absurd (s .stuck e 0 (lt-ltb 0 (b .sizes .persons) (omega (arith, ok .sized .persons-some))) .never [] tt (λ g held. free g))
+    by-found false e = absurd (s .stuck e 0 (lt-ltb 0 (b .sizes .persons) (omega (arith, ok .book .sized .persons-some))) .never [] tt (λ g held. free g))
 
 -- ---------------------------------------------------------------- which crews each crew reaches
 

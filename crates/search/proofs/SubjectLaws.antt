@@ -14,7 +14,8 @@ use Rattle.facts.specs.declared.Fact.the-variants.{Holds, CrewHolds, Member}
 use Rattle.frames.specs.declared.Rule.{Rule}
 use Rattle.frames.specs.declared.Rules.{Rules}
 use Rattle.frames.specs.Book.{Contents, listed, noTerm}
-use Rattle.frames.specs.Inner.Fits.{termOf, Admitted}
+use Rattle.frames.specs.Limits.{plain}
+use Rattle.frames.specs.Inner.Fits.{termOf}
 use Rattle.requests.specs.Requests.{aimed, fieldsGood}
 use Rattle.sizes.proofs.SizeLaws.{value-bounds}
 use Rattle.requests.proofs.RequestLaws.{aimed-value, aimed-crew, aimed-member, fields-on-person, fields-on-crew, fields-joins, fields-op}
@@ -25,10 +26,12 @@ use Rattle.theory.specs.Inner.Facts.{State}
 use Rattle.level.specs.Inner.Moves.{placeOf}
 use Rattle.level.specs.Inner.Terms.{termShown, GoodRule}
 use Rattle.level.proofs.Levels.{onLevel}
+use Rattle.level.proofs.TermLaws.{term-plain}
+use Rattle.reach.specs.Inner.Leveled.{Leveled}
 use Rattle.reach.specs.Inner.Tracked.{personLevel, tracked, numberOf, lift}
 use Rattle.reach.proofs.TrackLaws.{tracked-value, tracked-crew, tracked-member}
 use Rattle.search.proofs.Tables.{CrewTableRight, PersonTableRight}
-use Rattle.search.proofs.RuleParts.{Parts, crew-low, rule-value, rule-crew}
+use Rattle.level.proofs.RuleParts.{Parts, crew-low, rule-value, rule-crew}
 use Rattle.search.proofs.TermBridge.{crew-term, person-term}
 use Rattle.search.proofs.WithinLaws.{LevelIs, SideIs}
 
@@ -39,7 +42,7 @@ OnCrew op = (op ≡ 3) ⊎ (op ≡ 4)
 abbrev pub OnPerson : ℕ → Type 0
 OnPerson op = ((op ≡ 1) ⊎ (op ≡ 2)) ⊎ ((op ≡ 5) ⊎ (op ≡ 6))
 
-module _ (b : Contents) (ok : Admitted b) (rs : Rules) (same-rules : b .rules ≡ listed rs) (few : rs .count ≤ 512) (room : length (rs .rules) ≡ 512) where
+module _ (b : Contents) (ok : Leveled b) (rs : Rules) (same-rules : b .rules ≡ listed rs) (few : rs .count ≤ 512) (room : length (rs .rules) ≡ 512) where
   -- ---------------------------------------------------------------- the level of a fact
 
   number-value : (p : Person) (a v : ℕ) → tracked b (Holds p (record { 0 = a }) v) ≡ true → numberOf b (Holds p (record { 0 = a }) v) / 160 ≡ personLevel b
@@ -65,13 +68,13 @@ module _ (b : Contents) (ok : Admitted b) (rs : Rules) (same-rules : b .rules �
     crew-good r p h =
         let at = crew-op (r .op) h in
         fields-on-crew (b .sizes) (r .op) (r .role .0) k (r .a) (r .v) (omega (arith, at .0)) (at .1) (lt-ltb k (b .sizes .crews) is-crew)
-        (rule-value (b .sizes) (ok .sized) r p (at .1)) (p .role)
+        (rule-value (b .sizes) (ok .book .sized) r p (at .1)) (p .role)
 
     crew-tracks : (r : Rule) → Parts (b .sizes) r → OnCrew (r .op) → tracked b (aimed (r .op) k (r .a) (r .v)) ≡ true
     unfolding tracked
     crew-tracks r p h =
         let at = crew-op (r .op) h in
-        let low = value-bounds (b .sizes) (r .a) (r .v) (ok .sized) (rule-value (b .sizes) (ok .sized) r p (at .1)) in
+        let low = value-bounds (b .sizes) (r .a) (r .v) (ok .book .sized) (rule-value (b .sizes) (ok .book .sized) r p (at .1)) in
         rw (aimed-crew (r .op) k (r .a) (r .v) (at .0) (at .1), lt-ltb k (b .sizes .crews) is-crew, lt-ltb (r .a) 8 (low .0), lt-ltb (r .v) 16 (low .1)) refl
 
     crew-number : (r : Rule) → Parts (b .sizes) r → OnCrew (r .op) → numberOf b (aimed (r .op) k (r .a) (r .v)) ≡ 160 * k + placeOf (r .op) (r .a) (r .v)
@@ -108,7 +111,7 @@ module _ (b : Contents) (ok : Admitted b) (rs : Rules) (same-rules : b .rules �
 
     pub crew-level : LevelIs b ok rs same-rules few room OnCrew k k (Group (record { 0 = k }))
     crew-level = record {
-      low = omega (arith, is-crew, ok .sized .crews-most);
+      low = omega (arith, is-crew, ok .book .sized .crews-most);
       good = crew-good;
       tracks = crew-tracks;
       number = crew-number;
@@ -117,12 +120,12 @@ module _ (b : Contents) (ok : Admitted b) (rs : Rules) (same-rules : b .rules �
     }
 
     -- The terms of a rule on crews, at the crew's level.
-    pub crew-terms : (T : List Bool) (R : State) → CrewTableRight b R k T → (S : State) (r : Rule) → Parts (b .sizes) r → GoodRule r → OnCrew (r .op)
-        → (j : ℕ) → j < r .n
+    pub crew-terms : (T : List Bool) (R : State) → CrewTableRight b R k T → (S : State) (r : Rule) → Parts (b .sizes) r → GoodRule r → plain r ≡ true
+        → OnCrew (r .op) → (j : ℕ) → j < r .n
         → termShown T S (getD (r .terms) j noTerm) ≡ termHolds (b .juniors) (lift b (onLevel k R S)) (Group (record { 0 = k })) (getD (r .terms) j noTerm)
     unfolding termOf
-    crew-terms T R table S r p good h j l =
-        crew-term b R S k T table is-crew (getD (r .terms) j noTerm) (good .terms j l) (p .own (crew-op (r .op) h .1) j l)
+    crew-terms T R table S r p good no-not h j l =
+        crew-term b R S k T table is-crew (getD (r .terms) j noTerm) (good .terms j l) (term-plain r good no-not j l) (p .own (crew-op (r .op) h .1) j l)
 
   pub crew-adds : SideIs b ok rs same-rules few room OnCrew 3 3 true
   crew-adds = record {
@@ -154,24 +157,24 @@ module _ (b : Contents) (ok : Admitted b) (rs : Rules) (same-rules : b .rules �
   person-good : (r : Rule) → Parts (b .sizes) r → OnPerson (r .op) → fieldsGood (b .sizes) (r .op) (r .role .0) person (r .a) (r .v) ≡ true
   unfolding person
   person-good r p h =
-      let is = ok .query-in .person in
+      let is = ok .book .query-in .person in
       by-op (r .op) h
       (λ at.
       fields-on-person (b .sizes) (r .op) (r .role .0) (b .query .person .0) (r .a) (r .v) (at .0) (at .1) is
-      (rule-value (b .sizes) (ok .sized) r p (omega (arith, at .1))) (p .role))
+      (rule-value (b .sizes) (ok .book .sized) r p (omega (arith, at .1))) (p .role))
       (λ at.
       fields-joins (b .sizes) (r .op) (r .role .0) (b .query .person .0) (r .a) (r .v) (at .0) (at .1) is
-      (rule-crew (b .sizes) (ok .sized) r p (at .0)) (p .role))
+      (rule-crew (b .sizes) (ok .book .sized) r p (at .0)) (p .role))
 
   person-tracks : (r : Rule) → Parts (b .sizes) r → OnPerson (r .op) → tracked b (aimed (r .op) person (r .a) (r .v)) ≡ true
   unfolding tracked person
   person-tracks r p h =
       by-op (r .op) h
       (λ at.
-      let low = value-bounds (b .sizes) (r .a) (r .v) (ok .sized) (rule-value (b .sizes) (ok .sized) r p (omega (arith, at .1))) in
+      let low = value-bounds (b .sizes) (r .a) (r .v) (ok .book .sized) (rule-value (b .sizes) (ok .book .sized) r p (omega (arith, at .1))) in
       rw (aimed-value (r .op) (b .query .person .0) (r .a) (r .v) (at .1), is-asked, lt-ltb (r .a) 8 (low .0), lt-ltb (r .v) 16 (low .1)) refl)
       (λ at.
-      let low = crew-low (b .sizes) (ok .sized) (r .a) (r .v) (rule-crew (b .sizes) (ok .sized) r p (at .0)) in
+      let low = crew-low (b .sizes) (ok .book .sized) (r .a) (r .v) (rule-crew (b .sizes) (ok .book .sized) r p (at .0)) in
       rw (aimed-member (r .op) (b .query .person .0) (r .a) (r .v) (at .0), is-asked, lt-ltb (r .a) 32 (low .0)) refl)
 
   person-number : (r : Rule) → Parts (b .sizes) r → OnPerson (r .op)
@@ -213,7 +216,7 @@ module _ (b : Contents) (ok : Admitted b) (rs : Rules) (same-rules : b .rules �
   pub person-level : LevelIs b ok rs same-rules few room OnPerson (personLevel b) (b .query .person .0) (User (b .query .person))
   unfolding person
   person-level = record {
-    low = ok .sized .crews-most;
+    low = ok .book .sized .crews-most;
     good = person-good;
     tracks = person-tracks;
     number = person-number;
@@ -222,11 +225,12 @@ module _ (b : Contents) (ok : Admitted b) (rs : Rules) (same-rules : b .rules �
   }
 
   pub person-terms : (T : List Bool) (R : State) → PersonTableRight b R T → (S : State) (r : Rule) → Parts (b .sizes) r → GoodRule r
-      → OnPerson (r .op) → (j : ℕ) → j < r .n
+      → plain r ≡ true → OnPerson (r .op) → (j : ℕ) → j < r .n
       → termShown T S (getD (r .terms) j noTerm)
       ≡ termHolds (b .juniors) (lift b (onLevel (personLevel b) R S)) (User (b .query .person)) (getD (r .terms) j noTerm)
   unfolding termOf
-  person-terms T R table S r p good h j l = person-term b R S T table (getD (r .terms) j noTerm) (good .terms j l) (p .kinds j l)
+  person-terms T R table S r p good no-not h j l =
+      person-term b R S T table (getD (r .terms) j noTerm) (good .terms j l) (term-plain r good no-not j l) (p .kinds j l)
 
   pub person-adds : SideIs b ok rs same-rules few room OnPerson 1 5 true
   person-adds = record {

@@ -1,10 +1,9 @@
 -- A level's terms are the ledger's at that level.
 use mathlib.Core.Path.{_≡_, refl, ap, sym, _∙_}
-use mathlib.Core.Logic.{_⊎_, inl, inr, ⊎-elim, dite}
+use mathlib.Core.Logic.{_⊎_, inl, inr, ⊎-elim}
 use mathlib.Core.Bool.{Bool, true, false, _&&_, _||_, and-false, or-false}
 use mathlib.Core.List.{List}
 use Prim.Native.Nat.{ℕ, _+_, _*_, _/_, _%_, _≤_, _<_}
-use native.Mathlib.Decide.{ℕ-discrete}
 use native.Mathlib.Omega.{arith}
 use lib.Dec.{eqb}
 use borrow.Author.Tests.{lt-ltb, eq-eqb}
@@ -17,6 +16,8 @@ use Rattle.inherit.proofs.InheritanceLaws.{downward-here, crew-holds-step, pers
 use Rattle.quantifiers.proofs.BelowLaws.{any-same, any-from, any-false, from-same}
 use Rattle.gate.specs.Gate.{asksValue, asksCrew}
 use Rattle.gate.proofs.TermKindLaws.{value-kinds, crew-kinds, crew-not-value}
+use Rattle.frames.specs.Limits.{isNot}
+use Rattle.frames.proofs.LimitLaws.{no-not-kind}
 use Rattle.frames.specs.Book.{Contents}
 use Rattle.frames.specs.declared.Term.{Term}
 use Rattle.rules.specs.declared.Subject.the-variants.{User, Group}
@@ -94,16 +95,16 @@ module _ (b : Contents) (R S : State) where
         (λ j. isJunior (b .juniors) k j && crewHolds (b .juniors) (lift b R) a v j) k
         (λ j l. ap (λ (x : Bool). isJunior (b .juniors) k j && x) (lower-holds k j a v (λ x h i. omega arith)))))))
 
-    -- A term that asks for a value, of a crew.
-    pub crew-term : (t : Term) → TermInRange t → asksValue (t .kind) ≡ true
+    -- A term that asks for a value, of a crew, and is no "not" term.
+    pub crew-term : (t : Term) → TermInRange t → isNot t ≡ false → asksValue (t .kind) ≡ true
         → termShown T S t ≡ termHolds (b .juniors) (lift b (onLevel k R S)) (Group (record { 0 = k })) t
     unfolding termShown
-    crew-term t good asks = by-kind (value-kinds (t .kind) asks)
+    crew-term t good no-not asks = by-kind (value-kinds (t .kind) asks)
       where
         small : (t .a < 8) × (t .v < 16)
         small = good .value asks
 
-        by-kind : (t .kind ≡ 1) ⊎ ((t .kind ≡ 2) ⊎ (t .kind ≡ 5))
+        by-kind : (t .kind ≡ 1) ⊎ ((t .kind ≡ 2) ⊎ ((t .kind ≡ 5) ⊎ (t .kind ≡ 129)))
             → termShown T S t ≡ termHolds (b .juniors) (lift b (onLevel k R S)) (Group (record { 0 = k })) t
         by-kind (inl is) =
             rw (term-crew-direct (b .juniors) held-by-crews t (record { 0 = k }) is, is)
@@ -111,7 +112,8 @@ module _ (b : Contents) (R S : State) where
         by-kind (inr (inl is)) =
             rw (term-crew-effective (b .juniors) held-by-crews t (record { 0 = k }) is, is)
             (crew-effective (record { 0 = t .a }) (t .v) (small .0) (small .1))
-        by-kind (inr (inr is)) =
+        by-kind (inr (inr (inr is))) = absurd (no-not-kind t no-not .0 is)
+        by-kind (inr (inr (inl is))) =
             rw (term-crew-at-least (b .juniors) held-by-crews t (record { 0 = k }) is, is)
             (from-same (λ w. effective T S (16 * t .a + w)) (λ w. crewHolds (b .juniors) held-by-crews (record { 0 = t .a }) w k) (t .v) 16
             (λ w l. crew-effective (record { 0 = t .a }) w (small .0) l))
@@ -160,13 +162,15 @@ module _ (b : Contents) (R S : State) where
             sym (any-from (λ d. in-by a d) 32 a
             (rw (person-member a s, e, downward-here (b .juniors) (λ y. eqb y a) a (eq-eqb a a refl)) refl) s)
 
-    -- Any term, of the query's person.
-    pub person-term : (t : Term) → TermInRange t → (asksValue (t .kind) ≡ true) ⊎ (asksCrew (t .kind) ≡ true)
+    -- Any term but a "not" term, of the query's person.
+    pub person-term : (t : Term) → TermInRange t → isNot t ≡ false → (asksValue (t .kind) ≡ true) ⊎ (asksCrew (t .kind) ≡ true)
         → termShown T S t ≡ termHolds (b .juniors) (lift b (onLevel (personLevel b) R S)) (User (b .query .person)) t
     unfolding termShown
-    person-term t good kinds = ⊎-elim (λ asks. of-value (good .value asks) (value-kinds (t .kind) asks)) of-crew kinds
+    person-term t good no-not kinds =
+        ⊎-elim (λ asks. of-value (good .value asks) (value-kinds (t .kind) asks))
+        (λ asks. of-crew (good .crew (crew-not-value (t .kind) asks)) (crew-kinds (t .kind) asks)) kinds
       where
-        of-value : (t .a < 8) × (t .v < 16) → (t .kind ≡ 1) ⊎ ((t .kind ≡ 2) ⊎ (t .kind ≡ 5))
+        of-value : (t .a < 8) × (t .v < 16) → (t .kind ≡ 1) ⊎ ((t .kind ≡ 2) ⊎ ((t .kind ≡ 5) ⊎ (t .kind ≡ 129)))
             → termShown T S t ≡ termHolds (b .juniors) (lift b (onLevel (personLevel b) R S)) (User (b .query .person)) t
         of-value small (inl is) =
             rw (term-person-direct (b .juniors) held t (b .query .person) is, is)
@@ -174,18 +178,14 @@ module _ (b : Contents) (R S : State) where
         of-value small (inr (inl is)) =
             rw (term-person-effective (b .juniors) held t (b .query .person) is, is)
             (person-effective (record { 0 = t .a }) (t .v) (small .0) (small .1))
-        of-value small (inr (inr is)) =
+        of-value small (inr (inr (inr is))) = absurd (no-not-kind t no-not .0 is)
+        of-value small (inr (inr (inl is))) =
             rw (term-person-at-least (b .juniors) held t (b .query .person) is, is)
             (from-same (λ w. effective T S (16 * t .a + w)) (personHolds (b .juniors) held (b .query .person) (record { 0 = t .a })) (t .v) 16
             (λ w l. person-effective (record { 0 = t .a }) w (small .0) l))
 
-        of-crew : asksCrew (t .kind) ≡ true
+        of-crew : t .a < 32 → (t .kind ≡ 3) ⊎ ((t .kind ≡ 4) ⊎ (t .kind ≡ 131))
             → termShown T S t ≡ termHolds (b .juniors) (lift b (onLevel (personLevel b) R S)) (User (b .query .person)) t
-        of-crew asks =
-            let small = good .crew (crew-not-value (t .kind) asks) in
-            let three-four = crew-kinds (t .kind) asks in
-            dite (ℕ-discrete (t .kind) 3)
-            (λ (is : t .kind ≡ 3). rw (term-in-direct (b .juniors) held t (b .query .person) is, is) (sym (person-member (t .a) small)))
-            (λ (no : t .kind ≡ 3 → ⊥).
-            let is : t .kind ≡ 4 = omega (arith, three-four) in
-            rw (term-in-effective (b .juniors) held t (b .query .person) is, is) (person-reaches (t .a) small))
+        of-crew small (inl is) = rw (term-in-direct (b .juniors) held t (b .query .person) is, is) (sym (person-member (t .a) small))
+        of-crew small (inr (inl is)) = rw (term-in-effective (b .juniors) held t (b .query .person) is, is) (person-reaches (t .a) small)
+        of-crew small (inr (inr is)) = absurd (no-not-kind t no-not .1 is)

@@ -11,8 +11,10 @@ use Rattle.sets.specs.Sets.{member}
 use Rattle.facts.specs.declared.Fact.{Fact}
 use Rattle.frames.specs.declared.Rule.{Rule}
 use Rattle.frames.specs.declared.Rules.{Rules}
+use Rattle.frames.specs.Limits.{plain}
 use Rattle.frames.specs.Book.{Contents, listed, noTerm, noRule}
-use Rattle.frames.specs.Inner.Fits.{ruleFits, Short, Admitted}
+use Rattle.frames.specs.Inner.Fits.{ruleFits, Short}
+use Rattle.frames.proofs.LimitLaws.{plain-each}
 use Rattle.quantifiers.specs.Inner.Lists.{Each}
 use Rattle.requests.specs.declared.Request.{Request}
 use Rattle.requests.specs.Requests.{adds, aimed, fieldsGood, wellFormed}
@@ -33,24 +35,25 @@ use Rattle.level.proofs.Levels.{onLevel, toWhole, toLevel, Within}
 use Rattle.level.proofs.TermLaws.{move-met}
 use Rattle.level.proofs.RuleLaws.{rules-good}
 use Rattle.level.proofs.ChosenLaws.{chosen-parts, chosen-from}
+use Rattle.reach.specs.Inner.Leveled.{Leveled}
 use Rattle.reach.specs.Inner.Tracked.{tracked, numberOf, lift, bytesOf, asked, May}
 use Rattle.reach.specs.Inner.Depot.{depot}
-use Rattle.search.proofs.RuleParts.{Parts, rule-parts, crew-low, rule-crew}
+use Rattle.level.proofs.RuleParts.{Parts, rule-parts, crew-low, rule-crew}
 
 -- A request with a move's fields is the move's.
 ask-same : (q : Ask) (m : Move) (p : ℕ) → m .fact ≡ q .fact % 160 → m .op ≡ q .op → m .role ≡ q .role → q .subject ≡ p → m .a ≡ q .a → m .v ≡ q .v
     → toLevel q ≡ askOf p m
 ask-same q m p f o r s a v = rw (f, o, r, s, a, v) refl
 
-module _ (b : Contents) (ok : Admitted b) (rs : Rules) (same-rules : b .rules ≡ listed rs) (few : rs .count ≤ 512) (room : length (rs .rules) ≡ 512) where
+module _ (b : Contents) (ok : Leveled b) (rs : Rules) (same-rules : b .rules ≡ listed rs) (few : rs .count ≤ 512) (room : length (rs .rules) ≡ 512) where
   rules-fit : Each (λ r. ruleFits (b .sizes) r ≡ true) (listed rs)
-  rules-fit = rw same-rules at (ok .rules-in)
+  rules-fit = rw same-rules at (ok .book .rules-in)
 
   rules-short : Each Short (listed rs)
-  rules-short = rw same-rules at (ok .rules-short)
+  rules-short = rw same-rules at (ok .book .rules-short)
 
   pub all-good : GoodRules rs
-  all-good = rules-good (b .sizes) (ok .sized) rs few room rules-fit rules-short
+  all-good = rules-good (b .sizes) (ok .book .sized) rs few room rules-fit rules-short
 
   fits-at : (j : ℕ) → j < rs .count → ruleFits (b .sizes) (ruleAt rs j) ≡ true
   unfolding listed ruleAt
@@ -63,6 +66,9 @@ module _ (b : Contents) (ok : Admitted b) (rs : Rules) (same-rules : b .rules �
   listed-length : length (b .rules) ≡ rs .count
   unfolding listed
   listed-length = rw same-rules (length-take-le (rs .count) (rs .rules) (omega arith))
+
+  plain-rule : (j : ℕ) → j < rs .count → plain (ruleAt rs j) ≡ true
+  plain-rule j l = rw (listed-at j l) at (plain-each (b .rules) noRule j (ok .plain) (rw listed-length l))
 
   -- What a level is: its number, its subject, and the ops that act on it.
   pub record LevelIs (Op : ℕ → Type 0) (k p : ℕ) (s : Subject) : Type 0 where
@@ -80,21 +86,21 @@ module _ (b : Contents) (ok : Admitted b) (rs : Rules) (same-rules : b .rules �
     pub from : (op : ℕ) → Op op → adds op ≡ on → (op ≡ one) ⊎ (op ≡ two)
 
   module _ (T : List Bool) (R : State) {Op : ℕ → Type 0} {k p : ℕ} {s : Subject} (level : LevelIs Op k p s)
-      (terms : (S : State) (r : Rule) → Parts (b .sizes) r → GoodRule r → Op (r .op) → (j : ℕ) → j < r .n
+      (terms : (S : State) (r : Rule) → Parts (b .sizes) r → GoodRule r → plain r ≡ true → Op (r .op) → (j : ℕ) → j < r .n
       → termShown T S (getD (r .terms) j noTerm) ≡ termHolds (b .juniors) (lift b (onLevel k R S)) s (getD (r .terms) j noTerm)) where
     -- The terms of a rule, at the level and in the ledger.
-    rule-same : (S : State) (r : Rule) → Parts (b .sizes) r → GoodRule r → Op (r .op)
+    rule-same : (S : State) (r : Rule) → Parts (b .sizes) r → GoodRule r → plain r ≡ true → Op (r .op)
         → ruleShown T S r ≡ all (termHolds (b .juniors) (lift b (onLevel k R S)) s) (take (r .n) (r .terms))
     unfolding ruleShown
-    rule-same S r parts good op =
+    rule-same S r parts good no-not op =
         all-same-at (termShown T S) (termHolds (b .juniors) (lift b (onLevel k R S)) s) noTerm (take (r .n) (r .terms))
         (λ j l.
         let n : length (take (r .n) (r .terms)) ≡ r .n = length-take-le (r .n) (r .terms) (omega (arith, good .few, good .size)) in
         let h : j < r .n = omega arith in
-        rw (getD-take (r .n) (r .terms) j noTerm h) (terms S r parts good op j h))
+        rw (getD-take (r .n) (r .terms) j noTerm h) (terms S r parts good no-not op j h))
 
     zero-value : (r : Rule) → Parts (b .sizes) r → 5 ≤ r .op → r .v ≡ 0
-    zero-value r parts five = crew-low (b .sizes) (ok .sized) (r .a) (r .v) (rule-crew (b .sizes) (ok .sized) r parts five) .1
+    zero-value r parts five = crew-low (b .sizes) (ok .book .sized) (r .a) (r .v) (rule-crew (b .sizes) (ok .book .sized) r parts five) .1
 
     -- A rule as the depot's request.
     wholeAsk : Rule → Ask
@@ -105,16 +111,16 @@ module _ (b : Contents) (ok : Admitted b) (rs : Rules) (same-rules : b .rules �
     unfolding wholeAsk
     rule-asked r = request-parts (bytesOf (wholeAsk r))
 
-    permits-rule : (S : State) (r : Rule) → Parts (b .sizes) r → GoodRule r → Op (r .op) → ruleShown T S r ≡ true
+    permits-rule : (S : State) (r : Rule) → Parts (b .sizes) r → GoodRule r → plain r ≡ true → Op (r .op) → ruleShown T S r ≡ true
         → PermittedBy (b .juniors) (lift b (onLevel k R S)) (asked (wholeAsk r)) r
-    permits-rule S r parts good op shows =
+    permits-rule S r parts good no-not op shows =
         rw (rule-asked r)
         (record {
           op = refl;
           role = refl;
           a = sym (a-of-aimed (r .op) p (r .a) (r .v));
           v = sym (v-of-aimed (r .op) p (r .a) (r .v) (zero-value r parts));
-          terms = rw (level .subject r op) (sym (rule-same S r parts good op) ∙ shows);
+          terms = rw (level .subject r op) (sym (rule-same S r parts good no-not op) ∙ shows);
         })
 
     may-rule : (S : State) (j : ℕ) (on : Bool) → j < rs .count → Op (ruleAt rs j .op) → adds (ruleAt rs j .op) ≡ on
@@ -133,7 +139,7 @@ module _ (b : Contents) (ok : Admitted b) (rs : Rules) (same-rules : b .rules �
           number = rw (rule-asked r) (level .number r parts op);
           bounded = omega (arith, level .low, good .aims);
           allows = permitted-from (b .juniors) (lift b (onLevel k R S)) (asked (wholeAsk r)) (b .rules) noRule j (rw listed-length l)
-              (rw (listed-at j l) (permits-rule S r parts good op shows));
+              (rw (listed-at j l) (permits-rule S r parts good (plain-rule j l) op shows));
         }
 
     -- What a permission says of the rule that gives it.
@@ -172,7 +178,7 @@ module _ (b : Contents) (ok : Admitted b) (rs : Rules) (same-rules : b .rules �
           let op = side .to (ruleAt rs j .op) (parts .0) in
           let whole : toWhole k q ≡ wholeAsk (ruleAt rs j) = rw (some .same, move .fine .aim, move .op, move .role, move .a, move .v) refl in
           subst (May b (onLevel k R S) on) (sym whole)
-          (may-rule S j on l (op .0) (op .1) (parts .1) (sym (move-met T S (all-good .good j l) move) ∙ some .holds))
+          (may-rule S j on l (op .0) (op .1) (parts .1) (sym (move-met T S (all-good .good j l) (plain-rule j l) move) ∙ some .holds))
 
       some-of : (S : State) (q : Ask) → q .fact / 160 ≡ k → May b (onLevel k R S) on q → (j : ℕ) → j < rs .count
           → Named (lift b (onLevel k R S)) q (ruleAt rs j) → Some T ms p S (toLevel q)
@@ -193,7 +199,7 @@ module _ (b : Contents) (ok : Admitted b) (rs : Rules) (same-rules : b .rules �
           let found = moves .every j l chosen in
           let move = found .2 in
           let about : subjectOf (aimed (q .op) (q .subject) (q .a) (q .v)) ≡ s = ap subjectOf aim ∙ level .subject r op in
-          let shows : ruleShown T S r ≡ true = rule-same S r parts good op ∙ rw about at (named .all-hold) in
+          let shows : ruleShown T S r ≡ true = rule-same S r parts good (plain-rule j l) op ∙ rw about at (named .all-hold) in
           let place : moveAt ms (found .0) .fact ≡ placeOf (r .op) (r .a) (r .v) = move .fine .aim ∙ rw (move .op, move .a, move .v) refl in
           let fact : moveAt ms (found .0) .fact ≡ q .fact % 160 = omega (arith, place, number, good .aims) in
           record {
@@ -201,7 +207,7 @@ module _ (b : Contents) (ok : Admitted b) (rs : Rules) (same-rules : b .rules �
             listed = found .1;
             same = ask-same q (moveAt ms (found .0)) p fact (move .op ∙ named .op) (move .role ∙ named .role) (where-at .1) (move .a ∙ named .a)
                 (move .v ∙ named .v);
-            holds = move-met T S good move ∙ shows;
+            holds = move-met T S good (plain-rule j l) move ∙ shows;
             known = omega arith;
           }
 

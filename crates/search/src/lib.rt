@@ -5,7 +5,7 @@ ghost use mathlib.Core.Bool.{true, false};
 ghost use Prim.Native.Nat.{_+_, _*_, _<_};
 ghost use lib.ListN.{length};
 ghost use Rattle.frames.specs.Book.{contentsOf};
-ghost use Rattle.frames.specs.Inner.Fits.{Admitted};
+ghost use Rattle.reach.specs.Inner.Leveled.{Leveled};
 ghost use Rattle.flags.specs.Inner.Flags.{Reaching};
 ghost use Rattle.level.specs.Inner.Moves.{movesIn};
 ghost use Rattle.search.specs.Inner.Drive.{Driving};
@@ -313,7 +313,7 @@ fn all_levels(
     up: &mut [u8],
     down: &mut [u8],
 ) -> LevelOutcome
-    requires { ⌜ Admitted (contentsOf b) ×
+    requires { ⌜ Leveled (contentsOf b) ×
         (SideMoves (b .rules) (b .query .roles) 3 3 4 4 (movesIn (now gains)) (movesIn (now losses)) ×
         SideMoves (b .rules) (b .query .roles) 1 5 2 6 (movesIn (now adds)) (movesIn (now dels))) ⌝ }
     requires { ⌜ (length (now up) ≡ draftSize) × (length (now down) ≡ draftSize) ⌝ }
@@ -363,7 +363,7 @@ fn all_levels(
 
 // The moves out of the accepted rules, then all levels.
 pub fn search(b: Book, up: &mut [u8], down: &mut [u8]) -> LevelOutcome
-    requires { ⌜ Admitted (contentsOf b) ⌝ }
+    requires { ⌜ Leveled (contentsOf b) ⌝ }
     requires { ⌜ (length (now up) ≡ draftSize) × (length (now down) ≡ draftSize) ⌝ }
     ensures { λ r. ⌜ Searched (contentsOf b) (now (up .exit)) (now (down .exit)) (r .found) (r .ups) (r .at) ⌝ }
 {

@@ -26,3 +26,6 @@ pub const MOVE_SIZE: usize = 14;
 
 // The numbers of 512 moves.
 pub const MOVES_SIZE: usize = 7168;
+
+// The terms of a rule for each fact of a level.
+pub const TERMS_SIZE: usize = 1280;

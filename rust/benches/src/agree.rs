@@ -78,11 +78,17 @@ fn judged(job: &Job, list: &[u8]) -> Result<Judgement, String> {
     Ok(ours)
 }
 
+/// A book with a "not" term has no page: both refuse it, and the tables stay as they were.
 fn page(job: &Job) -> Result<(), String> {
     let (mut ours, mut theirs) = ([0x55; PAGE_SIZE], [0xAA; PAGE_SIZE]);
     let answer = bytes::page(&job.text, &mut ours).map_err(|refusal| refusal.number());
     same("page", answer, page::page(&job.text, &mut theirs).map_err(|refusal| refusal.number()))?;
-    same("page's table", ours, theirs)
+    same("a page", answer.is_err(), job.book.has_not())?;
+    if answer.is_ok() {
+        same("page's table", ours, theirs)
+    } else {
+        same("a refused page's table", (ours, theirs), ([0x55; PAGE_SIZE], [0xAA; PAGE_SIZE]))
+    }
 }
 
 fn plans(job: &Job) -> Result<Found, String> {
@@ -97,5 +103,21 @@ fn plans(job: &Job) -> Result<Found, String> {
             Ok(Found::Plans(n, m))
         }
         differing => Err(format!("plan: {differing:?}")),
+    }
+}
+
+#[cfg(test)]
+mod tests {
+    use super::*;
+
+    /// Anybody joins crew 0, and crew 1 who is not in crew 0; both are wanted, or crew 1 by who is in crew 0.
+    #[test]
+    fn both_agree_where_a_book_has_not() {
+        let book = |facts: &str, crews: &str| {
+            format!("0101020101\n030500000000\n030500010001830000\n{facts}050300000100000000{crews}\n")
+        };
+        let checked = |text: String| Job::new(text.into_bytes()).map(|job| check(&job));
+        assert_eq!(checked(book("", "03")), Ok(Ok(Found::Plans(2, 2))));
+        assert_eq!(checked(book("0403000000\n", "02")), Ok(Ok(Found::NoWay)));
     }
 }

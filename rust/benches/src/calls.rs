@@ -171,9 +171,12 @@ mod kept {
         black_box(closure::plan(black_box(&job.book)));
     }
 
+    /// A book with a "not" term has no page.
     #[inline(never)]
     pub fn page(job: &Job, buffers: &mut Buffers) {
-        buffers.page = page::of(black_box(&job.book));
+        if !black_box(&job.book).has_not() {
+            buffers.page = page::of(black_box(&job.book));
+        }
     }
 }
 

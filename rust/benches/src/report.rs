@@ -282,7 +282,7 @@ fn time(ratio: Ratio) -> f64 {
 }
 
 /// The larger books in the order of the tables, by how their names begin.
-const LARGE: [&str; 8] = ["typical", "maximal", "dense", "read", "maxplan", "sweep", "rounds", "curve"];
+const LARGE: [&str; 9] = ["typical", "maximal", "dense", "read", "maxplan", "sweep", "rounds", "curve", "grow"];
 
 /// Whether a book is one of a few lines: the examples D1 to D12, the pilot depot, the trivial book.
 fn is_small(name: &str) -> bool {

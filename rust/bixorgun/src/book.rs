@@ -4,7 +4,7 @@ use crate::{LEDGER_SIZE, PAGE_SIZE, PLAN_MAX, REQUEST_SIZE};
 
 /// A book's characters, borrowed.
 ///
-/// Any characters will do: each operation reads the book, and refuses it by 1 to 9 where it is bad.
+/// Any characters will do: each operation reads the book, and refuses it by 1 to 9, 16 or 17 where it is bad.
 ///
 /// ```
 /// use bixorgun::{Book, Refusal};
@@ -44,7 +44,7 @@ impl<'a> Book<'a> {
     ///
     /// # Errors
     ///
-    /// 1-9.
+    /// 1-9, 16 or 17.
     pub fn open(&self) -> Result<Ledger, Refusal> {
         let mut ledger = [0; LEDGER_SIZE];
         bytes::open(self.characters, &mut ledger)?;
@@ -64,9 +64,25 @@ impl<'a> Book<'a> {
     /// # }
     /// ```
     ///
+    /// A carrier that never deletes may write "not" terms, kinds 81 and 83, and asks by mode 03 for what is to be held
+    /// directly.
+    ///
+    /// ```
+    /// use bixorgun::{Act, Book, Crew, Person, Request, Role};
+    ///
+    /// # fn main() -> Result<(), bixorgun::Refusal> {
+    /// // Anybody may join returns (crew 0), and customs (crew 1) if not in returns. Person 0 is to be in both.
+    /// let book = Book::new("0101020101\n030500000000\n030500010001830000\n05030000010000000003\n");
+    /// let plan = book.plan()?.plan().expect("there is a way");
+    /// let join = |crew| Request::new(Role(0), Act::Assign(Person(0), Crew(crew)));
+    /// assert_eq!(plan.as_slice(), [join(1), join(0)]);
+    /// # Ok(())
+    /// # }
+    /// ```
+    ///
     /// # Errors
     ///
-    /// 1-9.
+    /// 1-9, 16 or 17.
     pub fn plan(&self) -> Result<Answer, Refusal> {
         let mut buffer = vec![0; PLAN_MAX];
         Ok(match bytes::plan_into(self.characters, &mut buffer)? {
@@ -92,7 +108,7 @@ impl<'a> Book<'a> {
     ///
     /// # Errors
     ///
-    /// 1-9.
+    /// 1-9, 16 or 17.
     pub fn replay(&self, requests: impl IntoIterator<Item = Request>) -> Result<Judgement, Refusal> {
         let list: Vec<u8> = requests.into_iter().flat_map(|request| request.to_bytes()).collect();
         bytes::replay(self.characters, &list)
@@ -100,7 +116,8 @@ impl<'a> Book<'a> {
 
     /// The whole depot on one page: what each person can come to hold by the roles of the query.
     ///
-    /// Of the query the roles alone count; its mode, person, sets and crews do not matter.
+    /// Of the query the roles alone count; its mode, person, sets and crews do not matter. A book with a "not" term has no
+    /// page: 17.
     ///
     /// ```
     /// use bixorgun::{Attr, Book, Person, Value};
@@ -125,7 +142,7 @@ impl<'a> Book<'a> {
     ///
     /// # Errors
     ///
-    /// 1-9.
+    /// 1-9, 16 or 17.
     pub fn page(&self) -> Result<Page, Refusal> {
         let mut table = [0; PAGE_SIZE];
         bytes::page(self.characters, &mut table)?;

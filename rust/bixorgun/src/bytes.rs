@@ -85,7 +85,7 @@ fn strange(operation: &str, answer: u64) -> ! {
 ///
 /// # Errors
 ///
-/// 1-9, then 11.
+/// 1-9, 16 or 17, then 11.
 pub fn open(book: &[u8], ledger: &mut [u8]) -> Result<(), Refusal> {
     read("open", sys::open(book, ledger), |reply| matches!(reply, Reply::Done).then_some(()))
 }
@@ -108,7 +108,7 @@ pub fn open(book: &[u8], ledger: &mut [u8]) -> Result<(), Refusal> {
 ///
 /// # Errors
 ///
-/// 1-9, then 11, 12, then 13 or 15.
+/// 1-9, 16 or 17, then 11, 12, then 13 or 15.
 pub fn request(book: &[u8], ledger: &mut [u8], request: &[u8]) -> Result<(), Refusal> {
     read("request", sys::request(book, ledger, request), |reply| matches!(reply, Reply::Done).then_some(()))
 }
@@ -129,7 +129,7 @@ pub fn request(book: &[u8], ledger: &mut [u8], request: &[u8]) -> Result<(), Ref
 ///
 /// # Errors
 ///
-/// 1-9, then 11, 12.
+/// 1-9, 16 or 17, then 11, 12.
 pub fn show(book: &[u8], ledger: &[u8], person: Person) -> Result<View, Refusal> {
     let mut view = [0; VIEW_SIZE];
     let answer = sys::show(book, ledger, person.0, &mut view);
@@ -153,7 +153,7 @@ pub fn show(book: &[u8], ledger: &[u8], person: Person) -> Result<View, Refusal>
 ///
 /// # Errors
 ///
-/// 1-9, then 11, 12.
+/// 1-9, 16 or 17, then 11, 12.
 pub fn show_into(book: &[u8], ledger: &[u8], person: Person, view: &mut [u8]) -> Result<Shown, Refusal> {
     read("show", sys::show(book, ledger, person.0, view), |reply| match reply {
         Reply::Done => Some(Shown::Done),
@@ -175,7 +175,7 @@ pub fn show_into(book: &[u8], ledger: &[u8], person: Person, view: &mut [u8]) ->
 ///
 /// # Errors
 ///
-/// 1-9, then 14.
+/// 1-9, 16 or 17, then 14.
 pub fn replay(book: &[u8], plan: &[u8]) -> Result<Judgement, Refusal> {
     read("replay", sys::replay(book, plan), |reply| match reply {
         Reply::Reaches => Some(Judgement::Reaches),
@@ -199,7 +199,7 @@ pub fn replay(book: &[u8], plan: &[u8]) -> Result<Judgement, Refusal> {
 ///
 /// # Errors
 ///
-/// 1-9, then 10.
+/// 1-9, 16 or 17, then 10.
 pub fn plan_into(book: &[u8], out: &mut [u8]) -> Result<Planned, Refusal> {
     read("plan", sys::plan(book, out), |reply| match reply {
         Reply::NoWay => Some(Planned::NoWay),
@@ -211,7 +211,7 @@ pub fn plan_into(book: &[u8], out: &mut [u8]) -> Result<Planned, Refusal> {
 /// Fills the page of the whole depot: what each person can come to hold by the roles of the book's query.
 ///
 /// Every byte of a table of 1,024 bytes is written: person p's attribute a is a two-byte set at 16·p + 2·a, big-endian.
-/// [`Page::from`](crate::Page) reads it. Here alone a page can be refused by 10.
+/// [`Page::from`](crate::Page) reads it. Here alone a page can be refused by 10. A book with a "not" term has no page: 17.
 ///
 /// ```
 /// use bixorgun::{bytes, Refusal};
@@ -232,7 +232,7 @@ pub fn plan_into(book: &[u8], out: &mut [u8]) -> Result<Planned, Refusal> {
 ///
 /// # Errors
 ///
-/// 1-9, then 10 for a table of any other length.
+/// 1-9, 16 or 17, then 10 for a table of any other length.
 pub fn page(book: &[u8], table: &mut [u8]) -> Result<(), Refusal> {
     read("page", sys::page(book, table), |reply| matches!(reply, Reply::Done).then_some(()))
 }
@@ -246,15 +246,20 @@ mod tests {
         1 | u64::from(number) << 8 | value << 16
     }
 
+    /// Whether the value of a refusal is a line, counted from 1.
+    fn has_line(number: u8) -> bool {
+        matches!(number, 2..=9 | 16 | 17)
+    }
+
     #[test]
     fn every_answer_of_the_header_is_read() {
-        for number in 1..=14 {
-            let lines: &[u64] = if (2..=9).contains(&number) { &[1, 2, 0x1_0007] } else { &[0] };
+        for number in (1..=14).chain([16, 17]) {
+            let lines: &[u64] = if has_line(number) { &[1, 2, 0x1_0007] } else { &[0] };
             for &line in lines {
                 let answer = refused(number, line);
                 let Some(Err(refusal)) = reply(answer) else { panic!("{answer:#X}") };
                 assert_eq!(refusal.number(), number);
-                assert_eq!(refusal.line(), (number < 10).then_some(line as usize));
+                assert_eq!(refusal.line(), (number == 1 || has_line(number)).then_some(line as usize));
             }
         }
         assert!(matches!(reply(3 | 8_512 << 16), Some(Ok(Reply::Plan(8_512)))));
@@ -275,16 +280,17 @@ mod tests {
 
     #[test]
     fn other_numbers_are_no_answers() {
-        for answer in [1, 8, 255, refused(16, 0), refused(255, 0), 1 << 8, 15 << 8 | 257 << 16, 1 << 16, 2 | 1 << 63] {
+        let others = [refused(18, 0), refused(18, 1), refused(255, 0), 1 << 8, 15 << 8 | 257 << 16, 17 << 8 | 1 << 16];
+        for answer in [1, 8, 255, 1 << 16, 2 | 1 << 63].into_iter().chain(others) {
             assert!(reply(answer).is_none(), "{answer:#X}");
         }
     }
 
     #[test]
     fn a_refusal_has_no_value_but_its_own() {
-        for number in 1..=14 {
-            // A book that is refused by 2 to 9 has a line, and no other refusal has a value.
-            let others: &[u64] = if (2..=9).contains(&number) { &[0] } else { &[1, 257, 1 << 47] };
+        for number in (1..=14).chain([16, 17]) {
+            // A book that is refused by 2 to 9, 16 or 17 has a line, and no other refusal has a value.
+            let others: &[u64] = if has_line(number) { &[0] } else { &[1, 257, 1 << 47] };
             for &value in others {
                 assert!(reply(refused(number, value)).is_none(), "{number}, {value}");
             }

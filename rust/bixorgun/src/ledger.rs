@@ -53,7 +53,7 @@ impl Ledger {
     ///
     /// # Errors
     ///
-    /// 1-9, then 11, 12, then 13 or 15; the ledger then keeps its bytes.
+    /// 1-9, 16 or 17, then 11, 12, then 13 or 15; the ledger then keeps its bytes.
     pub fn request(&mut self, book: &Book<'_>, request: Request) -> Result<(), Refusal> {
         bytes::request(book.characters(), &mut self.0, &request.to_bytes())
     }
@@ -75,7 +75,7 @@ impl Ledger {
     ///
     /// # Errors
     ///
-    /// 1-9, then 11, 12.
+    /// 1-9, 16 or 17, then 11, 12.
     pub fn show(&self, book: &Book<'_>, person: Person) -> Result<View, Refusal> {
         bytes::show(book.characters(), &self.0, person)
     }

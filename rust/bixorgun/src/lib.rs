@@ -86,11 +86,11 @@ pub use request::{Act, Request};
 
 /// The version of the library's interface, as `include/bixorgun.h` has it. The minor rises with every later change of a
 /// format or of the interface.
-pub const VERSION: &str = "0.5.0";
+pub const VERSION: &str = "0.6.0";
 /// The first number of [`VERSION`].
 pub const VERSION_MAJOR: u32 = 0;
 /// The second number of [`VERSION`].
-pub const VERSION_MINOR: u32 = 5;
+pub const VERSION_MINOR: u32 = 6;
 /// The third number of [`VERSION`].
 pub const VERSION_PATCH: u32 = 0;
 

@@ -1,10 +1,10 @@
 use std::error::Error;
 use std::fmt;
 
-/// What turns an operation back: the fourteen rows of the specification's table, and 15.
+/// What turns an operation back: the fourteen rows of the specification's table, and 15 to 17.
 ///
-/// Refusals 1 to 9 are those of a book and come first, in every operation. On a refusal "every lent buffer keeps its
-/// bytes".
+/// Refusals 1 to 9, 16 and 17 are those of a book and come first, in every operation. On a refusal "every lent buffer
+/// keeps its bytes".
 ///
 /// A request that is not permitted gets 13 or 15. With 13 no rule is there for it, whatever the ledger says: ask who
 /// writes the rules. With 15 one is there, and what it asks for is still missing, a grade perhaps.
@@ -20,6 +20,10 @@ use std::fmt;
 /// let refusal = Refusal::UnmetTerm { rule: 3, term: 2 };
 /// assert_eq!((refusal.number(), refusal.line()), (15, None));
 /// assert_eq!(refusal.to_string(), "refusal 15: rule 3 of the book matches the request, but its term 2 does not hold");
+///
+/// // Value 0 may be added to who does not directly hold value 1: a book with such a term is asked by mode 03.
+/// let book = Book::new("0101000102\n030100000001810001\n050100000101000001\n");
+/// assert_eq!(book.plan(), Err(Refusal::WrongMode { line: 3 }));
 /// ```
 #[derive(Clone, Copy, Debug, PartialEq, Eq, PartialOrd, Ord, Hash)]
 #[non_exhaustive]
@@ -52,7 +56,7 @@ pub enum Refusal {
         /// Counted from 1.
         line: usize,
     },
-    /// 7: "term 03 or 04 in ops 01-04"
+    /// 7: "term 03, 04 or 83 in ops 01-04", or 83 there
     BadTerm {
         /// Counted from 1.
         line: usize,
@@ -86,6 +90,17 @@ pub enum Refusal {
         /// The term's place in that rule, counted from 1: 1 to 8.
         term: u8,
     },
+    /// 16: a book with a "not" term, kind 81 or 83, "has only ops 01, 03 and 05, at most one rule for each op, a and v,
+    /// and only terms 01, 03, 81, 83", and this one goes beyond. Rules of all roles count, and one given twice as two.
+    BeyondNot {
+        /// That of the query, counted from 1.
+        line: usize,
+    },
+    /// 17: "mode 03 without a "not" term or another mode with one"; and the page refuses "every book with a "not" term".
+    WrongMode {
+        /// That of the query, counted from 1.
+        line: usize,
+    },
 }
 
 impl Refusal {
@@ -111,11 +126,13 @@ impl Refusal {
                 rule: u16::try_from(both / 256).ok().filter(|rule| (1..=512).contains(rule))?,
                 term: u8::try_from(both % 256).ok().filter(|term| (1..=8).contains(term))?,
             },
+            (16, line @ 1..) => Refusal::BeyondNot { line },
+            (17, line @ 1..) => Refusal::WrongMode { line },
             _ => return None,
         })
     }
 
-    /// The refusal's number, 1 to 15.
+    /// The refusal's number, 1 to 17.
     #[must_use]
     pub const fn number(&self) -> u8 {
         match self {
@@ -134,10 +151,12 @@ impl Refusal {
             Refusal::NoRule => 13,
             Refusal::BadPlanLength => 14,
             Refusal::UnmetTerm { .. } => 15,
+            Refusal::BeyondNot { .. } => 16,
+            Refusal::WrongMode { .. } => 17,
         }
     }
 
-    /// The line of refusals 1 to 9: counted from 1, and 0 for refusal 1; nothing for 10 to 15.
+    /// The line of refusals 1 to 9, 16 and 17: counted from 1, and 0 for refusal 1; nothing for 10 to 15.
     #[must_use]
     pub const fn line(&self) -> Option<usize> {
         match *self {
@@ -149,13 +168,15 @@ impl Refusal {
             | Refusal::BadEdge { line }
             | Refusal::BadTerm { line }
             | Refusal::TooManyRules { line }
-            | Refusal::NotRising { line } => Some(line),
+            | Refusal::NotRising { line }
+            | Refusal::BeyondNot { line }
+            | Refusal::WrongMode { line } => Some(line),
             _ => None,
         }
     }
 
-    /// Says when the refusal falls, in the table's words, of 4 with the A of frame 01, of 10 with the page's table; of
-    /// 13 and 15 in a lead's.
+    /// Says when the refusal falls, in the table's words, of 4 with the A of frame 01, of 7 with term 83, of 10 with the
+    /// page's table; of 13 and 15 in a lead's.
     fn say_when(&self, f: &mut fmt::Formatter<'_>) -> fmt::Result {
         f.write_str(match self {
             Refusal::BookTooLong => "over 65,536 characters",
@@ -167,7 +188,7 @@ impl Refusal {
             Refusal::BadLength { .. } => "any length but the one that the kind, with its A, n or q, gives",
             Refusal::BadField { .. } => "a field outside its range, n over 8, q over 8, a set bit outside the sizes",
             Refusal::BadEdge { .. } => "j not smaller than s",
-            Refusal::BadTerm { .. } => "term 03 or 04 in ops 01-04",
+            Refusal::BadTerm { .. } => "term 03, 04 or 83 in ops 01-04",
             Refusal::TooManyRules { .. } => "the 513th rule",
             Refusal::NotRising { .. } => "query attributes not rising",
             Refusal::ShortPlanBuffer => "plan buffer under 10 × F; page table not 1,024 bytes",
@@ -177,6 +198,13 @@ impl Refusal {
             Refusal::BadPlanLength => "plan length no multiple of five",
             Refusal::UnmetTerm { rule, term } => {
                 return write!(f, "rule {rule} of the book matches the request, but its term {term} does not hold")
+            }
+            Refusal::BeyondNot { .. } => {
+                "a \"not\" term, 81 or 83, in a book with an op but 01, 03 and 05, two rules for an op, a and v, or a \
+                 term but 01, 03, 81 and 83"
+            }
+            Refusal::WrongMode { .. } => {
+                "mode 03 without a \"not\" term, 81 or 83, or another mode with one; page of a book with one"
             }
         })
     }

@@ -22,6 +22,7 @@ const ANSWERED: &str = "| Line | It says |";
 const CALLS: &str = "| No. | Call | Answer | Says |";
 const PLACES: &str = "| The set of | stands at byte | In the first example, behind the calls below |";
 const PILOT_CALLS: &str = "| No. | Last line | Call | Answer | Says |";
+const GROWING_CALLS: &str = "| No. | Line | becomes | Call | Answer | Says |";
 
 fn repository() -> PathBuf {
     [env!("CARGO_MANIFEST_DIR"), "..", ".."].iter().collect()
@@ -124,7 +125,7 @@ fn compare_changed<'p>(page: &'p str, heading: &str, first: usize) -> Vec<(Vec<&
     compared.collect()
 }
 
-/// The rows of the refusals 1 to 9: number, and the bytes that replace a line.
+/// The rows of the refusals that give a line, 1 to 9, 16 and 17: number, and the bytes that replace a line.
 fn refused_lines(page: &str) -> Vec<(usize, Vec<u8>)> {
     let each = compare_changed(page, REFUSALS, 1).into_iter().map(|(row, answer)| {
         assert_eq!(answer[..4], format!("8F{:02X}", number(row[0])), "{row:?}");
@@ -368,10 +369,26 @@ fn each_call_on_the_pilot_depot_has_its_answer() {
     assert!(rows.len() >= 9, "{} calls", rows.len());
 }
 
+/// Each call on the depot that only grows, with a line of it replaced, has its answer.
+#[test]
+fn each_call_on_the_depot_that_only_grows_has_its_answer() {
+    let page = page();
+    let mut books = examples(&page).into_iter().map(|(book, _)| book);
+    let depot = books.find(|book| book.contains("\n0503")).expect("a book of mode 03");
+    let rows = rows(&page, GROWING_CALLS);
+    for row in &rows {
+        let book = String::from_utf8(changed(&depot, number(row[1]), &replacement(row[2]))).expect("digits");
+        let answer = codes(row[4])[0];
+        assert_eq!(Session::of(book).call(codes(row[3])[0]), answer, "{row:?}");
+        told(row, answer);
+    }
+    assert!(rows.len() >= 12, "{} calls", rows.len());
+}
+
 #[test]
 fn every_refusal_is_on_the_page() {
     let page = page();
     let lines = refused_lines(&page).into_iter().map(|(number, _)| number);
     let numbers: BTreeSet<usize> = lines.chain(calls(&page).0).collect();
-    assert!(numbers.into_iter().eq(1..=15));
+    assert!(numbers.into_iter().eq(1..=17));
 }

@@ -1,5 +1,5 @@
 //! Small depots drawn from a seed, each planned, its page filled, and searched over every ledger that chains of
-//! requests reach. The search knows open, request and show alone.
+//! requests reach; and such whose books only grow, with "not" terms. The search knows open, request and show alone.
 //!
 //! The planner is a parameter: wrong planners in its place have to be caught. So is what fills the page.
 
@@ -19,7 +19,7 @@ use bixorgun::{Judgement, Refusal, PAGE_SIZE};
 use depots::{is_adding, Depot, Fact};
 use search::Reached;
 use seed::Seed;
-use wrong_planners::{RIGHT, WRONG};
+use wrong_planners::{growing, RIGHT, RIGHT_GROWING, WRONG, WRONG_GROWING};
 
 const BOOKS: usize = 20_000;
 const SEED: u64 = 20_261_115;
@@ -49,6 +49,15 @@ fn searched() -> &'static [Searched] {
     SEARCHED.get_or_init(|| {
         let mut seed = Seed::new(SEED);
         (0..BOOKS).map(|_| Searched::of(Depot::draw(&mut seed))).collect()
+    })
+}
+
+/// The depots whose books only grow, drawn and searched once for all tests.
+fn searched_growing() -> &'static [Searched] {
+    static SEARCHED: OnceLock<Vec<Searched>> = OnceLock::new();
+    SEARCHED.get_or_init(|| {
+        let mut seed = Seed::new(SEED + 1);
+        (0..BOOKS).map(|_| Searched::of(Depot::draw_growing(&mut seed))).collect()
     })
 }
 
@@ -131,30 +140,62 @@ fn library(depot: &Depot, out: &mut [u8]) -> Result<Planned, Refusal> {
     bytes::plan_into(depot.draft.text(), out)
 }
 
-/// The planner of the library agrees with the search on every depot, and replay refuses a list of seven bytes.
-#[test]
-fn the_planner_agrees_with_the_search() {
-    let (mut no_way, mut plans, mut deleting, mut longest) = (0, 0, 0, 0);
-    let mut differences = 0;
-    for searched in searched() {
-        match judge(searched, library) {
-            Ok(Finding::NoWay) => no_way += 1,
-            Ok(Finding::Plan { count, deletes }) => {
-                plans += 1;
-                deleting += usize::from(deletes);
-                longest = longest.max(count);
-            }
-            Err(difference) => {
-                differences += 1;
-                if differences <= SHOWN {
-                    println!("{difference}:\n{}", String::from_utf8_lossy(searched.depot.draft.text()));
+/// What became of some depots.
+#[derive(Default)]
+struct Answers {
+    no_way: usize,
+    plans: usize,
+    /// Plans of which a request deletes.
+    deleting: usize,
+    /// The requests of the longest plan.
+    longest: usize,
+    differences: usize,
+}
+
+impl Answers {
+    /// What a planner answers to each; the first differences are printed. Replay refuses a list of seven bytes.
+    fn of(all: &[Searched], planner: Planner) -> Self {
+        let mut answers = Answers::default();
+        for searched in all {
+            match judge(searched, planner) {
+                Ok(Finding::NoWay) => answers.no_way += 1,
+                Ok(Finding::Plan { count, deletes }) => {
+                    answers.plans += 1;
+                    answers.deleting += usize::from(deletes);
+                    answers.longest = answers.longest.max(count);
+                }
+                Err(difference) => {
+                    answers.differences += 1;
+                    if answers.differences <= SHOWN {
+                        println!("{difference}:\n{}", String::from_utf8_lossy(searched.depot.draft.text()));
+                    }
                 }
             }
+            assert_eq!(bytes::replay(searched.depot.draft.text(), &[1; 7]), Err(Refusal::BadPlanLength));
         }
-        assert_eq!(bytes::replay(searched.depot.draft.text(), &[1; 7]), Err(Refusal::BadPlanLength));
+        answers
     }
-    let met = searched().iter().filter(|searched| searched.is_met_at_start).count();
-    let ladders = (1..=6).map(|op| searched().iter().filter(|searched| searched.depot.has_ladder(op)).count());
+
+    fn print(&self) {
+        println!("no way {}", self.no_way);
+        println!("plans {}", self.plans);
+        println!("plans with deletions {}", self.deleting);
+        println!("longest plan {}", self.longest);
+        println!("differences {}", self.differences);
+    }
+}
+
+/// How many of some depots are such.
+fn count(all: &[Searched], is_such: impl Fn(&Searched) -> bool) -> usize {
+    all.iter().filter(|searched| is_such(searched)).count()
+}
+
+/// The planner of the library agrees with the search on every depot.
+#[test]
+fn the_planner_agrees_with_the_search() {
+    let answers = Answers::of(searched(), library);
+    let met = count(searched(), |searched| searched.is_met_at_start);
+    let ladders = (1..=6).map(|op| count(searched(), |searched| searched.depot.has_ladder(op)));
     let ladders: Vec<usize> = ladders.collect();
     let two: Vec<[u8; 2]> =
         searched().iter().map(|searched| searched.depot.sizes.counts).filter(|c| c[1] > 0).collect();
@@ -164,17 +205,44 @@ fn the_planner_agrees_with_the_search() {
     println!("with two attributes of different counts {different}");
     println!("with a ladder term in a rule of op 01 to 06 {ladders:?}");
     println!("met by the starting facts {met}");
-    println!("no way {no_way}");
-    println!("plans {plans}");
-    println!("plans with deletions {deleting}");
-    println!("longest plan {longest}");
-    println!("differences {differences}");
-    assert_eq!(differences, 0);
+    answers.print();
+    assert_eq!(answers.differences, 0);
     // These do not rest on which plan is given.
     assert_eq!((two.len(), different), (12_000, 10_805));
-    assert_eq!((met, no_way, plans), (3_179, 13_514, 6_486));
+    assert_eq!((met, answers.no_way, answers.plans), (3_179, 13_514, 6_486));
     assert_eq!(ladders, [10_772, 10_816, 8_470, 8_727, 5_302, 5_431]);
-    assert!(deleting > 0 && longest > 0);
+    assert!(answers.deleting > 0 && answers.longest > 0);
+}
+
+/// The same of the depots whose books only grow.
+#[test]
+fn the_planner_agrees_with_the_search_where_books_only_grow() {
+    let all = searched_growing();
+    let answers = Answers::of(all, library);
+    let met = count(all, |searched| searched.is_met_at_start);
+    let two_persons = count(all, |searched| searched.depot.sizes.persons == 2);
+    let ops = [1, 3, 5].map(|op| count(all, |searched| searched.depot.rules().any(|rule| rule[1] == op)));
+    let [own, on_crews] = [0, 1].map(|at| count(all, |searched| growing::traits(&searched.depot)[at]));
+    let ledgers: usize = all.iter().map(|searched| searched.reached.ledgers).sum();
+    let most = all.iter().map(|searched| searched.reached.ledgers).max();
+    println!("books {}, of two persons {two_persons}, with a rule of op 01, 03 and 05 {ops:?}", all.len());
+    println!("with a rule that bars its own fact {own}, with a \"not\" term on crews {on_crews}");
+    println!("ledgers {ledgers}, at most {most:?}");
+    println!("met by the starting facts {met}");
+    answers.print();
+    assert_eq!(answers.differences, 0);
+    // A book with a "not" term has no page.
+    for searched in all {
+        let line = searched.depot.draft.frames.len();
+        let mut table = [FILLING; PAGE_SIZE];
+        assert_eq!(bytes::page(searched.depot.draft.text(), &mut table), Err(Refusal::WrongMode { line }));
+        assert!(is_kept(&table));
+    }
+    // These do not rest on which plan is given.
+    assert_eq!((two_persons, ops, own, on_crews), (2_045, [19_847, 14_246, 17_542], 11_445, 8_967));
+    assert_eq!((ledgers, most), (148_586, Some(768)));
+    assert_eq!((met, answers.no_way, answers.plans), (3_295, 12_104, 7_896));
+    assert!(answers.deleting == 0 && answers.longest > 0);
 }
 
 /// A page beside what the walk found, bit by bit; then tables that are a byte shorter and a byte longer.
@@ -200,9 +268,9 @@ fn judge_page(searched: &Searched, pager: Pager) -> Result<(), Difference> {
 }
 
 /// How often something differs from the search, by the first difference in each depot.
-fn differences(found: impl Fn(&Searched) -> Option<Difference>) -> BTreeMap<Difference, usize> {
+fn differences(all: &[Searched], found: impl Fn(&Searched) -> Option<Difference>) -> BTreeMap<Difference, usize> {
     let mut counts = BTreeMap::new();
-    for difference in searched().iter().filter_map(found) {
+    for difference in all.iter().filter_map(found) {
         *counts.entry(difference).or_default() += 1;
     }
     counts
@@ -219,11 +287,21 @@ fn expect_caught(fault: &str, counts: &BTreeMap<Difference, usize>) {
 /// Each wrong planner is caught, and the small planner that most of them are is right without its fault.
 #[test]
 fn wrong_planners_are_caught() {
-    for right in RIGHT {
-        assert_eq!(differences(|searched| judge(searched, right).err()), BTreeMap::new());
+    catch(searched(), &RIGHT, &WRONG);
+}
+
+/// The same where books only grow.
+#[test]
+fn wrong_planners_are_caught_where_books_only_grow() {
+    catch(searched_growing(), &RIGHT_GROWING, &WRONG_GROWING);
+}
+
+fn catch(all: &[Searched], right: &[Planner], wrong: &[(&str, Planner)]) {
+    for &right in right {
+        assert_eq!(differences(all, |searched| judge(searched, right).err()), BTreeMap::new());
     }
-    for (fault, planner) in WRONG {
-        expect_caught(fault, &differences(|searched| judge(searched, planner).err()));
+    for &(fault, planner) in wrong {
+        expect_caught(fault, &differences(all, |searched| judge(searched, planner).err()));
     }
 }
 
@@ -298,9 +376,9 @@ fn the_page_agrees_with_the_search() {
 /// Each wrong page is caught, and the small page that most of them are is right without its fault.
 #[test]
 fn wrong_pages_are_caught() {
-    assert_eq!(differences(|searched| judge_page(searched, wrong_pages::right).err()), BTreeMap::new());
+    assert_eq!(differences(searched(), |searched| judge_page(searched, wrong_pages::right).err()), BTreeMap::new());
     for (fault, pager) in wrong_pages::WRONG {
-        expect_caught(fault, &differences(|searched| judge_page(searched, pager).err()));
+        expect_caught(fault, &differences(searched(), |searched| judge_page(searched, pager).err()));
     }
 }
 
@@ -400,14 +478,69 @@ const RANGES: [(&str, &[&[u8]]); 3] = [
     ("10 × F by A × the first attribute's count", &[&[1, 1, 0, 2, 3, 1], &[5, 1, 0, 255, 255, 0]]),
 ];
 
+/// Faults about books that only grow, each with an example that it misses. Two values, of role 0.
+const GROWING: [(&str, &[&[u8]]); 16] = [
+    // 1 if not 0; 0 held; both wanted.
+    ("\"not\" terms not heeded", &[TWO_VALUES, &[4, 1, 0, 0, 0], ONE_IF_NOT_ZERO, BOTH]),
+    ("starting facts bar nothing", &[TWO_VALUES, &[4, 1, 0, 0, 0], ONE_IF_NOT_ZERO, BOTH]),
+    // 0; 1 if not 0; both wanted: 1, then 0.
+    ("added in any order that is permitted", &[TWO_VALUES, ZERO, ONE_IF_NOT_ZERO, BOTH]),
+    ("added in the order of their numbers", &[TWO_VALUES, ZERO, ONE_IF_NOT_ZERO, BOTH]),
+    // 0 if 1; 1 if not 0; 0 wanted: 1, then 0.
+    ("what is asked for not added", &[TWO_VALUES, &[3, 1, 0, 0, 0, 1, 1, 0, 1], ONE_IF_NOT_ZERO, FIRST]),
+    // 0 if not 1; 1 if not 0; 0 wanted.
+    ("all added that a rule adds", &[TWO_VALUES, &[3, 1, 0, 0, 0, 1, 0x81, 0, 1], ONE_IF_NOT_ZERO, FIRST]),
+    // 0; 1 if not 0; 0 held and wanted.
+    ("starting facts forgotten", &[TWO_VALUES, &[4, 1, 0, 0, 0], ZERO, ONE_IF_NOT_ZERO, FIRST]),
+    // 0 if not 1, by role 1; wanted by role 0.
+    ("rules of roles outside the query used", &[TWO_VALUES, &[3, 1, 1, 0, 0, 1, 0x81, 0, 1], FIRST]),
+    // 0 if not 0.
+    ("a rule that bars its own fact not used", &[TWO_VALUES, &[3, 1, 0, 0, 0, 1, 0x81, 0, 0], FIRST]),
+    // In crew 0, which holds 1; 0 if not 1.
+    (
+        "what is effective bars",
+        &[&[1, 1, 1, 1, 2], &[4, 3, 0, 0, 0], &[4, 2, 0, 0, 1], &[3, 1, 0, 0, 0, 1, 0x81, 0, 1], FIRST],
+    ),
+    // In crew 0, which holds 0; 1 if not 0; 0 wanted.
+    (
+        "what is effective meets the query",
+        &[&[1, 1, 1, 1, 2], &[4, 3, 0, 0, 0], &[4, 2, 0, 0, 0], ONE_IF_NOT_ZERO, FIRST],
+    ),
+    // 0 if not 1.
+    ("a \"not\" term asks for the fact", &[TWO_VALUES, &[3, 1, 0, 0, 0, 1, 0x81, 0, 1], FIRST]),
+    // "may join customs if not in returns": in crew 0; crew 1 wanted.
+    (
+        "a \"not\" term on crews not tested",
+        &[&[1, 1, 2, 1, 2], &[4, 3, 0, 0, 0], &[3, 5, 0, 1, 0, 1, 0x83, 0, 0], &[5, 3, 0, 0, 1, 0, 0, 0, 0, 2]],
+    ),
+    // 0 if 1 and not 0; 0 wanted.
+    ("a term that asks for a fact not tested", &[TWO_VALUES, &[3, 1, 0, 0, 0, 2, 1, 0, 1, 0x81, 0, 0], FIRST]),
+    // 0 if not 1; crew 0 wanted.
+    (
+        "the listed crews not asked for",
+        &[&[1, 1, 1, 1, 2], &[3, 1, 0, 0, 0, 1, 0x81, 0, 1], &[5, 3, 0, 0, 1, 0, 0, 0, 0, 1]],
+    ),
+    // 1 held; 0 if not 0; 0 wanted.
+    ("mode 03 taken for mode 02", &[TWO_VALUES, &[4, 1, 0, 0, 1], &[3, 1, 0, 0, 0, 1, 0x81, 0, 0], FIRST]),
+];
+
+const TWO_VALUES: &[u8] = &[1, 1, 0, 1, 2];
+const ZERO: &[u8] = &[3, 1, 0, 0, 0, 0];
+const ONE_IF_NOT_ZERO: &[u8] = &[3, 1, 0, 0, 1, 1, 0x81, 0, 0];
+const BOTH: &[u8] = &[5, 3, 0, 0, 1, 1, 0, 0, 3, 0, 0, 0, 0];
+const FIRST: &[u8] = &[5, 3, 0, 0, 1, 1, 0, 0, 1, 0, 0, 0, 0];
+
 /// The library's planner and the small one without a fault are right on each example, the misleading plan is not.
 #[test]
 fn misleading_plans_miss_their_examples() {
-    for (fault, frames) in MISLEADING.into_iter().chain(LADDERS).chain(RANGES) {
-        let searched = Searched::of(Depot::of(frames.iter().map(|frame| frame.to_vec()).collect()));
-        assert!(RIGHT.into_iter().chain([library as Planner]).all(|right| judge(&searched, right).is_ok()), "{fault}");
-        let (_, wrong) = WRONG.into_iter().find(|(other, _)| *other == fault).expect("a wrong planner");
-        let difference = judge(&searched, wrong).err().expect("a difference");
-        println!("{fault}: {difference}");
-    }
+    MISLEADING.into_iter().chain(LADDERS).chain(RANGES).for_each(|example| miss(example, &RIGHT, &WRONG));
+    GROWING.into_iter().for_each(|example| miss(example, &RIGHT_GROWING, &WRONG_GROWING));
+}
+
+fn miss((fault, frames): (&str, &[&[u8]]), right: &[Planner], wrong: &[(&str, Planner)]) {
+    let searched = Searched::of(Depot::of(frames.iter().map(|frame| frame.to_vec()).collect()));
+    assert!(right.iter().chain([&(library as Planner)]).all(|&right| judge(&searched, right).is_ok()), "{fault}");
+    let (_, wrong) = wrong.iter().find(|(other, _)| *other == fault).expect("a wrong planner");
+    let difference = judge(&searched, *wrong).err().expect("a difference");
+    println!("{fault}: {difference}");
 }

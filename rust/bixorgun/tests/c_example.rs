@@ -1,6 +1,6 @@
 //! `examples/c/plan_book.c`, built by the C compiler (`CC`, else `cc`) against the header and the archive, says of each
-//! stored book what this crate says and lists its page, tells a lead why a request is refused, and has this crate's
-//! version. By the header's inline functions a second program reads rule and term out of answers, a third reckons the
+//! stored book what this crate says and lists its page, tells a lead why a request is refused, says 16 and 17 in words,
+//! and has this crate's version. By the header's inline functions a second program reads rule and term out of answers, a third reckons the
 //! plan's buffer, and a fourth reads every bit of a page.
 
 use std::env;
@@ -99,7 +99,11 @@ fn compare(name: &str, operation: &str, said: Result<String, Refusal>, ran: &Out
         Ok(text) => assert_eq!((ran.status.code(), &*out, &*err), (Some(0), &*text, ""), "{name}"),
         Err(refusal) => {
             let line = refusal.line().unwrap_or(0);
-            let text = format!("{operation}: result 1, refusal {}, line {line}\n", refusal.number());
+            let text = match refusal {
+                // In words, as this crate has them.
+                Refusal::BeyondNot { .. } | Refusal::WrongMode { .. } => format!("{operation}: {refusal}\n"),
+                _ => format!("{operation}: result 1, refusal {}, line {line}\n", refusal.number()),
+            };
             assert_eq!((ran.status.code(), &*out, &*err), (Some(1), "", &*text), "{name}");
         }
     }
@@ -112,7 +116,7 @@ fn stored() -> Vec<(PathBuf, String)> {
         fs::read_dir(&data).expect("the stored books").map(|entry| entry.expect("a name").path()).collect();
     paths.retain(|path| path.extension().is_some_and(|end| end == "book"));
     paths.sort();
-    assert!(paths.len() >= 82, "{} books", paths.len());
+    assert!(paths.len() >= 140, "{} books", paths.len());
     let read = |path: PathBuf| (path.clone(), fs::read_to_string(path).expect("a stored book"));
     paths.into_iter().map(read).collect()
 }
@@ -205,7 +209,8 @@ fn c_reads_rule_and_term_out_of_an_answer() {
     for (rule, term) in [(1, 1), (1, 8), (3, 2), (255, 8), (256, 1), (511, 7), (512, 1), (512, 8)] {
         cases.push((1 | 15 << 8 | (256 * rule + term) << 16, format!("{rule} {term}\n")));
     }
-    let refused = (1..15).map(|number| 1 | number << 8 | if (2..=9).contains(&number) { 0x0301 << 16 } else { 0 });
+    let line = |number| if matches!(number, 2..=9 | 16 | 17) { 0x0301 << 16 } else { 0 };
+    let refused = (1..=17).filter(|&number| number != 15).map(|number| 1 | number << 8 | line(number));
     let others = [0, 2, 3 | 0x0301 << 16, 4, 5 | 0x0301 << 16, 6, 7];
     cases.extend(refused.chain(others).map(|answer: u64| (answer, "0 0\n".to_owned())));
     let (answers, lines): (Vec<u64>, Vec<String>) = cases.into_iter().unzip();
@@ -282,6 +287,36 @@ fn c_reads_every_bit_of_a_page() {
         text.push('\n');
     }
     assert_eq!(String::from_utf8_lossy(&ran.stdout), text);
+}
+
+/// A "not" book with a second rule for a value, one asked by mode 01, and a good one, whose page is refused.
+#[test]
+fn c_says_16_and_17_in_words() {
+    let book = |more: &str, query: &str| format!("0101000102\n030100000001810001\n{more}{query}\n");
+    let at_least = "05030000010100000100000000";
+    let beyond = (book("030101000000\n", at_least), Refusal::BeyondNot { line: 4 });
+    let wrong = (book("", "050100000101000001"), Refusal::WrongMode { line: 3 });
+    let good = book("", at_least);
+    let path = Path::new(env!("CARGO_TARGET_TMPDIR")).join("not");
+    let run = |text: &str, operation: &str| {
+        fs::write(&path, text).expect("the book is written");
+        let mut command = Command::new(program());
+        match operation {
+            "page" => command.arg("--page").arg(&path),
+            "open" => command.arg(&path).arg("0100000000"),
+            _ => command.arg(&path),
+        };
+        command.output().expect("the example runs")
+    };
+    for (text, refusal) in [&beyond, &wrong] {
+        for operation in ["plan", "open", "page"] {
+            compare(text, operation, Err(*refusal), &run(text, operation));
+        }
+    }
+    compare(&good, "page", Err(Refusal::WrongMode { line: 3 }), &run(&good, "page"));
+    let ran = run(&good, "plan");
+    assert_eq!(ran.stdout, said(&good).expect("an accepted book").as_bytes());
+    assert!(ran.stdout.starts_with(b"plan of 1\n0100000000\n"));
 }
 
 #[test]

@@ -145,8 +145,9 @@ fn tried(book: &[u8]) -> BTreeSet<Seen> {
     seen
 }
 
-/// An edge, facts, rules with terms, and a query by roles: the first two examples of docs/BOOK.md, in either mode, and a
-/// depot of sixteen persons, crews and values, where most numbers may have any low digit.
+/// An edge, facts, rules with terms, and a query by roles: the first two examples of docs/BOOK.md, in modes 01 and 02, a
+/// depot of sixteen persons, crews and values, where most numbers may have any low digit, and one with "not" terms, in
+/// mode 03. With 8 as its high digit a term 01 becomes a "not" term, and with 3 as its low one mode 02 becomes mode 03.
 #[test]
 fn every_byte_at_every_place() {
     let at_least = "010202020310\n020100\n0401000000\n0402000001\n030501010001010000\n030102000201020001\n\
@@ -155,7 +156,14 @@ fn every_byte_at_every_place() {
                    030601010001030100\n05020000060100000000000000\n";
     let sixteen = "011010081010101010101010\n020F0E\n04010B070C\n04020E0309\n03050A0F000101070C\n03010D060B01020309\n\
                    05010B240001060800\n";
-    let books = [(at_least, &[2, 3, 4, 5, 6][..]), (exactly, &[2, 3, 4, 5, 6, 7]), (sixteen, &[2, 3, 4, 5, 6])];
+    let directly = "010202020302\n020100\n0401000000\n0403010000\n030500010002010001830000\n030500000001030100\n\
+                    030100000102010000810100\n030302010001810001\n05030000010100000200000003\n";
+    let books = [
+        (at_least, &[2, 3, 4, 5, 6, 16][..]),
+        (exactly, &[2, 3, 4, 5, 6, 7, 16, 17]),
+        (sixteen, &[2, 3, 4, 5, 6, 16]),
+        (directly, &[2, 3, 4, 5, 6, 7, 16, 17]),
+    ];
     for (book, refusals) in books {
         let seen = tried(book.as_bytes());
         assert!(seen.contains(&Seen::Plan) && seen.contains(&Seen::NoWay));

@@ -14,6 +14,9 @@
 //!
 //! Every book has its page filled, over a pattern, and so has every book with one bit changed: all 1,024 bytes are
 //! compared. Each run counts the bits, and wants half of what was measured: [`PAGES`].
+//!
+//! Runs of their own draw books that only grow, with "not" terms and mode 03, which have no page. They count what rests on
+//! a "not" term. 16 and 17 fall in every run.
 
 use std::env;
 use std::fs;
@@ -26,7 +29,7 @@ use bixorgun::{
     VIEW_SIZE,
 };
 use reference::book::{Mode, Sizes};
-use reference::gen::{self, Draft, Rng};
+use reference::gen::{self, Draft, Limit, Rng};
 use reference::plan::{closure, demand};
 use reference::replay::Verdict;
 use reference::{book, ledger, page, plan, replay};
@@ -60,7 +63,7 @@ const ANSWERS: [&str; 11] = [
 #[derive(Default)]
 struct Counts {
     books: usize,
-    refusals: [[usize; 16]; OPERATIONS.len()],
+    refusals: [[usize; 18]; OPERATIONS.len()],
     answers: [usize; ANSWERS.len()],
     bits: usize,
     requests: usize,
@@ -68,6 +71,7 @@ struct Counts {
     ladders: Ladders,
     ranges: Ranges,
     pages: Pages,
+    nots: Nots,
     /// Of requests as they were drawn, and of those where one bit of the ledger and of the book is another.
     matches: Matches,
     bent_ledgers: Matches,
@@ -79,9 +83,9 @@ struct Counts {
 #[derive(Default)]
 struct Matches {
     no_rule: usize,
-    /// 15, by the request's op, 01 to 06, and by the kind of the unmet term, 01 to 05.
+    /// 15, by the request's op, 01 to 06, and by the kind of the unmet term, 01 to 05, 81 and 83.
     unmet_by_op: [usize; 6],
-    unmet_by_kind: [usize; 5],
+    unmet_by_kind: [usize; 7],
     /// 15 with a rule that is not the book's first, and with a term that is not the rule's first.
     later_rule: usize,
     later_term: usize,
@@ -113,7 +117,7 @@ impl Matches {
             Err(ledger::Refusal::UnmetTerm { rule, term }) => {
                 let unmet = book.rules[usize::from(rule) - 1].terms[usize::from(term) - 1];
                 self.unmet_by_op[usize::from(book::op(request.way, request.fact.what())) - 1] += 1;
-                self.unmet_by_kind[kind(unmet) - 1] += 1;
+                self.unmet_by_kind[kind(unmet)] += 1;
                 self.later_rule += usize::from(rule > 1);
                 self.later_term += usize::from(term > 1);
                 self.several += usize::from(trials.len() > 1);
@@ -159,14 +163,114 @@ impl Matches {
     }
 }
 
-/// The number of a term's kind.
+/// The place of a term's kind among 01 to 05, 81 and 83.
 fn kind(term: book::Term) -> usize {
     match term {
-        book::Term::Holds(..) => 1,
-        book::Term::EffectivelyHolds(..) => 2,
-        book::Term::In(_) => 3,
-        book::Term::EffectivelyIn(_) => 4,
-        book::Term::Ladder(..) => 5,
+        book::Term::Holds(..) => 0,
+        book::Term::EffectivelyHolds(..) => 1,
+        book::Term::In(_) => 2,
+        book::Term::EffectivelyIn(_) => 3,
+        book::Term::Ladder(..) => 4,
+        book::Term::NotHolds(..) => 5,
+        book::Term::NotIn(_) => 6,
+    }
+}
+
+/// The ops of a book that only grows.
+const GROWING_OPS: [u8; 3] = [1, 3, 5];
+
+/// What rests on "not" terms, in accepted books that have one. Against one: without the "not" terms the answer is another.
+#[derive(Default)]
+struct Nots {
+    books: usize,
+    /// By op, 01, 03 and 05: requests done by a rule with a "not" term, and refused against one.
+    requests_by: [usize; 3],
+    requests_against: [usize; 3],
+    plans: usize,
+    no_ways: usize,
+    no_ways_against: usize,
+    lists_against: usize,
+    /// Books that are refused by 16, and by 17 for mode 03 without a "not" term and for another mode with one.
+    refused_by_16: usize,
+    refused_by_17: [usize; 2],
+    /// Pages refused by 17 of books that the other operations accept.
+    pages: usize,
+}
+
+impl Nots {
+    fn counts(&self) -> [(&'static str, usize); 13] {
+        let [by_1, by_3, by_5] = self.requests_by;
+        let [against_1, against_3, against_5] = self.requests_against;
+        [
+            ("books", self.books),
+            ("requests done, op 01", by_1),
+            ("op 03", by_3),
+            ("op 05", by_5),
+            ("requests refused against one, op 01", against_1),
+            ("op 03", against_3),
+            ("op 05", against_5),
+            ("plans", self.plans),
+            ("no ways", self.no_ways),
+            ("no ways against one", self.no_ways_against),
+            ("lists against one", self.lists_against),
+            ("refused by 16", self.refused_by_16),
+            ("pages refused by 17", self.pages),
+        ]
+    }
+
+    fn print(&self) {
+        let counts = self.counts().map(|(name, times)| format!("{name}: {times}"));
+        println!("  \"not\" terms, {}, refused by 17: {:?}", counts.join(", "), self.refused_by_17);
+    }
+
+    fn all_seen(&self, least: usize) {
+        for (name, times) in self.counts() {
+            assert!(times >= least, "\"not\" terms, {name}: {times}");
+        }
+        assert!(self.refused_by_17[1] >= least, "17: {:?}", self.refused_by_17);
+    }
+
+    /// A refused book. With its query's mode, which one digit of the last line tells, 17 is for either.
+    fn refused(&mut self, text: &[u8], refusal: book::Refusal) {
+        match refusal.number() {
+            16 => self.refused_by_16 += 1,
+            17 => self.refused_by_17[usize::from(frame(text, refusal.line)[1] != 3)] += 1,
+            _ => {}
+        }
+    }
+
+    /// A request on an accepted book with a "not" term.
+    fn request(&mut self, book: &book::Book, ledger: &[u8], request: &[u8]) {
+        let sizes = &book.sizes;
+        let ledger = ledger::Ledger::from_bytes(sizes, ledger);
+        let Some((ledger, request)) = ledger.zip(ledger::Request::from_bytes(sizes, request)) else { return };
+        let op = book::op(request.way, request.fact.what());
+        let Some(at) = GROWING_OPS.iter().position(|&other| other == op) else { return };
+        let is_for =
+            |rule: &&book::Rule| (rule.role, rule.way, rule.what) == (request.role, request.way, request.fact.what());
+        if ledger::Depot::new(book).permits(&ledger, &request) {
+            self.requests_by[at] += usize::from(book.rules.iter().find(is_for).is_some_and(book::Rule::has_not));
+        } else {
+            let dropped = book.nots_dropped();
+            self.requests_against[at] += usize::from(ledger::Depot::new(&dropped).permits(&ledger, &request));
+        }
+    }
+
+    fn plan(&mut self, book: &book::Book, planned: Option<Planned>) {
+        match planned {
+            Some(Planned::Plan(_)) => self.plans += 1,
+            Some(Planned::NoWay) => {
+                self.no_ways += 1;
+                self.no_ways_against += usize::from(closure::plan(&book.nots_dropped()).is_some());
+            }
+            None => {}
+        }
+    }
+
+    /// Any list of whole requests.
+    fn replay(&mut self, book: &book::Book, list: &[u8]) {
+        let verdict = |book| replay::judge(book, list, |_, _| ());
+        self.lists_against += usize::from(verdict(book) != verdict(&book.nots_dropped()));
     }
 }
 
@@ -268,7 +372,8 @@ const FIRST_LINES: [&str; 13] = [
     "5, a count over 16",
 ];
 
-const PLACES: [&str; 7] = ["rule", "term 01", "term 02", "term 05", "person's fact", "crew's fact", "query's set"];
+const PLACES: [&str; 8] =
+    ["rule", "term 01", "term 02", "term 05", "term 81", "person's fact", "crew's fact", "query's set"];
 
 /// What rests on each attribute's own count. A value is a neighbour's when its own attribute has it not, but another
 /// attribute of the book has: were the highest count that of all, nothing would be refused. The answers here are the
@@ -431,16 +536,20 @@ fn places(frame: &[u8], sizes: &Sizes) -> [bool; PLACES.len()] {
     match *frame {
         [3, op, _, a, v, _, ref terms @ ..] => {
             let term = |kind| terms.chunks_exact(3).any(|term| term[0] == kind && neighbours(term[1], term[2]));
-            [(1..=4).contains(&op) && neighbours(a, v), term(1), term(2), term(5), false, false, false]
+            let own = (1..=4).contains(&op) && neighbours(a, v);
+            [own, term(1), term(2), term(5), term(0x81), false, false, false]
         }
-        [4, k, _, a, v] => [false, false, false, false, k == 1 && neighbours(a, v), k == 2 && neighbours(a, v), false],
+        [4, k, _, a, v] => {
+            let [person, crew] = [1, 2].map(|of| k == of && neighbours(a, v));
+            [false, false, false, false, false, person, crew, false]
+        }
         [5, _, _, _, _, q, ref rest @ ..] => {
             let mut sets = rest.chunks_exact(3).take(q.into());
             let outside = sets.any(|of| {
                 let (attr, set) = (book::Attr(of[0]), u16::from_be_bytes([of[1], of[2]]));
                 set & !sizes.all_values(attr) & wide.all_values(attr) != 0
             });
-            [false, false, false, false, false, false, outside]
+            [false, false, false, false, false, false, false, outside]
         }
         _ => [false; PLACES.len()],
     }
@@ -459,17 +568,23 @@ fn neighbours_bits(sizes: &Sizes, bytes: &[u8]) -> Option<[bool; 2]> {
 }
 
 /// What each run measured of [`Counts::page_counts`].
-const PAGES: [(&str, [usize; 12]); 10] = [
-    ("small", [39_451, 2_686, 219_020, 67_706, 73_402, 38_026, 64_563, 27_443, 5_672, 6_228, 28_255, 2_242]),
-    ("small and aimed", [26_154, 1_730, 147_140, 44_594, 48_712, 30_405, 36_778, 26_154, 1_827, 4_806, 18_440, 1_442]),
-    ("middle", [9_533, 748, 55_098, 16_843, 85_026, 52_254, 67_999, 6_643, 2_797, 4_593, 7_310, 622]),
-    ("tangled", [3_158, 246, 18_536, 5_532, 461, 12_858, 3_113, 3_158, 497, 0, 2_374, 87]),
-    ("zigzags", [3_144, 232, 17_428, 6_076, 395, 56_556, 14_566, 3_144, 679, 0, 2_932, 1_364]),
-    ("graded", [6_188, 554, 35_142, 12_055, 1_603, 9_892, 147_947, 3_729, 2_342, 0, 5_867, 715]),
-    ("crowded", [6_384, 490, 37_480, 10_844, 26_739, 1_633, 37_939, 4_403, 512, 540, 4_460, 367]),
-    ("staffed", [2_466, 208, 14_662, 4_501, 145_952, 304_258, 474_130, 1_949, 989, 2_044, 2_035, 685]),
-    ("large", [405, 24, 2_002, 765, 374_403, 448_072, 308_384, 356, 109, 358, 360, 47]),
-    ("stored", [830, 32, 10_512, 1_724, 179_105, 101_400, 642_345, 330, 99, 160, 894, 131]),
+const PAGES: [(&str, [usize; 14]); 10] = [
+    (
+        "small",
+        [36_981, 2_662, 221_612, 63_423, 2_864, 3_018, 68_701, 35_689, 60_550, 25_736, 5_320, 5_856, 26_442, 2_088],
+    ),
+    (
+        "small and aimed",
+        [24_553, 1_868, 148_570, 41_825, 1_920, 2_000, 45_682, 28_644, 34_449, 24_553, 1_727, 4_510, 17_272, 1_365],
+    ),
+    ("middle", [8_931, 744, 55_686, 15_811, 734, 722, 79_915, 48_622, 63_920, 6_229, 2_637, 4_277, 6_880, 587]),
+    ("tangled", [2_943, 268, 18_768, 5_153, 266, 272, 442, 12_006, 2_877, 2_943, 464, 0, 2_210, 75]),
+    ("zigzags", [2_925, 242, 17_782, 5_670, 258, 192, 367, 52_712, 13_545, 2_925, 633, 0, 2_745, 1_266]),
+    ("graded", [5_784, 592, 35_614, 11_280, 508, 486, 1_498, 9_250, 138_150, 3_476, 2_178, 0, 5_496, 662]),
+    ("crowded", [6_011, 488, 37_552, 10_236, 506, 534, 25_145, 1_524, 35_797, 4_169, 478, 509, 4_225, 345]),
+    ("staffed", [2_291, 214, 14_874, 4_178, 222, 232, 134_367, 282_134, 438_231, 1_811, 917, 1_896, 1_887, 638]),
+    ("large", [383, 28, 2_014, 730, 36, 38, 358_260, 423_243, 292_523, 335, 105, 340, 347, 47]),
+    ("stored", [830, 58, 14_012, 1_701, 372, 1_610, 179_105, 101_400, 642_345, 330, 102, 160, 871, 129]),
 ];
 
 /// What the pages of accepted books have. The pages here are the library's; the reference's have been seen to be the
@@ -575,11 +690,11 @@ impl Counts {
     fn print(&self, run: &str) {
         println!("{run}: {} books", self.books);
         for (operation, numbers) in OPERATIONS.iter().zip(&self.refusals) {
-            let seen: Vec<_> = (1..16).filter(|&n| numbers[n] > 0).map(|n| format!("{n}: {}", numbers[n])).collect();
+            let seen: Vec<_> = (1..18).filter(|&n| numbers[n] > 0).map(|n| format!("{n}: {}", numbers[n])).collect();
             println!("  {operation:8} refused by {}", seen.join(", "));
         }
         let total: Vec<_> =
-            (1..16).map(|n| format!("{n}: {}", self.refusals.iter().map(|of| of[n]).sum::<usize>())).collect();
+            (1..18).map(|n| format!("{n}: {}", self.refusals.iter().map(|of| of[n]).sum::<usize>())).collect();
         println!("  refusals in all {}", total.join(", "));
         let answers: Vec<_> =
             ANSWERS.iter().zip(self.answers).map(|(name, times)| format!("{name}: {times}")).collect();
@@ -594,13 +709,15 @@ impl Counts {
     }
 
     /// What came of page.
-    fn page_counts(&self) -> [(&'static str, usize); 12] {
+    fn page_counts(&self) -> [(&'static str, usize); 14] {
         let (pages, refusals) = (&self.pages, &self.refusals[PAGE]);
         [
             ("given", pages.given),
             ("the fewest of 1 to 9", *refusals[1..10].iter().min().expect("nine refusals")),
             ("1 to 9", refusals[1..10].iter().sum()),
             ("10", refusals[10]),
+            ("16", refusals[16]),
+            ("17", refusals[17]),
             ("bits set at the start", pages.start),
             ("bits set by requests", pages.gained),
             ("bits clear", pages.clear),
@@ -624,28 +741,45 @@ impl Counts {
         }
     }
 
-    /// Every refusal that the header gives an operation was seen, and no other; every answer was seen.
-    fn all_seen(&self) {
+    /// Every refusal that the header gives an operation was seen, and no other; every answer was seen. Where all books that
+    /// are drawn have a "not" term, a page, and 10 for one, need not be there.
+    fn all_seen(&self, growing: bool) {
         let own: [&[usize]; OPERATIONS.len()] = [&[11], &[11, 12, 13, 15], &[11, 12], &[10], &[14], &[10]];
-        for ((operation, numbers), own) in OPERATIONS.iter().zip(&self.refusals).zip(own) {
+        for (at, ((operation, numbers), own)) in OPERATIONS.iter().zip(&self.refusals).zip(own).enumerate() {
             for (n, &times) in numbers.iter().enumerate() {
-                let expected = (1..10).contains(&n) || own.contains(&n);
-                assert_eq!(times > 0, expected, "{operation}, refusal {n}: seen {times} times");
+                let expected = matches!(n, 1..10 | 16 | 17) || own.contains(&n);
+                let left_open = growing && (at, n) == (PAGE, 10);
+                assert!(left_open || (times > 0) == expected, "{operation}, refusal {n}: seen {times} times");
             }
         }
         for (name, times) in ANSWERS.iter().zip(self.answers) {
-            assert!(times > 0, "{name}: never seen");
+            assert!(times > 0 || growing && *name == "page done", "{name}: never seen");
         }
         assert!(self.bits > 0);
     }
 
-    /// With one bit of a ledger or of a book changed, 13 and 15 were seen in every way, an unmet term of every kind,
-    /// and another answer than before.
+    /// With one bit of a ledger or of a book changed, 13 and 15 were seen in every way, an unmet term of every kind from 01
+    /// to 05, and another answer than before.
     fn bent_seen(&self, least: usize) {
         for (of, matches) in [("a ledger's bit", &self.bent_ledgers), ("a book's bit", &self.bent_books)] {
             matches.all_seen(of, least);
-            assert!(matches.unmet_by_kind.iter().all(|&times| times >= least), "{of}: {:?}", matches.unmet_by_kind);
+            let kinds = &matches.unmet_by_kind[..5];
+            assert!(kinds.iter().all(|&times| times >= least), "{of}: {kinds:?}");
             assert!(matches.another >= least, "{of}: {}", matches.another);
+        }
+    }
+
+    /// Where books only grow: of 13 and 15, on whole books and ledgers and on such with one bit changed, all that such books
+    /// can have, an unmet term of each of their kinds, and another answer by that bit.
+    fn growing_seen(&self, least: usize) {
+        let bent = [("a ledger's bit", &self.bent_ledgers), ("a book's bit", &self.bent_books)];
+        for (of, matches) in [("requests", &self.matches)].into_iter().chain(bent) {
+            let Matches { no_rule, later_rule, later_term, unmet_by_op, unmet_by_kind, another, .. } = *matches;
+            let by_op = GROWING_OPS.map(|op| unmet_by_op[usize::from(op) - 1]);
+            let by_kind = [0, 2, 5, 6].map(|kind| unmet_by_kind[kind]);
+            let seen = [&[no_rule, later_rule, later_term][..], &by_op, &by_kind].concat();
+            assert!(seen.iter().all(|&times| times >= least), "{of}: {seen:?}");
+            assert!(of == "requests" || another >= least, "{of}: {another}");
         }
     }
 }
@@ -982,9 +1116,12 @@ fn operate(case: &Case, sizes: Sizes, rng: &mut Rng, counts: &mut Counts) {
         Err(refusal) => {
             counts.ladders.refused(&case.text, *refusal, sizes);
             counts.ranges.refused(&case.text, *refusal, &sizes);
+            counts.nots.refused(&case.text, *refusal);
         }
     }
     let book = book.ok();
+    let growing = book.as_ref().filter(|book| book.has_not());
+    counts.nots.books += usize::from(growing.is_some());
     let sizes = book.as_ref().map_or(sizes, |book| book.sizes);
     let twins = book.as_ref().and_then(|book| Twins::of(book, &mut counts.ladders));
 
@@ -1015,6 +1152,9 @@ fn operate(case: &Case, sizes: Sizes, rng: &mut Rng, counts: &mut Counts) {
         if let Some(twins) = &twins {
             twins.request(&before, &request, &mut counts.ladders);
         }
+        if let Some(book) = growing {
+            counts.nots.request(book, &before, &request);
+        }
     }
     let person = if rng.percent(85) { rng.byte(0, sizes.persons - 1) } else { rng.pick(&[sizes.persons, 64, 255]) };
     let room = if rng.percent(80) { VIEW_SIZE + rng.below(4) } else { rng.below(VIEW_SIZE) };
@@ -1043,6 +1183,9 @@ fn operate(case: &Case, sizes: Sizes, rng: &mut Rng, counts: &mut Counts) {
     if let Some(twins) = twins.as_ref().filter(|_| length >= need) {
         twins.plan(&mut counts.ladders);
     }
+    if let Some(book) = growing {
+        counts.nots.plan(book, planned);
+    }
 
     let list = match &book {
         Some(book) => gen::list(rng, book),
@@ -1052,9 +1195,14 @@ fn operate(case: &Case, sizes: Sizes, rng: &mut Rng, counts: &mut Counts) {
     if let Some(twins) = twins.filter(|_| list.len().is_multiple_of(5)) {
         twins.replay(&list, &mut counts.ladders);
     }
+    if let Some(book) = growing.filter(|_| list.len().is_multiple_of(5)) {
+        counts.nots.replay(book, &list);
+    }
 
+    // A book with a "not" term has no page.
     let table = case.pages(rng, counts);
-    assert_eq!(table.is_some(), book.is_some());
+    assert_eq!(table.is_some(), book.is_some() && growing.is_none());
+    counts.nots.pages += usize::from(growing.is_some());
     if let Some((book, table)) = book.as_ref().zip(table) {
         counts.pages.given(&case.text, book, &table, planned == Some(Planned::NoWay));
     }
@@ -1072,9 +1220,12 @@ fn shift() -> u64 {
     }
 }
 
-/// So many cases: most are good books, some are damaged by each of 1 to 9, some by noise, some by a neighbour's value and
-/// some in their first line.
-fn run(name: &'static str, first: u64, cases: u64, draw: impl Fn(&mut Rng) -> Draft) -> Counts {
+/// The refusals of a book.
+const OF_BOOKS: [u8; 11] = [1, 2, 3, 4, 5, 6, 7, 8, 9, 16, 17];
+
+/// So many cases: most are good books, some are damaged by each of 1 to 9, 16 and 17, some by noise, some by a neighbour's
+/// value and some in their first line.
+fn cases(name: &'static str, first: u64, cases: u64, draw: impl Fn(&mut Rng) -> Draft) -> Counts {
     let mut counts = Counts::default();
     let first = first + shift();
     for seed in first..first + cases {
@@ -1083,12 +1234,12 @@ fn run(name: &'static str, first: u64, cases: u64, draw: impl Fn(&mut Rng) -> Dr
         let mut case = Case { run: name, seed, text: draft.text() };
         let kind = rng.below(100);
         let (number, damaged) = match kind {
-            0..18 => {
-                let number = (kind % 9 + 1) as u8;
+            0..22 => {
+                let number = OF_BOOKS[kind % OF_BOOKS.len()];
                 (number, gen::damaged_book(&mut rng, number, &draft))
             }
-            18..25 => (5, gen::neighbours_book(&mut rng, &draft)),
-            25..31 => {
+            22..29 => (5, gen::neighbours_book(&mut rng, &draft)),
+            29..35 => {
                 let (number, first) = if rng.percent(50) {
                     (4, gen::bad_counts(&mut rng, &draft.sizes))
                 } else {
@@ -1116,10 +1267,29 @@ fn run(name: &'static str, first: u64, cases: u64, draw: impl Fn(&mut Rng) -> Dr
     counts.print_matches();
     counts.ranges.print();
     counts.print_pages();
-    counts.all_seen();
-    counts.matches.all_seen("requests", cases as usize / 200);
-    counts.ranges.all_seen(cases as usize / 1_000);
+    counts.nots.print();
+    counts
+}
+
+/// Cases of books without a "not" term, but for the damaged ones.
+fn run(name: &'static str, first: u64, number: u64, draw: impl Fn(&mut Rng) -> Draft) -> Counts {
+    let counts = cases(name, first, number, draw);
+    counts.all_seen(false);
+    counts.matches.all_seen("requests", number as usize / 200);
+    counts.ranges.all_seen(number as usize / 1_000);
     counts.pages_seen(name);
+    let Nots { refused_by_16, refused_by_17, .. } = counts.nots;
+    assert!(refused_by_16.min(refused_by_17[0]) >= number as usize / 100, "{refused_by_16}, {refused_by_17:?}");
+    counts
+}
+
+/// Cases of books that only grow, with "not" terms.
+fn run_growing(name: &'static str, first: u64, number: u64, draw: impl Fn(&mut Rng) -> Draft) -> Counts {
+    let counts = cases(name, first, number, draw);
+    counts.all_seen(true);
+    counts.growing_seen(number as usize / 1_000);
+    counts.ranges.all_seen(number as usize / 1_000);
+    counts.nots.all_seen(number as usize / 500);
     counts
 }
 
@@ -1192,6 +1362,59 @@ fn staffed() {
 }
 
 #[test]
+fn growing_small() {
+    run_growing("growing, small", 0x0B1C_B000_0000, 20_000, gen::small_not_book);
+}
+
+#[test]
+fn growing_middle() {
+    run_growing("growing, middle", 0x0B1C_C000_0000, 6_000, gen::middle_not_book);
+}
+
+#[test]
+fn growing_large() {
+    let counts = run_growing("growing, large", 0x0B1C_D000_0000, 400, gen::large_not_book);
+    assert!(counts.longest > 100, "{}", counts.longest);
+}
+
+/// Books that go beyond one limit alone, and those with the wrong mode as well: 16 falls, and where the limit is kept and
+/// the mode is wrong 17.
+#[test]
+fn beyond_each_limit() {
+    let mut counts = Counts::default();
+    let first = 0x0B1C_E000_0000 + shift();
+    for seed in first..first + 2_000 {
+        let mut rng = Rng::new(seed);
+        let whole = gen::small_not_book(&mut rng);
+        for limit in Limit::ALL.map(Some).into_iter().chain([None]) {
+            let mut draft = whole.clone();
+            if let Some(limit) = limit {
+                gen::break_limit(&mut rng, &mut draft, limit);
+            }
+            if limit.is_none() || rng.percent(50) {
+                gen::wrong_mode(&mut rng, &mut draft);
+            }
+            counts.books += 1;
+            let case = Case { run: "limits", seed, text: draft.text() };
+            let number = if limit.is_some() { 16 } else { 17 };
+            let told = Turned { line: Some(draft.frames.len()), ..Turned::lone(number) };
+            assert_eq!(Book::new(&case.text).open().map_err(ours), Err(told), "{limit:?}");
+            // What is lent is bad too.
+            case.open(&filled(&mut rng, 7), &mut counts);
+            case.request(&filled(&mut rng, 7), &[7], &mut counts);
+            case.show(&filled(&mut rng, 7), 255, 3, &mut rng, &mut counts);
+            case.plan(7, &mut rng, &mut counts);
+            case.replay(&filled(&mut rng, 7), &mut counts);
+            case.pages(&mut rng, &mut counts);
+        }
+    }
+    counts.print("limits");
+    for (operation, numbers) in OPERATIONS.iter().zip(&counts.refusals) {
+        assert!(numbers[16] >= 8_000 && numbers[17] >= 2_000, "{operation}: {numbers:?}");
+    }
+}
+
+#[test]
 fn large() {
     let Counts { ladders, matches, ranges, .. } = run("large", 0x0B1C_5000_0000, 600, |rng| {
         let mut draft = gen::large_book(rng);
@@ -1215,7 +1438,7 @@ fn large() {
 fn long_line(rng: &mut Rng) -> Vec<u8> {
     let mut frame: Vec<u8> = (0..6).map(|_| rng.below(7) as u8).collect();
     frame[5] = 16 + rng.below(8) as u8;
-    let crews = if frame[0] == 5 && frame[1] == 2 { 4 } else { 0 };
+    let crews = if frame[0] == 5 && matches!(frame[1], 2 | 3) { 4 } else { 0 };
     let due = if frame[0] == 1 {
         frame[3] = if rng.percent(80) { 56 + rng.below(10) } else { 66 + rng.below(190) } as u8;
         4 + usize::from(frame[3])
@@ -1287,7 +1510,10 @@ fn stored() {
     counts.print_matches();
     counts.ranges.print();
     counts.print_pages();
-    counts.all_seen();
+    counts.nots.print();
+    counts.all_seen(false);
+    counts.nots.all_seen(1);
+    assert!(counts.nots.refused_by_17[0] > 0);
     counts.matches.all_seen("requests", 1);
     counts.pages_seen("stored");
     assert!(counts.books > 1_000);

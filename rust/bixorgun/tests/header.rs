@@ -68,9 +68,11 @@ fn the_refusals_are_the_same_in_c_and_rust() {
         ("NO_RULE", Refusal::NoRule),
         ("BAD_PLAN_LENGTH", Refusal::BadPlanLength),
         ("UNMET_TERM", Refusal::UnmetTerm { rule: 1, term: 1 }),
+        ("BEYOND_NOT", Refusal::BeyondNot { line }),
+        ("WRONG_MODE", Refusal::WrongMode { line }),
     ];
     for (name, refusal) in refusals {
         assert_eq!(header[name], refusal.number().to_string(), "{name}");
     }
-    assert!(refusals.iter().map(|(_, refusal)| refusal.number()).eq(1..=15));
+    assert!(refusals.iter().map(|(_, refusal)| refusal.number()).eq(1..=17));
 }

@@ -1,9 +1,12 @@
 //! Plans of thousands of requests at the largest sizes, each carried out request by request and replayed whole and
 //! damaged. What replay must answer to a damaged plan is found by request and show. The pages of the same books, whose
-//! bits follow from how they are made.
+//! bits follow from how they are made. And the largest book with "not" terms, whose plan is one of a kind.
 
 mod seed;
 mod trials;
+
+use std::fs;
+use std::path::PathBuf;
 
 use bixorgun::bytes::{self, Planned};
 use bixorgun::{Judgement, PAGE_SIZE, PLAN_MAX};
@@ -379,4 +382,51 @@ fn pages_of_rows_that_stop() {
         }
         println!("{name}, {} pages: {bits} bits", row.len());
     }
+}
+
+/// The request for a place in the row of one person's facts: the values of attribute 0, 1, .. 7, then the crews.
+fn own_fact(place: u8) -> [u8; 5] {
+    match place.checked_sub(128) {
+        None => [1, 15, 63, place / 16, place % 16],
+        Some(crew) => [5, 15, 63, crew, 0],
+    }
+}
+
+/// The stored book in which each of a person's 160 facts bars the eight before it, as far as there are so many, and the
+/// first eight their own: the facts come from the last to the first and in no other order. Two neighbours swapped stop at
+/// the second, since it bars the first. Without one of them no other is barred and the query is not met. A second time is
+/// permitted, and changes nothing, but for the first eight.
+#[test]
+fn the_longest_plan_of_a_book_that_only_grows() {
+    let stored = |name| {
+        let path: PathBuf = [env!("CARGO_MANIFEST_DIR"), "..", "..", "crates", "books", "data", name].iter().collect();
+        fs::read(path).expect("a stored book")
+    };
+    let book = stored("grow-worst.book");
+    let mut out = vec![0xA5; PLAN_MAX];
+    assert_eq!(bytes::plan_into(&book, &mut out), Ok(Planned::Plan(160)));
+    let plan: Vec<[u8; 5]> = (0..160).rev().map(own_fact).collect();
+    assert_eq!(out[..800], plan.concat());
+    assert!(out[800..].iter().all(|&byte| byte == 0xA5));
+    let judged = |list: &[[u8; 5]]| bytes::replay(&book, &list.concat()).expect("a good book");
+    assert_eq!(judged(&plan), Judgement::Reaches);
+    for at in 0..160 {
+        let mut list = plan.clone();
+        list.remove(at);
+        assert_eq!(judged(&list), Judgement::EndsShort, "without request {at}");
+        list.insert(at, plan[at]);
+        list.insert(at, plan[at]);
+        let expected = if at < 152 { Judgement::Reaches } else { Judgement::Stops(at + 2) };
+        assert_eq!(judged(&list), expected, "request {at} twice");
+        if at < 159 {
+            let mut list = plan.clone();
+            list.swap(at, at + 1);
+            assert_eq!(judged(&list), Judgement::Stops(at + 2), "request {at} and the next swapped");
+        }
+    }
+    // Where the first fact bars the second too, neither can be the later one: no way, and not a byte is written.
+    let book = stored("grow-worst-no.book");
+    out.fill(0xA5);
+    assert_eq!(bytes::plan_into(&book, &mut out), Ok(Planned::NoWay));
+    assert!(out.iter().all(|&byte| byte == 0xA5));
 }

@@ -137,5 +137,5 @@ fn every_run_is_named() {
     let stored: BTreeSet<String> =
         entries.map(|entry| entry.expect("an entry").file_name().into_string().expect("a name")).collect();
     assert_eq!(named, stored);
-    assert_eq!(names.lines().count(), 72);
+    assert_eq!(names.lines().count(), 81);
 }

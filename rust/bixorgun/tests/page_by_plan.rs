@@ -316,7 +316,8 @@ fn large_depots() {
     assert!(tally.clear_by_ladders > 250 && tally.clear_by_roles > 4_000);
 }
 
-/// The repository's stored books that are accepted, by their names. Many stand there twice, and are taken once.
+/// The repository's stored books that are accepted, by their names, but for those with a "not" term, which have no page.
+/// Many stand there twice, and are taken once.
 fn stored() -> Vec<(String, Vec<u8>)> {
     let data: PathBuf = [env!("CARGO_MANIFEST_DIR"), "..", "..", "crates", "books", "data"].iter().collect();
     let entries = fs::read_dir(&data).unwrap_or_else(|error| panic!("{}: {error}", data.display()));
@@ -324,7 +325,8 @@ fn stored() -> Vec<(String, Vec<u8>)> {
     names.sort();
     let mut seen = BTreeSet::new();
     let read = |name| (fs::read(data.join(&name)).expect("a book's characters"), name);
-    let texts = names.into_iter().map(read).filter(|(text, _)| book::read(text).is_ok() && seen.insert(text.clone()));
+    let texts =
+        names.into_iter().map(read).filter(|(text, _)| book::read_for_page(text).is_ok() && seen.insert(text.clone()));
     texts.map(|(text, name)| (name.to_string_lossy().into_owned(), text)).collect()
 }
 

@@ -98,7 +98,7 @@ fn a_table_of_another_length_is_refused_behind_the_book() {
     for (name, expected) in sections(&answers) {
         let book = book(name);
         let expected = if expected.starts_with("refused ") { expected } else { "refused 10\n" };
-        for length in [0, 1_023, 1_025] {
+        for length in [0, 3, 1_023, 1_025] {
             for before in [vec![0; length], vec![0xFF; length], pattern(length)] {
                 let refusal = kept(&before, |table| bytes::page(&book, table).err());
                 assert_eq!(refused(refusal), expected, "page {name}, {length} bytes");
@@ -121,7 +121,7 @@ fn names_books_and_answers_are_in_step() {
     let files: BTreeSet<String> =
         entries.map(|entry| entry.expect("an entry").file_name().into_string().expect("a name")).collect();
     assert_eq!(own, files);
-    assert_eq!((names.len(), own.len()), (64, 43));
+    assert_eq!((names.len(), own.len()), (80, 47));
     let pages = text("PAGES.md");
     for name in names {
         assert!(pages.contains(&format!("\n| {name} |")), "{name} has its row in PAGES.md");

@@ -1,4 +1,5 @@
-//! The specification's example, D1 to D12, the sentences on the page, and the shapes of answers.
+//! The specification's example, D1 to D12, the sentences on the page and on books that only grow, and the shapes of
+//! answers.
 
 use bixorgun::bytes::{self, Planned, Shown};
 use bixorgun::{Act, Answer, Attr, Book, Crew, Judgement, Ledger, Page, Person, Plan, Refusal, Request, Role, Value};
@@ -296,6 +297,89 @@ fn a_page_iterates() {
     assert!(full.iter().all(|(person, attr, value)| full.reaches(person, attr, value)));
     let empty = page("0101000102\n050100FFFF00\n");
     assert_eq!((empty.iter().next(), format!("{empty:?}")), (None, "Page {}".to_owned()));
+}
+
+/// "may join customs if not in returns": anybody joins crew 0, and crew 1 who is not in crew 0. Attribute 0 has two values;
+/// 0 is for who lacks 1, and 1 for anybody.
+const GROWING: &str = "0101020102\n030500000000\n030500010001830000\n030100000001810001\n030100000100\n";
+
+/// A book that only grows, with these facts and a query of mode 03, by role 0: a set of values and a set of crews.
+fn growing(facts: &str, set: u16, crews: u32) -> String {
+    format!("{GROWING}{facts}05030000010100{set:04X}{crews:08X}\n")
+}
+
+/// "Plan and "no way" mean there what they mean elsewhere": what is barred comes before what bars it, or never.
+#[test]
+fn books_that_only_grow() {
+    let (zero, one) = ([1, 0, 0, 0, 0], [1, 0, 0, 0, 1]);
+    let (returns, customs) = ([5, 0, 0, 0, 0], [5, 0, 0, 1, 0]);
+    let book = growing("", 0b11, 0b11);
+    let mut plan = planned(&book).expect("a way");
+    let place = |plan: &[[u8; 5]], request| plan.iter().position(|&other| other == request);
+    assert!(place(&plan, customs) < place(&plan, returns) && place(&plan, zero) < place(&plan, one));
+    plan.sort_unstable();
+    assert_eq!(plan, [zero, one, returns, customs]);
+    assert_eq!(judged(&book, &[zero, one, customs, returns]), Judgement::Reaches);
+    assert_eq!(judged(&book, &[customs, zero, returns, one]), Judgement::Reaches);
+    assert_eq!(judged(&book, &[zero, one, returns, customs]), Judgement::Stops(4));
+    assert_eq!(judged(&book, &[one, zero, customs, returns]), Judgement::Stops(2));
+    assert_eq!(judged(&book, &[zero, one, customs]), Judgement::EndsShort);
+    assert_eq!(judged(&book, &[zero, [2, 0, 0, 0, 0]]), Judgement::Stops(2), "nothing is deleted");
+    assert_eq!(planned(&growing("0403000000\n", 0, 0b10)), None, "in returns");
+    assert_eq!(planned(&growing("0401000001\n", 0b01, 0)), None, "1 is held");
+}
+
+/// "the person must at least directly hold the named sets and directly be in the listed crews"
+#[test]
+fn mode_03_is_met_directly() {
+    // Crew 1 is above crew 0 and both hold both values; person 0 is in crew 1.
+    let inherited = "020100\n0402000000\n0402000001\n0402010000\n0402010001\n0403000100\n";
+    assert_eq!(judged(&growing(inherited, 0, 0b10), &[]), Judgement::Reaches);
+    assert_eq!(judged(&growing(inherited, 0, 0b01), &[]), Judgement::EndsShort);
+    assert_eq!(judged(&growing(inherited, 0b01, 0), &[]), Judgement::EndsShort);
+    // At least: more is allowed.
+    let held = "0401000000\n0401000001\n0403000000\n0403000100\n";
+    for (set, crews) in (0..4).flat_map(|set| (0..4).map(move |crews| (set, crews))) {
+        assert_eq!(judged(&growing(held, set, crews), &[]), Judgement::Reaches);
+        assert_eq!(planned(&growing(held, set, crews)), Some(Vec::new()));
+    }
+    // What is inherited bars nothing.
+    assert_eq!(planned(&growing(inherited, 0b01, 0)), Some(vec![[1, 0, 0, 0, 0]]));
+    assert_eq!(planned(&growing(&inherited.replace("0403000100", "0403000000"), 0, 0b10)), None);
+}
+
+/// The sentences on 16 and 17, on a book of one rule with a "not" term.
+#[test]
+fn a_book_with_not_has_limits() {
+    let not = "030100000001810001\n";
+    let (at_least, directly) = ("050100000100", "05030000010000000000");
+    let book = |rules: &str, query: &str| format!("0101010102\n{rules}{query}\n");
+    let numbers = |text: &str| {
+        let book = Book::new(text);
+        let told = |refusal: Refusal| (refusal.number(), refusal.line());
+        let plan = book.plan().err().map(told);
+        let others = [book.open().err(), book.replay([]).err()].map(|refusal| refusal.map(told));
+        assert_eq!(others, [plan, plan], "{text}");
+        (plan, book.page().err().map(told))
+    };
+    // "The page of Wish 5 refuses every book with a "not" term by 17."
+    assert_eq!(numbers(&book(not, directly)), (None, Some((17, Some(3)))));
+    // "mode 03 without a "not" term or another mode with one gets 17"
+    for text in [book(not, at_least), book("030100000000\n", directly)] {
+        assert_eq!(numbers(&text), (Some((17, Some(3))), Some((17, Some(3)))));
+    }
+    // "only ops 01, 03 and 05, at most one rule for each op, a and v, and only terms 01, 03, 81, 83"; "A rule given twice
+    // counts as two here."; "16 before 17"
+    let others = ["030200000100\n", "030101000000\n", not, "030100000101020000\n", "030500000001040000\n"];
+    for (other, query) in others.iter().flat_map(|other| [at_least, directly].map(|query| (other, query))) {
+        let text = book(&format!("{not}{other}"), query);
+        assert_eq!(numbers(&text), (Some((16, Some(4))), Some((16, Some(4)))), "{text}");
+    }
+    let good = ["030300000000\n", "030100000101010000\n", "030500000002030000830000\n"];
+    assert_eq!(numbers(&book(&format!("{not}{}", good.concat()), directly)), (None, Some((17, Some(6)))));
+    // "both only where no line has any of 1-9"
+    let unlisted = "05030000010000000002";
+    assert_eq!(numbers(&book(&format!("{not}{not}"), unlisted)), (Some((5, Some(4))), Some((5, Some(4)))));
 }
 
 #[test]

@@ -20,8 +20,9 @@ fn hex(bytes: &[u8]) -> String {
     bytes.iter().map(|byte| format!("{byte:02X}")).collect()
 }
 
-/// A query for nothing.
+/// A query for nothing, and that of mode 03, which a book with a "not" term has.
 const QUERY: &str = "050100FFFF00\n";
+const NOT_QUERY: &str = "050300FFFF0000000000\n";
 
 /// A book's first line, of so many persons and crews and these counts.
 fn sizes(persons: u8, crews: u8, counts: &[u8]) -> String {
@@ -48,7 +49,8 @@ fn numbers() -> impl Iterator<Item = [u8; 2]> {
     (0..=8).chain([255]).flat_map(|a| (0..=16).chain([255]).map(move |v| [a, v]))
 }
 
-/// What all six operations say of a book: its refusal, and what they were lent is as it was; or none of 1 to 9.
+/// What all six operations say of a book: its refusal, and what they were lent is as it was; or none of 1 to 9, 16 and 17,
+/// but for the page of a book of mode 03, which is 17.
 fn judged(text: &str) -> Result<(), Refusal> {
     let (book, any) = (text.as_bytes(), [1, 0, 0, 0, 0]);
     let opened = Book::new(text).open();
@@ -60,7 +62,9 @@ fn judged(text: &str) -> Result<(), Refusal> {
         ));
         assert!(bytes::show(book, &ledger, Person(0)).is_ok(), "{text}");
         assert!(Book::new(text).plan().is_ok() && bytes::replay(book, &any).is_ok(), "{text}");
-        assert_eq!(bytes::page(book, &mut pattern(PAGE_SIZE)), Ok(()), "{text}");
+        let line = text.lines().count();
+        let of_page = if text.contains("\n0503") { Err(Refusal::WrongMode { line }) } else { Ok(()) };
+        assert_eq!(bytes::page(book, &mut pattern(PAGE_SIZE)), of_page, "{text}");
         return Ok(());
     };
     let refusals = [
@@ -78,10 +82,10 @@ fn judged(text: &str) -> Result<(), Refusal> {
 
 /// Tries a frame with every attribute and value in the second line: 5 falls exactly where the value is not below the
 /// attribute's own count.
-fn try_values(frame: impl Fn([u8; 2]) -> Vec<u8>) {
+fn try_values(query: &str, frame: impl Fn([u8; 2]) -> Vec<u8>) {
     for counts in COUNTS {
         for [a, v] in numbers() {
-            let text = small(counts, &(hex(&frame([a, v])) + "\n"), QUERY);
+            let text = small(counts, &(hex(&frame([a, v])) + "\n"), query);
             let expected = if v < count_of(counts, a) { Ok(()) } else { Err(Refusal::BadField { line: 2 }) };
             assert_eq!(judged(&text), expected, "{text}");
         }
@@ -91,20 +95,23 @@ fn try_values(frame: impl Fn([u8; 2]) -> Vec<u8>) {
 #[test]
 fn values_of_rules() {
     for op in 1..=4 {
-        try_values(|[a, v]| vec![3, op, 0, a, v, 0]);
+        try_values(QUERY, |[a, v]| vec![3, op, 0, a, v, 0]);
     }
 }
 
-/// Of each kind in every op, and in each of a rule's eight places.
+/// Of each kind in every op that may have it, of kind 05 in each of a rule's eight places, and of kind 81 in the last.
 #[test]
 fn values_of_terms() {
     for (op, kind) in (1..=6).flat_map(|op| [1, 2, 5].map(|kind| (op, kind))) {
-        try_values(|[a, v]| vec![3, op, 0, 0, 0, 1, kind, a, v]);
+        try_values(QUERY, |[a, v]| vec![3, op, 0, 0, 0, 1, kind, a, v]);
     }
-    for place in 0..8 {
-        try_values(|[a, v]| {
-            let mut terms = [[5, 1, 1]; 8];
-            terms[place] = [5, a, v];
+    for op in [1, 3, 5] {
+        try_values(NOT_QUERY, |[a, v]| vec![3, op, 0, 0, 0, 1, 0x81, a, v]);
+    }
+    for (place, kind, query) in (0..8).map(|place| (place, 5, QUERY)).chain([(7, 0x81, NOT_QUERY)]) {
+        try_values(query, |[a, v]| {
+            let mut terms = [[kind, 1, 1]; 8];
+            terms[place] = [kind, a, v];
             [&[3, 1, 0, 0, 0, 8][..], terms.as_flattened()].concat()
         });
     }
@@ -113,11 +120,11 @@ fn values_of_terms() {
 #[test]
 fn values_of_starting_facts() {
     for k in [1, 2] {
-        try_values(|[a, v]| vec![4, k, 1, a, v]);
+        try_values(QUERY, |[a, v]| vec![4, k, 1, a, v]);
     }
 }
 
-/// Each number alone and beside the lowest, all below every number, in both modes, named alone and as the second of two
+/// Each number alone and beside the lowest, all below every number, in each mode, named alone and as the second of two
 /// attributes. An attribute that is not there is 5 with any set.
 #[test]
 fn sets_of_queries() {
@@ -127,14 +134,16 @@ fn sets_of_queries() {
         for (a, &set) in (0..=8).flat_map(|a| sets.iter().map(move |set| (a, set))) {
             let is_good = a < counts.len() as u8 && u32::from(set) < 1 << count_of(counts, a);
             let [high, low] = set.to_be_bytes();
-            for (mode, crews) in [(1, &[][..]), (2, &[0, 0, 0, 3])] {
+            let not = "030100000001810000\n";
+            for (mode, crews, rules) in [(1, &[][..], ""), (2, &[0, 0, 0, 3], ""), (3, &[0, 0, 0, 3], not)] {
                 let alone = [&[5, mode, 0, 255, 255, 1, a, high, low][..], crews].concat();
                 let whole = (1_u32 << counts[0]) - 1;
                 let first = [0, (whole >> 8) as u8, whole as u8];
                 let second = [&[5, mode, 0, 255, 255, 2][..], &first, &[a, high, low], crews].concat();
                 for query in [Some(alone), (a > 0).then_some(second)].into_iter().flatten() {
-                    let text = small(counts, "", &(hex(&query) + "\n"));
-                    let expected = if is_good { Ok(()) } else { Err(Refusal::BadField { line: 2 }) };
+                    let text = small(counts, rules, &(hex(&query) + "\n"));
+                    let line = text.lines().count();
+                    let expected = if is_good { Ok(()) } else { Err(Refusal::BadField { line }) };
                     assert_eq!(judged(&text), expected, "{text}");
                 }
             }
@@ -284,8 +293,15 @@ fn the_plans_buffer() {
         let values: usize = counts.iter().map(|&count| usize::from(count)).sum();
         let facts = (1 + usize::from(crews)) * values + usize::from(crews);
         assert_eq!(plan_size(crews.into(), values), 10 * facts);
-        for (query, planned) in [(QUERY, Planned::Plan(0)), ("050100FFFF01000001\n", Planned::NoWay)] {
-            let text = sizes(64, crews, counts) + query;
+        // The same with a "not" term.
+        let queries = [
+            ("", QUERY, Planned::Plan(0)),
+            ("", "050100FFFF01000001\n", Planned::NoWay),
+            ("030100000001810000\n", NOT_QUERY, Planned::Plan(0)),
+            ("030100000001810000\n", "05030000000100000100000000\n", Planned::NoWay),
+        ];
+        for (rules, query, planned) in queries {
+            let text = sizes(64, crews, counts) + rules + query;
             let short = kept(&pattern(10 * facts - 1), |out| bytes::plan_into(text.as_bytes(), out).err());
             assert_eq!(short, Refusal::ShortPlanBuffer, "{text}");
             for length in [10 * facts, 10 * facts + 1, PLAN_MAX] {

@@ -114,19 +114,22 @@ fn deep_chain() -> Case {
 /// Books that are refused late or are long.
 fn refused() -> Vec<Case> {
     let rules = format!("0101010102\n{}", "030100000000\n".repeat(513));
+    let not = format!("030100000008{}\n", "810001".repeat(8));
+    let twice = format!("0101010102\n{}050300FFFF0000000000\n", not.repeat(512));
     vec![
         Case::new("too long", vec![b'0'; BOOK_MAX + 1]),
         Case::new("one line without an end", vec![b'0'; BOOK_MAX]),
         Case::new("one empty line after the other", vec![b'\n'; BOOK_MAX]),
         Case::new("513 rules", rules.into_bytes()),
         Case::new("no query", b"014020081010101010101010\n".to_vec()),
+        Case::new("a rule with \"not\" terms 512 times", twice.into_bytes()),
     ]
 }
 
 #[test]
 fn each_operation_runs_on_the_documented_stack() {
     let stored = stored();
-    assert!(stored.len() >= 37, "{} books", stored.len());
+    assert!(stored.len() >= 140, "{} books", stored.len());
     assert!(stored.iter().any(|case| case.book.len() > BOOK_MAX - 100), "the longest book");
     assert!(stored.iter().any(|case| case.list.len() > 8_000 * REQUEST_SIZE), "the longest plan");
     let cases = stored.into_iter().chain(refused()).chain([deep_chain()]).map(Arc::new);
@@ -139,7 +142,7 @@ fn each_operation_runs_on_the_documented_stack() {
             runs += 1;
         }
     }
-    for refusal in ["NoRule", "UnmetTerm { rule: 17, term: 2 }"] {
+    for refusal in ["NoRule", "UnmetTerm { rule: 17, term: 2 }", "BeyondNot { line: 514 }", "WrongMode { line: 290 }"] {
         assert!(answers.contains(refusal), "{refusal}");
     }
     println!("{runs} runs on threads of {STACK} bytes of stack");

@@ -16,11 +16,12 @@ fn main() -> ExitCode {
     let mut counts = Counts::default();
     let mut differing = 0;
     for _ in 0..depots {
-        let draft = match rng.below(9) {
+        let draft = match rng.below(11) {
             0..=2 => gen::small_book(&mut rng),
             3..=5 => gen::small_aimed_book(&mut rng),
             6 => gen::tangled_book(&mut rng, (2, 2, 2)),
             7 => gen::zigzag_book(&mut rng, 0, 5),
+            8 | 9 => gen::small_not_book(&mut rng),
             _ => gen::graded_book(&mut rng, (1, 2, 4)),
         };
         let text = draft.text();

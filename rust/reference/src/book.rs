@@ -236,6 +236,9 @@ pub fn op(way: Way, what: What) -> u8 {
 ///
 /// "A new term, kind 05, holds when the subject effectively holds v or any higher value of a. It is legal in all six
 /// ops."
+///
+/// "New terms 81 and 83 say that the subject does not directly hold v of a, or that the person is not directly in crew
+/// a (v 00; only in ops 05, 06, else refusal 7)."
 #[derive(Clone, Copy, Debug, PartialEq, Eq, PartialOrd, Ord, Hash)]
 pub enum Term {
     /// 01
@@ -248,6 +251,23 @@ pub enum Term {
     EffectivelyIn(Crew),
     /// 05, a ladder term
     Ladder(Attr, Value),
+    /// 81, a "not" term
+    NotHolds(Attr, Value),
+    /// 83, a "not" term
+    NotIn(Crew),
+}
+
+impl Term {
+    /// Whether it is a "not" term.
+    #[must_use]
+    pub fn is_not(self) -> bool {
+        matches!(self, Term::NotHolds(..) | Term::NotIn(_))
+    }
+
+    /// Whether it is about a crew: "only in ops 05, 06".
+    fn is_about_crews(self) -> bool {
+        matches!(self, Term::In(_) | Term::EffectivelyIn(_) | Term::NotIn(_))
+    }
 }
 
 /// "**03 op role a v n, then n terms**: a rule"
@@ -269,6 +289,12 @@ impl Rule {
     pub fn has_ladder(&self) -> bool {
         self.terms.iter().any(|term| matches!(term, Term::Ladder(..)))
     }
+
+    /// Whether one of its terms is a "not" term.
+    #[must_use]
+    pub fn has_not(&self) -> bool {
+        self.terms.iter().any(|term| term.is_not())
+    }
 }
 
 /// What the query asks of crews.
@@ -282,9 +308,15 @@ pub enum Mode {
         /// The listed crews.
         crews: u32,
     },
+    /// "a new mode 03, laid out as mode 02: the person must at least directly hold the named sets and directly be in
+    /// the listed crews"
+    AtLeastDirectly {
+        /// The listed crews.
+        crews: u32,
+    },
 }
 
-/// "**05 mode person roles(2) q, then q of attribute set(2)**; mode 02 adds crews(4) at its end."
+/// "**05 mode person roles(2) q, then q of attribute set(2)**; mode 02 adds crews(4) at its end.", and so does mode 03.
 #[derive(Clone, Debug, PartialEq, Eq)]
 pub struct Query {
     /// What meets it.
@@ -343,6 +375,47 @@ impl Book {
         self.rules.iter().any(Rule::has_ladder)
     }
 
+    /// Whether some rule has a "not" term, whatever its role.
+    #[must_use]
+    pub fn has_not(&self) -> bool {
+        self.rules.iter().any(Rule::has_not)
+    }
+
+    /// "A book with such a term has only ops 01, 03 and 05, at most one rule for each op, a and v, and only terms 01,
+    /// 03, 81, 83." "A rule given twice counts as two here."
+    ///
+    /// Whether the rules keep these limits, with a "not" term among them or without.
+    #[must_use]
+    pub fn only_grows(&self) -> bool {
+        let mut seen = BTreeSet::new();
+        self.rules.iter().all(|rule| {
+            let direct =
+                |term: &Term| !matches!(term, Term::EffectivelyHolds(..) | Term::EffectivelyIn(_) | Term::Ladder(..));
+            rule.way == Way::Add && seen.insert(rule.what) && rule.terms.iter().all(direct)
+        })
+    }
+
+    /// "A book breaking the first limits gets 16, and mode 03 without a "not" term or another mode with one gets 17, 16
+    /// before 17".
+    fn last_fault(&self) -> Option<Fault> {
+        let (has_not, direct) = (self.has_not(), matches!(self.query.mode, Mode::AtLeastDirectly { .. }));
+        if has_not && !self.only_grows() {
+            Some(Fault::Limits)
+        } else if has_not != direct {
+            Some(Fault::Mode)
+        } else {
+            None
+        }
+    }
+
+    /// The same book without its "not" terms: whatever the subject has, they are fulfilled.
+    #[must_use]
+    pub fn nots_dropped(&self) -> Book {
+        let mut book = self.clone();
+        book.rules.iter_mut().for_each(|rule| rule.terms.retain(|term| !term.is_not()));
+        book
+    }
+
     /// The same book with kind 02 in the place of each ladder term: a higher value fulfils none of them.
     #[must_use]
     pub fn ladders_cut(&self) -> Book {
@@ -368,7 +441,7 @@ impl Book {
     }
 }
 
-/// Refusals 1 to 9 of the table.
+/// The refusals that give a line: 1 to 9 of the table, and of Wish 6 the numbers 16 and 17.
 #[derive(Clone, Copy, Debug, PartialEq, Eq, PartialOrd, Ord, Hash)]
 pub enum Fault {
     /// "over 65,536 characters"
@@ -383,18 +456,22 @@ pub enum Fault {
     Range = 5,
     /// "j not smaller than s"
     Edge = 6,
-    /// "term 03 or 04 in ops 01-04"
+    /// "term 03 or 04 in ops 01-04", and 83 there
     Term = 7,
     /// "the 513th rule"
     TooManyRules = 8,
     /// "query attributes not rising"
     NotRising = 9,
+    /// A book with a "not" term, and an op, a second rule for an op, a and v, or a term that such a book may not have.
+    Limits = 16,
+    /// "mode 03 without a "not" term or another mode with one"; and every book with a "not" term for the page.
+    Mode = 17,
 }
 
-/// "Each returns its number, and 1-9 a line (1 for refusal 1: line 0)"
+/// "Each returns its number, and 1-9 a line (1 for refusal 1: line 0)"; 16 and 17 "with the line of the 05 frame".
 #[derive(Clone, Copy, Debug, PartialEq, Eq)]
 pub struct Refusal {
-    /// Which of 1 to 9.
+    /// Which of 1 to 9, 16 and 17.
     pub fault: Fault,
     /// The line, counted from 1; 0 for [`Fault::TooLong`].
     pub line: usize,
@@ -418,12 +495,30 @@ impl std::error::Error for Refusal {}
 
 /// Reads a book.
 ///
-/// "Order: 1; then the earliest bad line, and in a line the lowest of 2-9".
+/// "Order: 1; then the earliest bad line, and in a line the lowest of 2-9"; then 16 and 17, "both only where no line
+/// has any of 1-9".
 ///
 /// # Errors
 ///
-/// The one refusal of 1 to 9 that falls on the characters.
+/// The one refusal of 1 to 9, 16 and 17 that falls on the characters.
 pub fn read(characters: &[u8]) -> Result<Book, Refusal> {
+    let (book, line) = lines(characters)?;
+    book.last_fault().map_or(Ok(book), |fault| Err(Refusal { fault, line }))
+}
+
+/// Reads a book for the page: "The page of Wish 5 refuses every book with a "not" term by 17."
+///
+/// # Errors
+///
+/// As [`read`], and 17 for every book with a "not" term that 16 does not refuse: "the page's 17 stands there too".
+pub fn read_for_page(characters: &[u8]) -> Result<Book, Refusal> {
+    let (book, line) = lines(characters)?;
+    let fault = book.last_fault().or(book.has_not().then_some(Fault::Mode));
+    fault.map_or(Ok(book), |fault| Err(Refusal { fault, line }))
+}
+
+/// A book whose lines are all good, and the line of its 05 frame, "called the last line".
+fn lines(characters: &[u8]) -> Result<(Book, usize), Refusal> {
     if characters.len() > MOST_CHARACTERS {
         return Err(Refusal { fault: Fault::TooLong, line: 0 });
     }
@@ -434,7 +529,8 @@ pub fn read(characters: &[u8]) -> Result<Book, Refusal> {
         lines += 1;
         bytes(line, &mut frame).and_then(|()| reader.frame(&frame)).map_err(|fault| Refusal { fault, line: lines })?;
     }
-    reader.book().ok_or(Refusal { fault: Fault::Kind, line: lines + 1 })
+    let book = reader.book().ok_or(Refusal { fault: Fault::Kind, line: lines + 1 })?;
+    Ok((book, lines))
 }
 
 /// Puts the bytes that a line's digits write into a frame.
@@ -551,8 +647,7 @@ fn rule(sizes: &Sizes, frame: &[u8]) -> Result<Rule, Fault> {
         .map(|t| term(sizes, t[0], t[1], t[2]))
         .collect::<Option<Vec<Term>>>()
         .ok_or(Fault::Range)?;
-    let about_crews = |term: &Term| matches!(term, Term::In(_) | Term::EffectivelyIn(_));
-    if !matches!(what, What::Membership(_)) && terms.iter().any(about_crews) {
+    if !matches!(what, What::Membership(_)) && terms.iter().any(|term| term.is_about_crews()) {
         return Err(Fault::Term);
     }
     Ok(Rule { role: Role(role), way, what, terms })
@@ -565,6 +660,8 @@ fn term(sizes: &Sizes, kind: u8, a: u8, v: u8) -> Option<Term> {
         3 if v == 0 => sizes.crew(a).map(Term::In),
         4 if v == 0 => sizes.crew(a).map(Term::EffectivelyIn),
         5 => sizes.pair(a, v).map(|(a, v)| Term::Ladder(a, v)),
+        0x81 => sizes.pair(a, v).map(|(a, v)| Term::NotHolds(a, v)),
+        0x83 if v == 0 => sizes.crew(a).map(Term::NotIn),
         _ => None,
     }
 }
@@ -589,7 +686,7 @@ fn query(sizes: &Sizes, frame: &[u8]) -> Result<Query, Fault> {
         return Err(Fault::Length);
     };
     let q = usize::from(q);
-    if rest.len() != 3 * q + if mode == 2 { 4 } else { 0 } {
+    if rest.len() != 3 * q + if matches!(mode, 2 | 3) { 4 } else { 0 } {
         return Err(Fault::Length);
     }
     let (sets, crews) = rest.split_at(3 * q);
@@ -600,12 +697,14 @@ fn query(sizes: &Sizes, frame: &[u8]) -> Result<Query, Fault> {
         return Err(Fault::Range);
     }
     let person = sizes.person(person).ok_or(Fault::Range)?;
-    let mode = match (mode, crews) {
-        (1, _) => Mode::AtLeast,
-        (2, &[c3, c2, c1, c0]) => Mode::Exactly { crews: u32::from_be_bytes([c3, c2, c1, c0]) },
+    let crews = crews.try_into().map_or(0, u32::from_be_bytes);
+    let mode = match mode {
+        1 => Mode::AtLeast,
+        2 => Mode::Exactly { crews },
+        3 => Mode::AtLeastDirectly { crews },
         _ => return Err(Fault::Range),
     };
-    if matches!(mode, Mode::Exactly { crews } if crews & !sizes.all_crews() != 0) {
+    if crews & !sizes.all_crews() != 0 {
         return Err(Fault::Range);
     }
     if named.windows(2).any(|two| two[0].0 >= two[1].0) {
@@ -681,9 +780,10 @@ mod tests {
         let nine = "010000".repeat(9);
         assert_eq!(refused(&format!("0101010102\n030100000009{nine}\n")), (5, 2));
         assert_eq!(refused(&format!("0101010102\n030100000009{}\n", &nine[6..])), (4, 2));
-        assert_eq!(refused("0101010102\n050300000000\n"), (5, 2));
-        assert_eq!(refused("0101010102\n05030000000000000000\n"), (4, 2));
+        assert_eq!(refused("0101010102\n050400000000\n"), (5, 2));
+        assert_eq!(refused("0101010102\n05040000000000000000\n"), (4, 2));
         assert_eq!(refused("0101000102\n050200000000\n"), (4, 2));
+        assert_eq!(refused("0101000102\n050300000000\n"), (4, 2));
         assert!(read(b"0101000102\n05020000000000000000\n").is_ok());
         // Range before 6, 7 and 9.
         assert_eq!(refused("0101000102\n020000\n"), (5, 2));
@@ -716,7 +816,7 @@ mod tests {
             for (a, v) in [(2, 0), (0, 3), (0, 4), (1, 5), (2, 3), (255, 0), (0, 255)] {
                 assert_eq!(lone(head, op, &[[5, a, v]]), Err((5, 2)), "op {op}, {a} {v}");
             }
-            for kind in (0..=255).filter(|kind| !(1..=5).contains(kind)) {
+            for kind in (0..=255).filter(|kind| !(1..=5).contains(kind) && ![0x81, 0x83].contains(kind)) {
                 assert_eq!(lone(head, op, &[[kind, 0, 0]]), Err((5, 2)), "op {op}, kind {kind}");
             }
             assert_eq!(lone(head, op, &[[5, 1, 2]; 8]).map(|terms| terms.len()), Ok(8), "op {op}");
@@ -765,6 +865,136 @@ mod tests {
         assert_eq!(of(&book.ladders_cut()), [Term::EffectivelyHolds(Attr(1), Value(2)), inside]);
         assert_eq!(of(&book.ladders_dropped()), [inside]);
         assert!(!book.ladders_cut().has_ladder() && !book.ladders_dropped().has_ladder());
+    }
+
+    /// "New terms 81 and 83" ... "(v 00; only in ops 05, 06, else refusal 7)": 5 before 7, and 7 before 16 and 17.
+    #[test]
+    fn not_terms() {
+        let lone = |head: &str, op, terms: &[[u8; 3]]| {
+            read(format!("{head}\n{}05030000000000000000\n", rule_line(op, terms)).as_bytes())
+                .map(|book| book.rules[0].terms.clone())
+                .map_err(|refusal| (refusal.number(), refusal.line))
+        };
+        // Two crews, three values of attribute 0 and five of attribute 1.
+        let head = "010102020305";
+        for op in 1..=6 {
+            // Ops 02, 04 and 06 are beyond the limits, at the line of the query.
+            let good = |terms: Vec<Term>| if op % 2 == 1 { Ok(terms) } else { Err((16, 3)) };
+            for (a, v) in [(0, 0), (0, 2), (1, 0), (1, 2), (1, 4)] {
+                assert_eq!(lone(head, op, &[[0x81, a, v]]), good(vec![Term::NotHolds(Attr(a), Value(v))]), "op {op}");
+            }
+            for (a, v) in [(2, 0), (0, 3), (0, 4), (1, 5), (2, 3), (255, 0), (0, 255)] {
+                assert_eq!(lone(head, op, &[[0x81, a, v]]), Err((5, 2)), "op {op}, {a} {v}");
+            }
+            for crew in 0..2 {
+                let expected = if op < 5 { Err((7, 2)) } else { good(vec![Term::NotIn(Crew(crew))]) };
+                assert_eq!(lone(head, op, &[[0x83, crew, 0]]), expected, "op {op}");
+                assert_eq!(lone(head, op, &[[0x83, crew, 1]]), Err((5, 2)), "op {op}");
+                for bad in [[0x81, 2, 0], [0x83, 2, 0], [5, 0, 3], [0x82, 0, 0]] {
+                    assert_eq!(lone(head, op, &[[0x83, crew, 0], bad]), Err((5, 2)), "op {op}, {bad:?}");
+                    assert_eq!(lone(head, op, &[bad, [0x83, crew, 0]]), Err((5, 2)), "op {op}, {bad:?}");
+                }
+            }
+            for crew in [2, 32, 255] {
+                assert_eq!(lone(head, op, &[[0x83, crew, 0]]), Err((5, 2)), "op {op}, crew {crew}");
+            }
+            assert_eq!(lone(head, op, &[[0x81, 1, 2]; 8]).map(|terms| terms.len()), good(vec![]).map(|_| 8), "op {op}");
+            assert_eq!(lone(head, op, &[[0x81, 1, 2]; 9]), Err((5, 2)), "op {op}");
+            assert_eq!(lone("010100020305", op, &[[0x83, 0, 0]]), Err((5, 2)), "no crew, op {op}");
+        }
+    }
+
+    /// "a new mode 03, laid out as mode 02"
+    #[test]
+    fn mode_03() {
+        let judged = |head: &str, query: &str| {
+            let text = format!("{head}\n030100000001810000\n{query}\n");
+            read(text.as_bytes()).map(|book| book.query).map_err(|refusal| (refusal.number(), refusal.line))
+        };
+        let query = |named: Vec<(Attr, u16)>, crews| {
+            let mode = Mode::AtLeastDirectly { crews };
+            Ok(Query { mode, person: Person(1), roles: 0x8001, named })
+        };
+        let head = "010202020305";
+        assert_eq!(judged(head, "05030180010000000000"), query(vec![], 0));
+        assert_eq!(judged(head, "05030180010000000003"), query(vec![], 3));
+        assert_eq!(
+            judged(head, "0503018001010100 1F00000002".replace(' ', "").as_str()),
+            query(vec![(Attr(1), 31)], 2)
+        );
+        assert_eq!(judged("010200020305", "05030180010000000000"), query(vec![], 0), "no crew");
+        // Without the crew bytes, with some of them and with one more; crews and values outside the sizes; 9 as
+        // elsewhere.
+        for short in ["050301800100", "050301800100000000", "0503018001000000000000", "050301800101010001"] {
+            assert_eq!(judged(head, short), Err((4, 3)), "{short}");
+        }
+        for bad in
+            ["05030180010000000004", "05030180010080000000", "05030280010000000000", "05030180010101002000000000"]
+        {
+            assert_eq!(judged(head, bad), Err((5, 3)), "{bad}");
+        }
+        assert_eq!(judged("010200020305", "05030180010000000001"), Err((5, 3)), "no crew");
+        assert_eq!(judged(head, "05030180010201000101000100000000"), Err((9, 3)));
+        for unknown in ["050401800100", "050001800100", "05FF01800100"] {
+            assert_eq!(judged(head, unknown), Err((5, 3)), "{unknown}");
+            assert_eq!(judged(head, &format!("{unknown}00000000")), Err((4, 3)), "{unknown}");
+        }
+    }
+
+    /// 16 and 17, by one cause after the other; of the page as well, which refuses every book with a "not" term.
+    #[test]
+    fn limits_and_modes() {
+        let not = "030100000001810001\n";
+        let (first, second, third) = ("050100000000\n", "05020000000000000000\n", "05030000000000000000\n");
+        let judged = |frames: &str, query: &str| {
+            let text = format!("0102020102\n{frames}{query}");
+            let of = |read: Result<Book, Refusal>| read.map_or_else(|refusal| refusal.number(), |_| 0);
+            let last = |read: &Result<Book, Refusal>| {
+                read.as_ref().map_or_else(|refusal| refusal.line, |_| text.lines().count())
+            };
+            let (book, page) = (read(text.as_bytes()), read_for_page(text.as_bytes()));
+            assert_eq!((last(&book), last(&page)), (text.lines().count(), text.lines().count()), "{text}");
+            (of(book), of(page))
+        };
+        for (frames, numbers) in [
+            // For modes 01, 02 and 03, each with the page's.
+            ("", [(0, 0), (0, 0), (17, 17)]),
+            ("030200000000\n030200000000\n", [(0, 0), (0, 0), (17, 17)]),
+            (not, [(17, 17), (17, 17), (0, 17)]),
+            // Other ops, a and v; edges and facts are not limited.
+            (&format!("{not}030100000100\n030300000000\n030500000000\n030500010000\n"), [(17, 17), (17, 17), (0, 17)]),
+            (&format!("020100\n020100\n0401000000\n0401000000\n{not}"), [(17, 17), (17, 17), (0, 17)]),
+            (&format!("{not}{not}"), [(16, 16); 3]),
+            (&format!("{not}030101000000\n"), [(16, 16); 3]),
+            (&format!("{not}030500000000\n030500000000\n"), [(16, 16); 3]),
+            (&format!("{not}030200000100\n"), [(16, 16); 3]),
+            (&format!("{not}030400000000\n"), [(16, 16); 3]),
+            (&format!("030600000000\n{not}"), [(16, 16); 3]),
+            (&format!("030100000101020000\n{not}"), [(16, 16); 3]),
+            (&format!("030100000101050000\n{not}"), [(16, 16); 3]),
+            (&format!("{not}030500000001040000\n"), [(16, 16); 3]),
+            ("030100000002020000810001\n", [(16, 16); 3]),
+            ("030200000001810001\n", [(16, 16); 3]),
+            ("030600000001830000\n", [(16, 16); 3]),
+            // The "not" term's role is not one of the query's.
+            ("030107000001810001\n", [(17, 17), (17, 17), (0, 17)]),
+        ] {
+            assert_eq!([first, second, third].map(|query| judged(frames, query)), numbers, "{frames}");
+        }
+    }
+
+    #[test]
+    fn nots_in_a_book() {
+        let text = format!(
+            "0101010103\n{}{}05030000000000000000\n",
+            rule_line(5, &[[0x81, 0, 2], [3, 0, 0]]),
+            rule_line(1, &[])
+        );
+        let book = read(text.as_bytes()).expect("accepted");
+        assert!(book.has_not() && book.rules[0].has_not() && !book.rules[1].has_not() && book.only_grows());
+        assert_eq!(book.rules[0].terms, [Term::NotHolds(Attr(0), Value(2)), Term::In(Crew(0))]);
+        let dropped = book.nots_dropped();
+        assert!(!dropped.has_not() && dropped.rules[0].terms == [Term::In(Crew(0))]);
     }
 
     /// The shift has three values and the lane sixteen, as in the wish, and a third attribute has one.

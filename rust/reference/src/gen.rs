@@ -84,6 +84,13 @@ impl Draft {
         }
     }
 
+    /// Whether some rule has a "not" term.
+    #[must_use]
+    pub fn has_not(&self) -> bool {
+        let rules = self.frames.iter().filter(|frame| frame[0] == 3);
+        rules.flat_map(|frame| frame[6..].chunks_exact(3)).any(|term| NOT_KINDS.contains(&term[0]))
+    }
+
     /// Puts a frame anywhere between the first and the last; gives its line.
     fn put(&mut self, rng: &mut Rng, frame: Vec<u8>) -> usize {
         let at = 1 + rng.below(self.frames.len() - 1);
@@ -392,7 +399,151 @@ pub fn large_book(rng: &mut Rng) -> Draft {
     book(rng, &shape)
 }
 
-/// A book of a shape, with a query of either mode.
+/// A small depot whose book has "not" terms and mode 03, of at most twelve facts with all persons counted. Most queries
+/// are aimed at a ledger that can be reached, or that could be without the "not" terms.
+pub fn small_not_book(rng: &mut Rng) -> Draft {
+    let attrs = attributes(rng, 2);
+    loop {
+        let (persons, crews) = (rng.byte(1, 2), rng.byte(0, 4));
+        let sizes = Sizes::new(persons, crews, &counts(rng, attrs, 1, 4));
+        let (p, g) = (usize::from(persons), usize::from(crews));
+        let facts = (p + g) * sizes.pairs().count() + p * g;
+        if facts <= 12 {
+            let shape = Shape {
+                sizes,
+                edges: rng.below(3),
+                rules: if rng.percent(60) { 2 * facts } else { 1 + rng.below(2 * facts) },
+                terms: rng.byte(1, 3),
+                facts: rng.below(1 + facts / 3),
+                roles: 3,
+            };
+            let mut draft = not_book(rng, &shape);
+            aim_at_a_walk(rng, &mut draft, 60);
+            return draft;
+        }
+    }
+}
+
+/// A depot of a few persons, crews and attributes whose book has "not" terms and mode 03, with queries as in
+/// [`small_not_book`].
+pub fn middle_not_book(rng: &mut Rng) -> Draft {
+    let (persons, crews, attrs) = (rng.byte(1, 4), rng.byte(0, 7), attributes(rng, 4));
+    let sizes = Sizes::new(persons, crews, &counts(rng, attrs, 1, 6));
+    let shape = Shape {
+        sizes,
+        edges: rng.below(6),
+        rules: 1 + rng.below(60),
+        terms: rng.byte(1, 4),
+        facts: rng.below(12),
+        roles: 3,
+    };
+    let mut draft = not_book(rng, &shape);
+    aim_at_a_walk(rng, &mut draft, 400);
+    draft
+}
+
+/// A depot of any size up to the largest whose book has "not" terms and mode 03, often with a rule for each op, a and v
+/// of the most attributes, values and crews, and with queries as in [`small_not_book`].
+pub fn large_not_book(rng: &mut Rng) -> Draft {
+    let most = [MOST_PERSONS, MOST_CREWS, MOST_ATTRS].map(|most| most as u8);
+    let [persons, crews, attrs] =
+        if rng.percent(40) { most } else { [rng.byte(1, most[0]), rng.byte(0, most[1]), rng.byte(1, most[2])] };
+    let least = rng.pick(&[1, 1, 12, 16]);
+    let sizes = Sizes::new(persons, crews, &counts(rng, attrs, least, MOST_VALUES as u8));
+    let shape = Shape {
+        sizes,
+        edges: rng.pick(&[0, 8, 30]),
+        rules: if rng.percent(50) { MOST_RULES } else { 1 + rng.below(300) },
+        terms: rng.byte(1, MOST_TERMS as u8),
+        facts: rng.below(60),
+        roles: ROLES,
+    };
+    let mut draft = not_book(rng, &shape);
+    aim_at_a_walk(rng, &mut draft, 3_000);
+    draft
+}
+
+/// Leaves three queries in ten as they are. Else aims a query of mode 03 at a ledger that a walk of so many steps
+/// reaches, or half the time, and then now and then with any roles, that one without the "not" terms does.
+fn aim_at_a_walk(rng: &mut Rng, draft: &mut Draft, steps: usize) {
+    let Ok(mut book) = read(&draft.text()) else { return };
+    if rng.percent(30) {
+        return;
+    }
+    let without = rng.percent(50);
+    if without {
+        book = book.nots_dropped();
+    }
+    let ledger = walk(rng, &book, steps);
+    aim_directly(rng, draft, &book, &ledger);
+    if let Some(query) = draft.frames.last_mut() {
+        if without && rng.percent(20) {
+            query[3..5].copy_from_slice(&u16::to_be_bytes(rng.bits() as u16));
+        }
+    }
+}
+
+/// A book of a shape with "not" terms, within the limits of such books, and with a query of mode 03. Of the shape's
+/// rules it has as many as there are ops, a and v for one rule each: at most 288.
+///
+/// What a rule asks for comes before its fact in an order that is drawn first, and what it bars comes after it, but for
+/// some terms, of some books all, that are drawn anyhow.
+pub fn not_book(rng: &mut Rng, shape: &Shape) -> Draft {
+    let sizes = shape.sizes;
+    let values: Vec<[u8; 2]> = sizes.pairs().map(|(a, v)| [a.0, v.0]).collect();
+    let of = |op: u8| values.iter().map(move |&[a, v]| [op, a, v]);
+    let mut order: Vec<[u8; 3]> = of(1).chain((0..sizes.crews).map(|crew| [5, crew, 0])).collect();
+    shuffle(rng, &mut order);
+    let mut keys: Vec<[u8; 3]> = order.iter().copied().chain(of(3)).collect();
+    shuffle(rng, &mut keys);
+    keys.truncate(shape.rules.max(1));
+    let odd = rng.pick(&[0, 3, 20, 100]);
+    let mut rules: Vec<Vec<u8>> = Vec::new();
+    for &[op, a, v] in &keys {
+        let mut frame = vec![3, op, rng.byte(0, shape.roles - 1), a, v, 0];
+        // A crew's values have the order of a person's.
+        let place = order.iter().position(|&key| key == [if op == 3 { 1 } else { op }, a, v]).unwrap_or(0);
+        for _ in 0..rng.byte(0, shape.terms) {
+            let not = rng.percent(50);
+            let own = rng.percent(if not { 10 } else { 1 });
+            let part = match (own, rng.percent(odd), not) {
+                (true, ..) => place..place + 1,
+                (_, true, _) => 0..order.len(),
+                (_, _, true) => place + 1..order.len(),
+                (_, _, false) => 0..place,
+            };
+            let fits = |key: &&[u8; 3]| op == 5 || key[0] == 1;
+            let named: Vec<[u8; 3]> = order[part].iter().filter(fits).copied().collect();
+            if !named.is_empty() {
+                add_direct_term(rng, &mut frame, not, &named);
+            }
+        }
+        rules.push(frame);
+    }
+    if !rules.iter().any(|frame| frame[6..].chunks_exact(3).any(|term| NOT_KINDS.contains(&term[0]))) {
+        let rule = rng.below(rules.len());
+        add_direct_term(rng, &mut rules[rule], true, &of(1).collect::<Vec<_>>());
+    }
+    let mut draft = book(rng, &Shape { rules: 0, ..*shape });
+    draft.ask(not_query(rng, &sizes));
+    for frame in rules {
+        draft.put(rng, frame);
+    }
+    draft
+}
+
+/// Puts a term of kind 01 or 03, or a "not" term, behind a rule that has fewer than eight; it names one of these: op, a
+/// and v of a person's value or place in a crew.
+fn add_direct_term(rng: &mut Rng, frame: &mut Vec<u8>, not: bool, named: &[[u8; 3]]) {
+    let [op, a, v] = rng.pick(named);
+    let kind = if op == 5 { 3 } else { 1 };
+    if usize::from(frame[5]) < MOST_TERMS {
+        frame[5] += 1;
+        frame.extend([kind | if not { 0x80 } else { 0 }, a, v]);
+    }
+}
+
+/// A book of a shape, with a query of mode 01 or 02.
 pub fn book(rng: &mut Rng, shape: &Shape) -> Draft {
     let sizes = shape.sizes;
     let mut frames = Vec::new();
@@ -409,12 +560,16 @@ pub fn book(rng: &mut Rng, shape: &Shape) -> Draft {
         frames.push(fact(rng, &sizes));
     }
     // "Frames 02, 03, 04 come in any order"
-    for end in (1..frames.len()).rev() {
-        frames.swap(end, rng.below(end + 1));
-    }
+    shuffle(rng, &mut frames);
     frames.insert(0, first_frame(&sizes));
     frames.push(query(rng, &sizes));
     Draft { sizes, frames }
+}
+
+fn shuffle<T>(rng: &mut Rng, list: &mut [T]) {
+    for end in (1..list.len()).rev() {
+        list.swap(end, rng.below(end + 1));
+    }
 }
 
 fn rule(rng: &mut Rng, shape: &Shape) -> Vec<u8> {
@@ -447,6 +602,8 @@ fn add_terms(rng: &mut Rng, frame: &mut Vec<u8>, sizes: &Sizes, n: u8) {
 
 /// The kinds of terms about values, which every op may have.
 const VALUE_KINDS: [u8; 3] = [1, 2, 5];
+/// The kinds of "not" terms: about a value, and about a crew.
+const NOT_KINDS: [u8; 2] = [0x81, 0x83];
 
 fn value_term(rng: &mut Rng, kind: u8, sizes: &Sizes) -> [u8; 3] {
     let [attr, value] = pair(rng, sizes);
@@ -463,7 +620,18 @@ fn fact(rng: &mut Rng, sizes: &Sizes) -> Vec<u8> {
     }
 }
 
-/// A query of either mode, of all roles or of any.
+/// A query of mode 03, of all roles or of any.
+pub fn not_query(rng: &mut Rng, sizes: &Sizes) -> Vec<u8> {
+    loop {
+        let mut frame = query(rng, sizes);
+        if frame[1] == 2 {
+            frame[1] = 3;
+            return frame;
+        }
+    }
+}
+
+/// A query of mode 01 or 02, of all roles or of any.
 pub fn query(rng: &mut Rng, sizes: &Sizes) -> Vec<u8> {
     let mode = if rng.percent(70) { 2 } else { 1 };
     let roles = if rng.percent(60) { u16::MAX } else { rng.bits() as u16 };
@@ -551,11 +719,104 @@ pub fn aim(rng: &mut Rng, draft: &mut Draft, book: &Book, ledger: &Ledger) {
     draft.ask(frame);
 }
 
-/// A book on which the refusal of this number, 1 to 9, falls, and its line; nothing when the sizes leave no room for it.
+/// Asks, by mode 03 and with all roles, for what the query's person directly has in a ledger: every attribute of a
+/// random choice, and the crews or some of them.
+pub fn aim_directly(rng: &mut Rng, draft: &mut Draft, book: &Book, ledger: &Ledger) {
+    let person = book.query.person;
+    let attrs: Vec<u8> = (0..book.sizes.attrs()).filter(|_| rng.percent(60)).collect();
+    let mut frame = vec![5, 3, person.0, 0xFF, 0xFF, attrs.len() as u8];
+    for attr in attrs {
+        frame.push(attr);
+        frame.extend(ledger.values(person, Attr(attr)).to_be_bytes());
+    }
+    let some = if rng.percent(50) { u32::MAX } else { rng.bits() as u32 };
+    frame.extend((ledger.memberships(person) & some).to_be_bytes());
+    draft.ask(frame);
+}
+
+/// What a book with a "not" term may not have: 16 falls.
+#[derive(Clone, Copy, Debug, PartialEq, Eq)]
+pub enum Limit {
+    /// An op 02, 04 or 06.
+    Op,
+    /// A rule that stands there twice.
+    Twice,
+    /// A second rule for an op, a and v, with any role and any terms.
+    Second,
+    /// A term of kind 02, 04 or 05.
+    Kind,
+}
+
+impl Limit {
+    /// Each of them.
+    pub const ALL: [Limit; 4] = [Limit::Op, Limit::Twice, Limit::Second, Limit::Kind];
+}
+
+/// Takes a good book with a "not" term beyond one of the limits, by one frame or one term anywhere in it.
+pub fn break_limit(rng: &mut Rng, draft: &mut Draft, limit: Limit) {
+    let sizes = draft.sizes;
+    let rules: Vec<usize> = (0..draft.frames.len()).filter(|&at| draft.frames[at][0] == 3).collect();
+    let at = rng.pick(&rules);
+    let mut frame = draft.frames[at].clone();
+    let values: Vec<[u8; 3]> = sizes.pairs().map(|(a, v)| [1, a.0, v.0]).collect();
+    match limit {
+        Limit::Op => {
+            let [a, v] = pair(rng, &sizes);
+            let op = rng.pick(&[2, 4, 6]);
+            frame = vec![3, op, rng.byte(0, ROLES - 1), a, v, 0];
+            if op == 6 && sizes.crews == 0 {
+                frame[1] = 2;
+            } else if op == 6 {
+                (frame[3], frame[4]) = (rng.byte(0, sizes.crews - 1), 0);
+            }
+            for _ in 0..rng.below(3) {
+                let not = rng.percent(50);
+                add_direct_term(rng, &mut frame, not, &values);
+            }
+        }
+        Limit::Twice => {}
+        Limit::Second => {
+            frame.truncate(6);
+            frame[2] = rng.byte(0, ROLES - 1);
+            frame[5] = 0;
+            for _ in 0..rng.below(3) {
+                let not = rng.percent(50);
+                add_direct_term(rng, &mut frame, not, &values);
+            }
+        }
+        Limit::Kind => {
+            let kinds: &[u8] = if frame[1] == 5 { &[2, 4, 5] } else { &[2, 5] };
+            let kind = rng.pick(kinds);
+            let term = if kind == 4 { [4, rng.byte(0, sizes.crews - 1), 0] } else { value_term(rng, kind, &sizes) };
+            let frame = &mut draft.frames[at];
+            if usize::from(frame[5]) < MOST_TERMS {
+                frame[5] += 1;
+                let place = 6 + 3 * rng.below(frame[5].into());
+                frame.splice(place..place, term);
+            } else {
+                // The only "not" term of the book may be the one that goes: another comes in its place.
+                let place = 6 + 3 * rng.below(MOST_TERMS - 1);
+                frame[place..place + 3].copy_from_slice(&term);
+                frame[MOST_TERMS * 3 + 3..].copy_from_slice(&[0x81, 0, 0]);
+            }
+            return;
+        }
+    }
+    draft.put(rng, frame);
+}
+
+/// Gives a good book the query of another mode: 01 or 02 where it has a "not" term, 03 where it has none.
+pub fn wrong_mode(rng: &mut Rng, draft: &mut Draft) {
+    let query = if draft.has_not() { query(rng, &draft.sizes) } else { not_query(rng, &draft.sizes) };
+    draft.ask(query);
+}
+
+/// A book on which the refusal of this number, 1 to 9, 16 or 17, falls, and its line; nothing when the book leaves no
+/// room for it.
 ///
 /// # Panics
 ///
-/// On a number outside 1 to 9.
+/// On another number.
 pub fn damaged_book(rng: &mut Rng, number: u8, draft: &Draft) -> Option<(Vec<u8>, usize)> {
     let mut draft = draft.clone();
     match number {
@@ -593,7 +854,7 @@ pub fn damaged_book(rng: &mut Rng, number: u8, draft: &Draft) -> Option<(Vec<u8>
             let last = draft.sizes.crews.checked_sub(1)?;
             let mut frame = vec![3, rng.byte(1, 4), rng.byte(0, 15), 0, 0, 2, rng.pick(&VALUE_KINDS), 0, 0];
             let at = rng.pick(&[6, 9]);
-            frame.splice(at..at, [rng.byte(3, 4), rng.byte(0, last), 0]);
+            frame.splice(at..at, [rng.pick(&[3, 4, 0x83]), rng.byte(0, last), 0]);
             let at = draft.put(rng, frame);
             Some((draft.text(), at))
         }
@@ -613,7 +874,30 @@ pub fn damaged_book(rng: &mut Rng, number: u8, draft: &Draft) -> Option<(Vec<u8>
             draft.ask(vec![5, 1, 0, 0, 0, 2, first, 0, 1, second, 0, 0]);
             Some((draft.text(), draft.frames.len()))
         }
-        _ => panic!("the table gives a line for 1 to 9 alone"),
+        16 => {
+            // A rule with a "not" term, and one more at most.
+            let rules = draft.frames.iter().filter(|frame| frame[0] == 3).count();
+            if rules + 2 > MOST_RULES {
+                return None;
+            }
+            if !draft.has_not() {
+                let [a, v] = pair(rng, &draft.sizes);
+                let frame = vec![3, rng.byte(1, 4), rng.byte(0, ROLES - 1), a, v, 1, 0x81, a, v];
+                draft.put(rng, frame);
+            }
+            let limit = rng.pick(&Limit::ALL);
+            break_limit(rng, &mut draft, limit);
+            if rng.percent(30) {
+                let frame = query(rng, &draft.sizes);
+                draft.ask(frame);
+            }
+            Some((draft.text(), draft.frames.len()))
+        }
+        17 => {
+            wrong_mode(rng, &mut draft);
+            Some((draft.text(), draft.frames.len()))
+        }
+        _ => panic!("1 to 9, 16 and 17 alone give a line"),
     }
 }
 
@@ -723,33 +1007,33 @@ pub fn neighbours_book(rng: &mut Rng, draft: &Draft) -> Option<(Vec<u8>, usize)>
     let sizes = draft.sizes;
     let [a, v] = neighbours_pair(rng, &sizes)?;
     let role = rng.byte(0, ROLES - 1);
-    let line = match rng.below(7) {
+    let line = match rng.below(8) {
         0 => {
             let mut frame = vec![3, rng.byte(1, 4), role, a, v, 0];
             let terms = rng.byte(0, 2);
             add_terms(rng, &mut frame, &sizes, terms);
             draft.put(rng, frame)
         }
-        n @ 1..=3 => {
+        n @ 1..=4 => {
             let one = Shape { sizes, edges: 0, rules: 0, terms: 2, facts: 0, roles: ROLES };
             let mut frame = rule(rng, &one);
             frame[5] += 1;
             let at = 6 + 3 * rng.below(frame[5].into());
-            frame.splice(at..at, [VALUE_KINDS[n - 1], a, v]);
+            frame.splice(at..at, [[1, 2, 5, 0x81][n - 1], a, v]);
             draft.put(rng, frame)
         }
-        4 => {
+        5 => {
             let frame = vec![4, 1, rng.byte(0, sizes.persons - 1), a, v];
             draft.put(rng, frame)
         }
-        5 if sizes.crews > 0 => {
+        6 if sizes.crews > 0 => {
             let frame = vec![4, 2, rng.byte(0, sizes.crews - 1), a, v];
             draft.put(rng, frame)
         }
         _ => {
             let set = (rng.bits() as u16 & sizes.all_values(Attr(a)) | 1 << v).to_be_bytes();
-            let mut frame = vec![5, rng.byte(1, 2), rng.byte(0, sizes.persons - 1), 0, role, 1, a, set[0], set[1]];
-            if frame[1] == 2 {
+            let mut frame = vec![5, rng.byte(1, 3), rng.byte(0, sizes.persons - 1), 0, role, 1, a, set[0], set[1]];
+            if frame[1] != 1 {
                 frame.extend((rng.bits() as u32 & sizes.all_crews()).to_be_bytes());
             }
             draft.ask(frame);
@@ -781,7 +1065,7 @@ fn bad_range(rng: &mut Rng, draft: &mut Draft) -> (Vec<u8>, usize) {
         2 => {
             let mut nine = vec![3, 1, 0, 0, 0, 9];
             nine.extend([1, 0, 0].repeat(9));
-            let frames: [&[u8]; 21] = [
+            let frames: [&[u8]; 30] = [
                 &[3, 0, 0, 0, 0, 0],
                 &[3, 7, 0, 0, 0, 0],
                 &[3, 1, 16, 0, 0, 0],
@@ -802,6 +1086,15 @@ fn bad_range(rng: &mut Rng, draft: &mut Draft) -> (Vec<u8>, usize) {
                 &[3, 3, 0, 0, 0, 1, 5, t, v],
                 &[3, 6, 0, 0, 0, 1, 5, t, v],
                 &[3, 1, 0, 0, 0, 2, 3, 0, 0, 5, a, 0],
+                &[3, 1, 0, 0, 0, 1, 0x80, 0, 0],
+                &[3, 3, 0, 0, 0, 1, 0x82, 0, 0],
+                &[3, 1, 0, 0, 0, 1, 0x84, 0, 0],
+                &[3, 1, 0, 0, 0, 1, 0x85, 0, 0],
+                &[3, 1, 0, 0, 0, 1, 0x81, a, 0],
+                &[3, 4, 0, 0, 0, 1, 0x81, t, v],
+                &[3, 1, 0, 0, 0, 1, 0x83, g, 0],
+                &[3, 2, 0, 0, 0, 1, 0x83, 0, 1],
+                &[3, 5, 0, 0, 0, 2, 1, 0, 0, 0x83, g, 0],
                 &nine,
             ];
             let frame = rng.pick(&frames).to_vec();
@@ -829,7 +1122,7 @@ fn bad_range(rng: &mut Rng, draft: &mut Draft) -> (Vec<u8>, usize) {
             let crews = (u64::from(sizes.all_crews()) + 1) as u32;
             let mut frames = vec![
                 vec![5, 0, 0, 0, 0, 0],
-                vec![5, 3, 0, 0, 0, 0],
+                vec![5, 4, 0, 0, 0, 0],
                 vec![5, 1, p, 0, 0, 0],
                 vec![5, 1, 0, 0, 0, 1, a, 0, 0],
                 nine,
@@ -840,6 +1133,7 @@ fn bad_range(rng: &mut Rng, draft: &mut Draft) -> (Vec<u8>, usize) {
             }
             if crews != 0 {
                 frames.push([&[5, 2, 0, 0, 0, 0][..], &crews.to_be_bytes()].concat());
+                frames.push([&[5, 3, 0, 0, 0, 0][..], &crews.to_be_bytes()].concat());
             }
             draft.ask(frames.swap_remove(rng.below(frames.len())));
             draft.frames.len()
@@ -1005,9 +1299,10 @@ pub fn meet_first_terms(rng: &mut Rng, book: &Book, ledger: &mut [u8], request: 
         let (a, v) = match term {
             Term::Holds(a, v) | Term::EffectivelyHolds(a, v) => (a, v),
             Term::Ladder(a, v) => (a, Value(rng.byte(v.0, sizes.values(a) - 1))),
-            Term::In(crew) | Term::EffectivelyIn(crew) => {
+            Term::NotHolds(a, v) => (a, v),
+            Term::In(crew) | Term::EffectivelyIn(crew) | Term::NotIn(crew) => {
                 if let Fact::PersonIn(person, _) = request.fact {
-                    facts.set(Fact::PersonIn(person, crew), true);
+                    facts.set(Fact::PersonIn(person, crew), !term.is_not());
                 }
                 continue;
             }
@@ -1016,7 +1311,7 @@ pub fn meet_first_terms(rng: &mut Rng, book: &Book, ledger: &mut [u8], request: 
             Fact::PersonHolds(person, ..) | Fact::PersonIn(person, _) => Fact::PersonHolds(person, a, v),
             Fact::CrewHolds(crew, ..) => Fact::CrewHolds(crew, a, v),
         };
-        facts.set(fact, true);
+        facts.set(fact, !term.is_not());
     }
     ledger.copy_from_slice(&facts.to_bytes());
 }

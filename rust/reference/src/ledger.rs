@@ -64,6 +64,12 @@ impl Ledger {
         }
     }
 
+    /// The values of an attribute that a person directly holds.
+    #[must_use]
+    pub fn values(&self, person: Person, attr: Attr) -> u16 {
+        self.persons[person.index()][attr.index()]
+    }
+
     /// The crews a person is directly in.
     #[must_use]
     pub fn memberships(&self, person: Person) -> u32 {
@@ -181,7 +187,7 @@ impl<'b> Depot<'b> {
     #[must_use]
     pub fn person_set(&self, ledger: &Ledger, person: Person, attr: Attr) -> u16 {
         let under = crews(self.person_in(ledger, person));
-        under.fold(ledger.persons[person.index()][attr.index()], |set, c| set | ledger.crews[c.index()][attr.index()])
+        under.fold(ledger.values(person, attr), |set, c| set | ledger.crews[c.index()][attr.index()])
     }
 
     /// Whether a term holds of the subject of a fact.
@@ -195,7 +201,8 @@ impl<'b> Depot<'b> {
                     Term::Holds(a, v) => ledger.has(Fact::CrewHolds(crew, a, v)),
                     Term::EffectivelyHolds(a, v) => self.crew_holds(ledger, crew, a, v),
                     Term::Ladder(a, v) => sizes.and_higher(a, v).any(|w| self.crew_holds(ledger, crew, a, w)),
-                    Term::In(_) | Term::EffectivelyIn(_) => false,
+                    Term::NotHolds(a, v) => !ledger.has(Fact::CrewHolds(crew, a, v)),
+                    Term::In(_) | Term::EffectivelyIn(_) | Term::NotIn(_) => false,
                 }
             }
         };
@@ -205,6 +212,8 @@ impl<'b> Depot<'b> {
             Term::Ladder(a, v) => sizes.and_higher(a, v).any(|w| self.person_holds(ledger, person, a, w)),
             Term::In(c) => ledger.has(Fact::PersonIn(person, c)),
             Term::EffectivelyIn(c) => self.person_in(ledger, person) >> c.0 & 1 == 1,
+            Term::NotHolds(a, v) => !ledger.has(Fact::PersonHolds(person, a, v)),
+            Term::NotIn(c) => !ledger.has(Fact::PersonIn(person, c)),
         }
     }
 
@@ -258,6 +267,10 @@ impl<'b> Depot<'b> {
         match mode {
             Mode::AtLeast => sets.all(|(held, set)| set & !held == 0),
             Mode::Exactly { crews } => ledger.memberships(person) == crews && sets.all(|(held, set)| held == set),
+            Mode::AtLeastDirectly { crews } => {
+                crews & !ledger.memberships(person) == 0
+                    && named.iter().all(|&(attr, set)| set & !ledger.values(person, attr) == 0)
+            }
         }
     }
 }
@@ -322,7 +335,7 @@ impl Request {
 /// What turns an operation on a ledger back.
 #[derive(Clone, Copy, Debug, PartialEq, Eq)]
 pub enum Refusal {
-    /// 1 to 9.
+    /// 1 to 9, 16 and 17.
     Book(book::Refusal),
     /// 11: "ledger not 1,792 bytes or a bit outside the sizes"
     Ledger,
@@ -345,7 +358,7 @@ numbered!(Ledger = 11, Request = 12, NoRule = 13, UnmetTerm { rule, term } = 15)
 ///
 /// # Errors
 ///
-/// 1-9, then 11; the ledger then keeps its bytes.
+/// 1-9, 16 and 17, then 11; the ledger then keeps its bytes.
 pub fn open(characters: &[u8], ledger: &mut [u8]) -> Result<(), Refusal> {
     let book = book::read(characters)?;
     if ledger.len() != LEDGER_BYTES {
@@ -359,7 +372,7 @@ pub fn open(characters: &[u8], ledger: &mut [u8]) -> Result<(), Refusal> {
 ///
 /// # Errors
 ///
-/// 1-9, then 11, 12, then 13 or 15; the ledger then keeps its bytes.
+/// 1-9, 16 and 17, then 11, 12, then 13 or 15; the ledger then keeps its bytes.
 pub fn request(characters: &[u8], ledger: &mut [u8], request: &[u8]) -> Result<(), Refusal> {
     let book = book::read(characters)?;
     let mut facts = Ledger::from_bytes(&book.sizes, ledger).ok_or(Refusal::Ledger)?;
@@ -386,7 +399,7 @@ pub struct Shown {
 ///
 /// # Errors
 ///
-/// 1-9, then 11, 12.
+/// 1-9, 16 and 17, then 11, 12.
 pub fn show(characters: &[u8], ledger: &[u8], person: u8) -> Result<Shown, Refusal> {
     let book = book::read(characters)?;
     let facts = Ledger::from_bytes(&book.sizes, ledger).ok_or(Refusal::Ledger)?;
@@ -638,6 +651,108 @@ mod tests {
             assert_eq!(answer(&rule, &[facts[0], facts[2]], asked), unmet(1, 2), "op {op}");
             assert_eq!(answer(&rule, &facts[..2], asked), unmet(1, 3), "op {op}");
         }
+    }
+
+    /// The answer to requests one after the other, under a book of these rules and starting facts with mode 03.
+    fn answers(rules: &str, facts: &[&str], asked: &[[u8; 5]]) -> Vec<Result<(), Refusal>> {
+        let facts: String = facts.iter().map(|fact| format!("04{fact}\n")).collect();
+        let text = format!("{GRADES}{rules}{facts}05030000000000000000\n");
+        let mut ledger = opened(&text);
+        let mut one = |request: &[u8; 5]| {
+            let before = ledger;
+            let answer = super::request(text.as_bytes(), &mut ledger, request);
+            assert!(answer.is_ok() || ledger == before, "{answer:?} wrote");
+            answer
+        };
+        asked.iter().map(&mut one).collect()
+    }
+
+    /// "the subject does not directly hold v of a": of a person in ops 01 and 05, of a crew in op 03.
+    #[test]
+    fn a_not_term_about_a_value() {
+        for (op, subject, asked) in
+            [(1, "0100", [1, 0, 0, 1, 0]), (3, "0200", [3, 0, 0, 1, 0]), (5, "0100", [5, 0, 0, 1, 0])]
+        {
+            let rule = format!("03{op:02X}00010001810001\n");
+            let done = |facts: &[&str]| match answers(&rule, facts, &[asked])[0] {
+                Ok(()) => true,
+                refused => {
+                    assert_eq!(refused, unmet(1, 1));
+                    false
+                }
+            };
+            assert!(done(&[]), "op {op}");
+            assert!(!done(&[&format!("{subject}0001")]), "op {op}");
+            // Other values, another attribute and other subjects hinder nothing, nor what is inherited.
+            assert!(
+                done(&[&format!("{subject}0000"), &format!("{subject}0002"), &format!("{subject}0101")]),
+                "op {op}"
+            );
+            let other = if op == 3 { ["01000001", "02010001"] } else { ["01010001", "02000001"] };
+            assert!(done(&[other[0], other[1], IN_0, IN_1]), "op {op}");
+        }
+    }
+
+    /// "the person is not directly in crew a"
+    #[test]
+    fn a_not_term_about_a_crew() {
+        let rules = "030500010001830000\n030500000000\n";
+        let (join_0, join_1) = ([5, 0, 0, 0, 0], [5, 0, 0, 1, 0]);
+        assert_eq!(answers(rules, &[], &[join_1, join_0, join_1]), [Ok(()), Ok(()), unmet(1, 1)]);
+        assert_eq!(answers(rules, &[], &[join_0, join_1]), [Ok(()), unmet(1, 1)]);
+        // Effectively in crew 0, the junior of crew 1, is not directly; another person in it is another.
+        assert_eq!(answers(rules, &[IN_1], &[join_1]), [Ok(())]);
+        assert_eq!(answers(rules, &["03010000"], &[join_1, [5, 0, 1, 1, 0]]), [Ok(()), unmet(1, 1)]);
+    }
+
+    /// "before the request": a rule that bars its own fact is used once.
+    #[test]
+    fn a_not_term_about_its_own_fact() {
+        let add = [1, 0, 0, 0, 0];
+        assert_eq!(answers("030100000001810000\n", &[], &[add, add]), [Ok(()), unmet(1, 1)]);
+        assert_eq!(answers("030300000001810000\n", &[], &[[3, 0, 1, 0, 0]; 2]), [Ok(()), unmet(1, 1)]);
+        assert_eq!(answers("030500000001830000\n", &[], &[[5, 0, 1, 0, 0]; 2]), [Ok(()), unmet(1, 1)]);
+    }
+
+    /// 15 names a "not" term as any other.
+    #[test]
+    fn an_unmet_not_term() {
+        let rules = "030100000200\n030500000004010000810001030100830000\n";
+        let join = [5, 0, 0, 0, 0];
+        let one = |facts: &[&str]| answers(rules, facts, &[join])[0];
+        assert_eq!(one(&[]), unmet(2, 1));
+        assert_eq!(one(&["01000000", "01000001", IN_1]), unmet(2, 2));
+        assert_eq!(one(&["01000000"]), unmet(2, 3));
+        assert_eq!(one(&["01000000", IN_1, IN_0]), unmet(2, 4));
+        assert_eq!(one(&["01000000", IN_1]), Ok(()));
+        assert_eq!(one(&["01000001", IN_0]), unmet(2, 1));
+        // 13 where no rule has the role.
+        assert_eq!(answers(rules, &[], &[[5, 1, 0, 0, 0]]), [Err(Refusal::NoRule)]);
+    }
+
+    /// "the person must at least directly hold the named sets and directly be in the listed crews"
+    #[test]
+    fn met_directly() {
+        let met = |facts: &[&str], query: &str| {
+            let facts: String = facts.iter().map(|fact| format!("04{fact}\n")).collect();
+            let text = format!("{GRADES}030100000001810000\n{facts}{query}\n");
+            let book = book::read(text.as_bytes()).expect("accepted");
+            Depot::new(&book).met(&Ledger::start(&book))
+        };
+        let value = "05030000000100000200000000";
+        assert!(!met(&[], value) && met(&["01000001"], value));
+        assert!(met(&["01000000", "01000001", "01000102", IN_1], value), "more is allowed");
+        assert!(!met(&["02000001", IN_0, "01010001"], value), "neither inherited nor another's");
+        let crew_0 = "05030000000000000001";
+        assert!(!met(&[], crew_0) && met(&[IN_0], crew_0) && met(&[IN_0, IN_1], crew_0));
+        assert!(!met(&[IN_1, "03010000"], crew_0), "neither effectively nor another");
+        let both = "0503000000020000030100040000 0003".replace(' ', "");
+        let all = ["01000000", "01000001", "01000102", IN_0, IN_1];
+        assert!(met(&all, &both));
+        for n in 0..all.len() {
+            assert!(!met(&[&all[..n], &all[n + 1..]].concat(), &both), "all but {n}");
+        }
+        assert!(met(&[], "05030000000000000000"));
     }
 
     /// A lower grade does not meet a ladder term, nor a crew's value the kind 01.

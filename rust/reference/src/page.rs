@@ -17,6 +17,8 @@
 //! Hence a value's query gets a plan, the empty one too, exactly when the person effectively holds the value in the
 //! fullest ledger.
 //!
+//! "The page of Wish 5 refuses every book with a "not" term by 17.": there a larger ledger may permit less.
+//!
 //! "What crews can come to hold doesn't depend on the person and is worked out once for the depot.": terms about a crew
 //! look at crews alone, and a fact of a crew is put in once for all persons. Nor do persons depend on one another.
 
@@ -30,7 +32,7 @@ pub const PAGE_BYTES: usize = 1_024;
 /// What turns the page back.
 #[derive(Clone, Copy, Debug, PartialEq, Eq)]
 pub enum Refusal {
-    /// 1 to 9.
+    /// 1 to 9, 16 and 17.
     Book(book::Refusal),
     /// 10: "A table of another length is refused under 10."
     Table,
@@ -44,9 +46,9 @@ numbered!(Table = 10);
 ///
 /// # Errors
 ///
-/// 1-9, then 10; the table then keeps its bytes.
+/// 1-9, 16 and 17, then 10; the table then keeps its bytes.
 pub fn page(characters: &[u8], table: &mut [u8]) -> Result<(), Refusal> {
-    let book = book::read(characters)?;
+    let book = book::read_for_page(characters)?;
     if table.len() != PAGE_BYTES {
         return Err(Refusal::Table);
     }
@@ -54,8 +56,8 @@ pub fn page(characters: &[u8], table: &mut [u8]) -> Result<(), Refusal> {
     Ok(())
 }
 
-/// The page of an accepted book. Person p's attribute a is a two-byte set at 16·p + 2·a, big-endian, weight 2^v for
-/// value v: as in a ledger.
+/// The page of an accepted book without a "not" term. Person p's attribute a is a two-byte set at 16·p + 2·a,
+/// big-endian, weight 2^v for value v: as in a ledger.
 ///
 /// "Bytes of absent persons and attributes are 0.", and so are the bits of absent values.
 #[must_use]
@@ -195,6 +197,30 @@ mod tests {
         let facts: String = facts.into_iter().flatten().collect();
         let text = format!("01020003031001\n{facts}050100000000\n");
         assert_eq!(marks(&text), [(17, 0b111), (18, 0xFF), (19, 0xFF), (21, 1)]);
+    }
+
+    /// "The page of Wish 5 refuses every book with a "not" term by 17.", 16 first, and both before 10.
+    #[test]
+    fn books_with_not() {
+        let not = "030100000001810001\n";
+        let (first, third) = ("050100000000\n", "05030000000000000000\n");
+        for (frames, query, expected) in [
+            (not.to_owned(), third, (17, 3)),
+            (not.to_owned(), first, (17, 3)),
+            (format!("{not}030500000000\n0401000000\n"), third, (17, 5)),
+            (format!("{not}{not}"), third, (16, 4)),
+            (format!("{not}030200000000\n"), first, (16, 4)),
+            (format!("{not}03\n"), third, (4, 3)),
+            (String::new(), third, (17, 2)),
+        ] {
+            let text = format!("0101010102\n{frames}{query}");
+            for length in [0, 3, PAGE_BYTES, PAGE_BYTES + 1] {
+                let mut table = vec![0xA5; length];
+                let Err(Refusal::Book(refusal)) = page(text.as_bytes(), &mut table) else { panic!("{text}") };
+                assert_eq!((refusal.number(), refusal.line), expected, "{text}");
+                assert!(table.iter().all(|&byte| byte == 0xA5));
+            }
+        }
     }
 
     #[test]

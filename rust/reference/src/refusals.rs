@@ -1,7 +1,7 @@
 //! What the refusals of the operations share: the table's number, its words, and a book's own refusals among them.
 
-/// Gives an enum `Refusal`, with the case `Book` for 1 to 9, its numbers for the other cases, and what follows from them.
-/// A case that tells more than its number has fields, and its words name them.
+/// Gives an enum `Refusal`, with the case `Book` for those that give a line, its numbers for the other cases, and what
+/// follows from them. A case that tells more than its number has fields, and its words name them.
 macro_rules! numbered {
     ($($case:ident $({ $($field:ident),+ })? = $number:literal),+) => {
         impl Refusal {

@@ -21,7 +21,7 @@ pub enum Verdict {
 /// What turns replay back.
 #[derive(Clone, Copy, Debug, PartialEq, Eq)]
 pub enum Refusal {
-    /// 1 to 9.
+    /// 1 to 9, 16 and 17.
     Book(book::Refusal),
     /// 14: "plan length no multiple of five"
     Length,
@@ -33,7 +33,7 @@ numbered!(Length = 14);
 ///
 /// # Errors
 ///
-/// 1-9, then 14.
+/// 1-9, 16 and 17, then 14.
 pub fn replay(characters: &[u8], plan: &[u8]) -> Result<Verdict, Refusal> {
     let book = book::read(characters)?;
     if !plan.len().is_multiple_of(REQUEST_BYTES) {

@@ -320,7 +320,8 @@ fn absent_persons_attributes_and_values() {
     }
 }
 
-/// The stored books of the repository that are planned and accepted. Those of over 40,000 characters are read once.
+/// The stored books of the repository that are planned and accepted. Those of over 40,000 characters are read once. Those
+/// with a "not" term have no page.
 #[test]
 fn stored_books() {
     let data: PathBuf = [env!("CARGO_MANIFEST_DIR"), "..", "..", "crates", "books", "data"].iter().collect();
@@ -332,7 +333,10 @@ fn stored_books() {
             continue;
         }
         let text = fs::read(&path).expect("a book's characters");
-        if book::read(&text).is_err() {
+        let Ok(book) = book::read(&text) else { continue };
+        if book.has_not() {
+            let number = page::page(&text, &mut [0; PAGE_BYTES]).map_err(|refusal| refusal.number());
+            assert_eq!(number, Err(17), "{}", path.display());
             continue;
         }
         let name = path.file_name().expect("a name").to_string_lossy();
@@ -358,11 +362,12 @@ fn pattern(rng: &mut Rng, length: usize) -> Vec<u8> {
 #[test]
 fn refused_books() {
     let mut rng = Rng::new(0x0B1C_0026);
-    let mut seen = [0; 10];
+    let mut seen = [0; 18];
     let mut accepted = 0;
-    for round in 0..6_000 {
-        let draft = draw(&mut rng, round / 10);
-        let text = match (round % 10) as u8 {
+    let numbers: Vec<u8> = (0..=9).chain(16..=17).collect();
+    for round in 0..7_200 {
+        let draft = draw(&mut rng, round / numbers.len());
+        let text = match numbers[round % numbers.len()] {
             0 => {
                 let mut text = draft.text();
                 gen::noise(&mut rng, &mut text);
@@ -390,8 +395,8 @@ fn refused_books() {
         }
         seen[usize::from(refusal.number())] += 1;
     }
-    println!("refused: {:?}, accepted with noise: {accepted}", &seen[1..]);
-    assert!(seen[1..].iter().all(|&times| times > 300));
+    println!("refused: {seen:?}, accepted with noise: {accepted}");
+    assert!(numbers[1..].iter().all(|&number| seen[usize::from(number)] > 300));
 }
 
 /// "A table of another length is refused under 10.": shorter or longer, it keeps its bytes. One of 1,024 bytes is

@@ -1,32 +1,39 @@
 -- `frames::read_lines` meets its contract. The invariant `Held` says that what is left of the book decides the answer; the
 -- measure is what is left of its length. Each turn is one law of WalkLaws, by the kind of its frame. Assumes nothing.
 use mathlib.Core.Path.{_≡_, refl, sym, ap, _∙_}
+use mathlib.Core.Bool.{Bool, _&&_}
+use mathlib.Core.Logic.{⊎-elim, inl, inr}
 use borrow.Author.Tests.{not-true, not-false}
 use borrow.Author.Needs.{needs}
-use Prim.Native.Nat.{_-_, _<_}
+use Prim.Native.Nat.{ℕ, _-_, _<_}
 use native.Mathlib.Omega.{arith}
-use lib.ListN.{length, set}
+use lib.ListN.{length, set, take}
 use lib.Seq.{length-take-le}
 use Rattle.reader.proofs.ReadLaws.{read-size, read-bytes}
 use Rattle.gate.specs.declared.Fault.{Fault}
+use Rattle.gate.specs.declared.Fault.the-variants.{BeyondNot, WrongMode}
 use Rattle.gate.proofs.PassedLaws.{rule-passed}
 use Rattle.facts.specs.Facts.{noFacts}
 use Rattle.frames.specs.declared.Refusal.the-variants.{BadLine}
+use Rattle.frames.specs.Limits.{plain}
 use Rattle.frames.specs.Book.{refused, alone, toldBy, contentsOf, listed, nothing}
-use Rattle.frames.proofs.WalkLaws.{held, Held, at-end-good, at-end-bad, unread-bad, long-refused, line-framed, line-less, line-bad, edge-good, fact-good}
+use Rattle.frames.proofs.WalkLaws.{Kept, at-end-beyond, at-end-mode, at-end-good, at-end-bad}
+use Rattle.frames.proofs.WalkLaws.{held, Held, unread-bad, long-refused, line-framed, line-less, line-bad, edge-good, fact-good}
 use Rattle.frames.proofs.WalkLaws.{rule-counted, rule-good, other-good, edge-small}
+use Rattle.frames.proofs.LimitLaws.{none-plain}
 use Rattle.frames.proofs.read_lines.Statement.{statement}
 use Rattle.frames.proofs.read_lines.Tie as tie
 
 abbrev Inv-loop : tie.InvT-loop
-Inv-loop book known₀ query₀ juniors₀ facts₀ rules₀ frame₀ digits cursor₀ known query juniors facts rules frame cursor =
-    Held book known query juniors facts rules (cursor .at) (cursor .line) × (length frame ≡ 64)
+Inv-loop book paged known₀ query₀ juniors₀ facts₀ rules₀ frame₀ digits unmarked₀ cursor₀ known query juniors facts rules frame unmarked cursor =
+    Held paged book known query juniors facts rules unmarked (cursor .at) (cursor .line) × (length frame ≡ 64)
 
 abbrev μ-loop : tie.MeasureT-loop
-μ-loop book known₀ query₀ juniors₀ facts₀ rules₀ frame₀ digits cursor₀ known query juniors facts rules frame cursor = length book - cursor .at
+μ-loop book paged known₀ query₀ juniors₀ facts₀ rules₀ frame₀ digits unmarked₀ cursor₀ known query juniors facts rules frame unmarked cursor =
+    length book - cursor .at
 
 -- The places of a turn, each from a later one: it begins, its test is passed, its line is read, a frame is there, the frame is judged,
--- it is found good, its kind is known.
+-- it is found good, its kind is known, it is a rule.
 abbrev at-loop : tie.After-read-frame Inv-loop μ-loop → tie.At-loop Inv-loop μ-loop
 at-loop r = r .before .before .before .before .before
 
@@ -47,6 +54,9 @@ good-at b = b .before .before
 
 abbrev kind-at : tie.Else3 Inv-loop μ-loop → tie.After-byte-at Inv-loop μ-loop
 kind-at c = c .before .before
+
+abbrev rule-at : tie.After-is-plain Inv-loop μ-loop → tie.Then4 Inv-loop μ-loop
+rule-at c = c .before .before
 
 abbrev frame-of : tie.After-byte-at Inv-loop μ-loop → tie.After-decoded2 Inv-loop μ-loop
 frame-of b = framed-at (judged-at b)
@@ -88,11 +98,13 @@ loop-holds c =
     rw (c .opening-line .ensures) (
       record {
         within = omega arith;
+        begun = omega arith;
         lined = omega arith;
         counted = omega arith;
         crewed = omega arith;
         edged = refl;
         roomed = refl;
+        unmarked = none-plain;
         left = rw (queried .no-query .ensures);
       },
       refl,
@@ -232,37 +244,42 @@ loop-again-2 c =
 rule-of-requires : tie.Need-rule-of-requires Inv-loop μ-loop
 rule-of-requires c κs = search needs
 
+is-plain-requires : tie.Need-is-plain-requires Inv-loop μ-loop
+is-plain-requires c κs = search needs
+
 mul-rules : tie.Need-mul-rules Inv-loop μ-loop
 mul-rules c =
-    let b = kind-at (c .before .before) in
+    let b = kind-at (rule-at c .before) in
     let good = sym (judged-at b .judge-frame .ensures) ∙ good-at b .enum-told2 .given .1 in
     let known = turn-of b .loop .known in
-    omega (arith, rule-passed known _ good (sym (b .byte-at .ensures) ∙ c .before .if4 .taken) .1 .1)
+    omega (arith, rule-passed known _ good (sym (b .byte-at .ensures) ∙ rule-at c .if4 .taken) .1 .1)
 
 array-set-from-rules : tie.Need-array-set-from-rules Inv-loop μ-loop
 array-set-from-rules c =
-    let b = kind-at (c .before .before) in
+    let b = kind-at (rule-at c .before) in
     let good = sym (judged-at b .judge-frame .ensures) ∙ good-at b .enum-told2 .given .1 in
     let known = turn-of b .loop .known in
-    rule-passed known _ good (sym (b .byte-at .ensures) ∙ c .before .if4 .taken) .1 .1
+    rule-passed known _ good (sym (b .byte-at .ensures) ∙ rule-at c .if4 .taken) .1 .1
 
 add-known : tie.Need-add-known Inv-loop μ-loop
-add-known c = omega (arith, turn-of (kind-at (c .before .before)) .loop .inv .0 .counted)
+add-known c = omega (arith, turn-of (kind-at (rule-at c .before)) .loop .inv .0 .counted)
 
 loop-less-3 : tie.Need-loop-less-3 Inv-loop μ-loop
-loop-less-3 c = line-behind (frame-of (kind-at (c .before .before)))
+loop-less-3 c = line-behind (frame-of (kind-at (rule-at c .before)))
 
 loop-again-3 : tie.Need-loop-again-3 Inv-loop μ-loop
 loop-again-3 c =
-    let b = kind-at (c .before .before) in
+    let b = kind-at (rule-at c .before) in
     let d = frame-of b in
     let read = read-at d .read-frame .ensures in
     let at = turn-of b .loop in
     let good = sym (judged-at b .judge-frame .ensures) ∙ good-at b .enum-told2 .given .1 in
-    let kind = sym (b .byte-at .ensures) ∙ c .before .if4 .taken in
+    let kind = sym (b .byte-at .ensures) ∙ rule-at c .if4 .taken in
+    let rule = c .before .rule-of .ensures in
     let turn = rule-good (at .inv .0) (line-framed (at .inv .0) read (d .decoded2 .given .1)) good in
     rw (read .next) (
-      turn kind (rule-counted (at .known) _ kind) (ap (set (at .rules) (at .known .count)) (c .rule-of .ensures)),
+      turn kind (rule-counted (at .known) _ kind) (ap (set (at .rules) (at .known .count)) rule)
+          (ap (λ (u : Bool). at .unmarked && u) (c .is-plain .ensures ∙ ap plain rule)),
       read-size read ∙ at .inv .1,
     )
 
@@ -292,6 +309,17 @@ loop-again-4 c =
       read-size read ∙ at .inv .1,
     )
 
+-- The end of the book, seen from behind the test of its query, and what was found there: the limits are kept.
+abbrev ended-at : tie.After-sizes Inv-loop μ-loop → tie.Else1 Inv-loop μ-loop
+ended-at c = c .before .before .before
+
+kept-at : (c : tie.Joined6 Inv-loop μ-loop) → let at = ended-at (c .before) .before .before .loop in
+    Kept (at .unmarked) (take (at .known .count) (at .rules))
+unfolding listed
+kept-at c =
+    ⊎-elim (λ looked. inr (not-true _ (looked .0 .taken), sym (looked .1 .ensures) ∙ looked .2 .left))
+    (λ none. inl (not-false _ (none .left))) (c .if6 .came)
+
 turned-back-requires-4 : tie.Need-turned-back-requires-4 Inv-loop μ-loop
 turned-back-requires-4 c κs = search needs
 
@@ -301,11 +329,54 @@ returns-4 c =
     c .turned-back4 .ensures
     ∙ ap alone (at-end-bad (ended .before .before .loop .inv .0) (ended .if1 .left) (not-true _ (c .before .if5 .taken)))
 
+is-beyond-requires : tie.Need-is-beyond-requires Inv-loop μ-loop
+is-beyond-requires c κs = ended-at (c .before) .before .before .loop .inv .0 .counted
+
+last-line-requires : tie.Need-last-line-requires Inv-loop μ-loop
+last-line-requires c κs = ended-at (c .before .before .before) .before .before .loop .inv .0 .begun
+
+turned-back-requires-5 : tie.Need-turned-back-requires-5 Inv-loop μ-loop
+turned-back-requires-5 c κs = search needs
+
 returns-5 : tie.Need-returns-5 Inv-loop μ-loop
-unfolding toldBy contentsOf listed held
+unfolding listed
 returns-5 c =
-    let ended = c .before .before .before in
-    ap alone (at-end-good (ended .before .before .loop .inv .0) (ended .if1 .left) (not-false _ (c .before .if5 .left)))
+    let judged = c .before .before .before in
+    let marked = judged .before in
+    let asked = marked .before in
+    let ended = ended-at asked in
+    c .turned-back5 .ensures ∙ ap (λ (l : ℕ). alone (refused (BadLine BeyondNot l))) (c .before .last-line .ensures)
+    ∙ ap alone (at-end-beyond (ended .before .before .loop .inv .0) (ended .if1 .left) (not-false _ (asked .before .if5 .left))
+    (not-true _ (marked .if6 .taken)) (sym (judged .is-beyond .ensures) ∙ c .before .before .if7 .taken))
+
+is-wrong-mode-requires : tie.Need-is-wrong-mode-requires Inv-loop μ-loop
+is-wrong-mode-requires c κs = search needs
+
+last-line-requires-2 : tie.Need-last-line-requires-2 Inv-loop μ-loop
+last-line-requires-2 c κs = ended-at (c .before .before .before) .before .before .loop .inv .0 .begun
+
+turned-back-requires-6 : tie.Need-turned-back-requires-6 Inv-loop μ-loop
+turned-back-requires-6 c κs = search needs
+
+returns-6 : tie.Need-returns-6 Inv-loop μ-loop
+returns-6 c =
+    let tested = c .before .before .before in
+    let joined = tested .before in
+    let asked = joined .before in
+    let ended = ended-at asked in
+    c .turned-back6 .ensures ∙ ap (λ (l : ℕ). alone (refused (BadLine WrongMode l))) (c .before .last-line2 .ensures)
+    ∙ ap alone (at-end-mode (ended .before .before .loop .inv .0) (ended .if1 .left) (not-false _ (asked .before .if5 .left))
+    (kept-at joined) (sym (tested .is-wrong-mode .ensures) ∙ c .before .before .if8 .taken))
+
+returns-7 : tie.Need-returns-7 Inv-loop μ-loop
+unfolding toldBy contentsOf listed held
+returns-7 c =
+    let tested = c .before in
+    let joined = tested .before in
+    let asked = joined .before in
+    let ended = ended-at asked in
+    ap alone (at-end-good (ended .before .before .loop .inv .0) (ended .if1 .left) (not-false _ (asked .before .if5 .left))
+    (kept-at joined) (sym (tested .is-wrong-mode .ensures) ∙ c .if8 .left))
 
 pub read-lines-spec : {M : Type 1} → statement M
 read-lines-spec =
@@ -345,6 +416,7 @@ read-lines-spec =
     loop-less-2
     loop-again-2
     rule-of-requires
+    is-plain-requires
     mul-rules
     array-set-from-rules
     add-known
@@ -356,4 +428,12 @@ read-lines-spec =
     loop-again-4
     turned-back-requires-4
     returns-4
-    returns-5)
+    is-beyond-requires
+    last-line-requires
+    turned-back-requires-5
+    returns-5
+    is-wrong-mode-requires
+    last-line-requires-2
+    turned-back-requires-6
+    returns-6
+    returns-7)

@@ -1,8 +1,8 @@
 -- What lies within a book's sizes: a fact, a rule, the query; and the shape of a rule by value.
 use mathlib.Core.Path.{_≡_}
 use Prim.Native.Nat.{ℕ, _≤_, _<_}
-use mathlib.Core.Bool.{Bool, true, not, _&&_, _||_}
-use lib.Dec.{leb, eqb}
+use mathlib.Core.Bool.{Bool, true, false, not, _&&_, _||_}
+use lib.Dec.{leb}
 use lib.ListN.{getD, length}
 use Rattle.quantifiers.specs.Inner.Lists.{Each}
 use Rattle.sets.specs.Sets.{member, within}
@@ -18,6 +18,7 @@ use Rattle.frames.specs.declared.Term.{Term}
 use Rattle.frames.specs.declared.Rule.{Rule}
 use Rattle.frames.specs.declared.Want.{Want}
 use Rattle.frames.specs.declared.Query.{Query}
+use Rattle.frames.specs.Limits.{beyondNot, wrongMode}
 use Rattle.frames.specs.Book.{Contents, noTerm, noWant}
 
 -- A fact about a person, crew, attribute and value of the book.
@@ -33,7 +34,7 @@ termOf r j = getD (r .terms) j noTerm
 abbrev pub termFits : Sizes → Rule → ℕ → Bool
 termFits z r j = termGood z (termOf r j .kind) (termOf r j .a) (termOf r j .v)
 
--- A rule whose fields and terms are in their ranges, with terms 03 and 04 in ops 05 and 06 alone.
+-- A rule whose fields and terms are in their ranges, with terms about a crew in ops 05 and 06 alone.
 unfoldable pub ruleFits : Sizes → Rule → Bool
 ruleFits z r =
     headGood z (r .op) (r .role .0) (r .a) (r .v) (r .n) && allBelow (termFits z r) (r .n)
@@ -52,14 +53,14 @@ wantOf q j = getD (q .wants) j noWant
 abbrev pub wantFits : Sizes → Query → ℕ → Bool
 wantFits z q j = isAttr z (wantOf q j .attr .0) && within (wantOf q j .set) (valuesOf z (wantOf q j .attr .0))
 
--- A query whose mode, person and q are in their ranges, with its sets within the sizes, and in mode 02 its crews.
+-- A query whose mode, person and q are in their ranges, with its sets within the sizes, and in modes 02 and 03 its crews.
 pub record GoodQuery (z : Sizes) (q : Query) : Type 0 where
-  pub mode : between 1 2 (q .mode) ≡ true
+  pub mode : between 1 3 (q .mode) ≡ true
   pub person : isPerson z (q .person .0) ≡ true
   pub few : q .q ≤ 8
   pub room : length (q .wants) ≡ 8
   pub wants : allBelow (wantFits z q) (q .q) ≡ true
-  pub crews : (not (eqb (q .mode) 2) || within (q .crews) (z .crews)) ≡ true
+  pub crews : (not (between 2 3 (q .mode)) || within (q .crews) (z .crews)) ≡ true
 
 -- What every accepted book has (proofs/BookLaws, `book-accepted`).
 pub record Admitted (t : Contents) : Type 0 where
@@ -79,3 +80,6 @@ pub record Admitted (t : Contents) : Type 0 where
   pub rules-few : t .count ≤ 512
   -- The query lies within the sizes.
   pub query-in : GoodQuery (t .sizes) (t .query)
+  -- With a "not" term the rules keep its limits, and the mode is the one for such a book; without one it is another.
+  pub within-not : beyondNot (t .rules) ≡ false
+  pub right-mode : wrongMode (t .rules) (t .query .mode) ≡ false

@@ -24,8 +24,19 @@ quad-at-requires c κs = search needs
 is-within-requires : tie.Need-is-within-requires
 is-within-requires c κs = search needs
 
+is-between-requires : tie.Need-is-between-requires
+is-between-requires c κs = search needs
+
 returns : tie.Need-returns
-returns c = rw (c .is-within .ensures, c .before .quad-at .ensures, c .before .before .byte-at2 .ensures, c .before .before .before .byte-at .ensures)
+returns c =
+    let at-quad-at = c .before .before in
+    rw (
+      c .is-between .ensures,
+      c .before .is-within .ensures,
+      at-quad-at .quad-at .ensures,
+      at-quad-at .before .byte-at2 .ensures,
+      at-quad-at .before .before .byte-at .ensures,
+    )
 
 pub are-listed-crews-spec : {M : Type 1} → statement M
 are-listed-crews-spec =
@@ -38,4 +49,5 @@ are-listed-crews-spec =
     add-quad-at
     quad-at-requires
     is-within-requires
+    is-between-requires
     returns)

@@ -3,9 +3,8 @@ use mathlib.Core.Path.{_≡_, sym, _∙_}
 use mathlib.Core.Bool.{cond}
 use Prim.Native.Nat.{ℕ, _+_, _*_}
 use native.Mathlib.Omega.{arith}
-use lib.Dec.{eqb}
-use borrow.Author.Tests.{eq-eqb, ne-eqb}
 use Rattle.lines.specs.Digits.{byteAt}
+use Rattle.sizes.specs.Sizes.{between}
 use Rattle.gate.specs.Gate.{lengthOf}
 use Rattle.gate.proofs.GateLaws.{sizes-length, edge-length, rule-length, fact-length, query-length}
 use borrow.Author.Needs.{needs}
@@ -21,7 +20,7 @@ is-query c = c .before .before
 
 -- A frame of no other kind has a query's length, by its mode and its q.
 asked-length : (c : tie.Else4) (mode attrs q : ℕ)
-    → lengthOf (byteAt (read (c .before) .before .before .args .x .now) 0) mode attrs q ≡ 6 + 3 * q + cond (eqb mode 2) 4 0
+    → lengthOf (byteAt (read (c .before) .before .before .args .x .now) 0) mode attrs q ≡ 6 + 3 * q + cond (between 2 3 mode) 4 0
 asked-length c mode attrs q =
     let is = read (c .before) .byte-at .ensures in
     query-length _ mode attrs q (λ e. c .before .before .before .if1 .left (is ∙ e)) (λ e. c .before .before .if2 .left (is ∙ e))
@@ -80,18 +79,21 @@ mul-named c = search needs
 add-named : tie.Need-add-named
 add-named c = search needs
 
+is-between-requires : tie.Need-is-between-requires
+is-between-requires c κs = search needs
+
 add-result-3 : tie.Need-add-result-3
 add-result-3 c = search needs
 
 returns-5 : tie.Need-returns-5
 returns-5 c =
-    let mode = sym (c .before .byte-at5 .ensures) ∙ c .if5 .taken in
-    rw (asked-length (is-query (c .before)) _ _ _, eq-eqb _ 2 mode, c .before .before .byte-at4 .ensures)
+    let mode = sym (c .before .is-between .ensures) ∙ c .if5 .taken in
+    rw (asked-length (is-query (c .before .before)) _ _ _, ← c .before .before .byte-at5 .ensures, mode, c .before .before .before .byte-at4 .ensures)
 
 returns-6 : tie.Need-returns-6
 returns-6 c =
-    let mode = c .before .byte-at5 .ensures in
-    rw (asked-length (is-query (c .before)) _ _ _, ne-eqb _ 2 (λ e. c .if5 .left (mode ∙ e)), c .before .before .byte-at4 .ensures)
+    let mode = sym (c .before .is-between .ensures) ∙ c .if5 .left in
+    rw (asked-length (is-query (c .before .before)) _ _ _, ← c .before .before .byte-at5 .ensures, mode, c .before .before .before .byte-at4 .ensures)
     (omega arith)
 
 pub due-length-spec : {M : Type 1} → statement M
@@ -115,6 +117,7 @@ due-length-spec =
     cast-named
     mul-named
     add-named
+    is-between-requires
     add-result-3
     returns-5
     returns-6)

@@ -1,4 +1,4 @@
--- `gate::is_query` meets its contract: mode, person, q, the sets, and in mode 02 the crews. Assumes nothing.
+-- `gate::is_query` meets its contract: mode, person, q, the sets, and in modes 02 and 03 the crews. Assumes nothing.
 use Rattle.gate.specs.Gate.{queryGood}
 use borrow.Author.Needs.{needs}
 use Rattle.gate.proofs.is_query.Statement.{statement}

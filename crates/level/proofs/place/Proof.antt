@@ -58,14 +58,44 @@ returns-4 c =
     let not-kind-2 = c .before .before in
     simp (ne-eqb _ _ (not-kind-2 .before .if1 .left), ne-eqb _ _ (not-kind-2 .if2 .left), ne-eqb _ _ (c .before .if3 .left), eq-eqb _ _ (c .if4 .taken))
 
+cast-result-3 : tie.Need-cast-result-3
+cast-result-3 c = search needs
+
+mul-result-4 : tie.Need-mul-result-4
+mul-result-4 c = search needs
+
 add-result-7 : tie.Need-add-result-7
 add-result-7 c = search needs
+
+add-result-8 : tie.Need-add-result-8
+add-result-8 c = search needs
 
 returns-5 : tie.Need-returns-5
 unfolding codeOf
 returns-5 c =
-    let not-kind-2 = c .before .before in
-    simp (ne-eqb _ _ (not-kind-2 .before .if1 .left), ne-eqb _ _ (not-kind-2 .if2 .left), ne-eqb _ _ (c .before .if3 .left), ne-eqb _ _ (c .if4 .left))
+    let not-kind-2 = c .before .before .before in
+    simp (
+      ne-eqb _ _ (not-kind-2 .before .if1 .left),
+      ne-eqb _ _ (not-kind-2 .if2 .left),
+      ne-eqb _ _ (c .before .before .if3 .left),
+      ne-eqb _ _ (c .before .if4 .left),
+      eq-eqb _ _ (c .if5 .taken),
+    )
+
+add-result-9 : tie.Need-add-result-9
+add-result-9 c = search needs
+
+returns-6 : tie.Need-returns-6
+unfolding codeOf
+returns-6 c =
+    let not-kind-2 = c .before .before .before in
+    simp (
+      ne-eqb _ _ (not-kind-2 .before .if1 .left),
+      ne-eqb _ _ (not-kind-2 .if2 .left),
+      ne-eqb _ _ (c .before .before .if3 .left),
+      ne-eqb _ _ (c .before .if4 .left),
+      ne-eqb _ _ (c .if5 .left),
+    )
 
 pub place-spec : {M : Type 1} → statement M
 place-spec =
@@ -86,5 +116,10 @@ place-spec =
     returns-3
     add-result-6
     returns-4
+    cast-result-3
+    mul-result-4
     add-result-7
-    returns-5)
+    add-result-8
+    returns-5
+    add-result-9
+    returns-6)

@@ -21,7 +21,7 @@ unfoldable pub effective : List Bool → State → ℕ → Bool
 effective T S f = S f || inherited T S f
 
 -- Whether a subject shows what a term asks: 01 directly holds, 02 effectively holds, 05 effectively holds v or any higher value of a;
--- 03 directly in crew a, 04 effectively in crew a.
+-- 03 directly in crew a, 04 effectively in crew a. A level's rules have no "not" terms.
 unfoldable pub termShown : List Bool → State → Term → Bool
 termShown T S t =
     cond (eqb (t .kind) 1) (S (16 * t .a + t .v))
@@ -29,13 +29,15 @@ termShown T S t =
     (cond (eqb (t .kind) 5) (anyFrom (λ w. effective T S (16 * t .a + w)) (t .v) 16)
     (cond (eqb (t .kind) 3) (S (128 + t .a)) (effective T S (128 + t .a)))))
 
--- The place of what a term asks.
+-- The place of what a term asks. The "not" terms 81 and 83 have the places of 02 and 04: in a book that only grows, which has no term
+-- 02, 04 or 05, such a place asks that the fact levelSize lower is lacking. (81 is 129, 83 is 131.)
 unfoldable pub codeOf : ℕ → ℕ → ℕ → ℕ
 codeOf kind a v =
     cond (eqb kind 1) (16 * a + v)
     (cond (eqb kind 2) (levelSize + (16 * a + v))
     (cond (eqb kind 5) (higherAt + (16 * a + v))
-    (cond (eqb kind 3) (128 + a) (288 + a))))
+    (cond (eqb kind 3) (128 + a)
+    (cond (eqb kind 129) (levelSize + (16 * a + v)) (288 + a)))))
 
 -- The fields of a term are in range: of one that asks for a value, and of any other, which asks for a crew.
 pub record TermInRange (t : Term) : Type 0 where

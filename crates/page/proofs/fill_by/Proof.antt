@@ -47,7 +47,7 @@ slice-aggregate-settle : tie.Need-slice-aggregate-settle
 unfolding contentsOf
 slice-aggregate-settle c =
     let entry = start (after-crews-table (after-clear c) .before) in
-    sym (entry .pre .0 .0 .facts-room)
+    sym (entry .pre .0 .0 .book .facts-room)
 
 slice-aggregate-settle-2 : tie.Need-slice-aggregate-settle-2
 slice-aggregate-settle-2 c = search needs
@@ -59,8 +59,10 @@ settle-requires : tie.Need-settle-requires
 unfolding contentsOf
 settle-requires c κs =
     let tabled = after-crews-table (after-clear (c .before .before)) in
-    let pre = start (tabled .before) .pre in
-    ((pre .0 .0 .sized .persons-most, pre .1 .0 .1 .sides .sound-adds), (tabled .crews-table .ensures .made .size, record { size = refl; none = words-clear }))
+    let pre = start (tabled .before) .pre in (
+      (pre .0 .0 .book .sized .persons-most, pre .1 .0 .1 .sides .sound-adds),
+      (tabled .crews-table .ensures .made .size, record { size = refl; none = words-clear }),
+    )
 
 slice-aggregate-put-rows : tie.Need-slice-aggregate-put-rows
 slice-aggregate-put-rows c = search needs
@@ -71,7 +73,7 @@ put-rows-requires c κs =
     let settled = c .before .before .before in
     let cleared = after-clear (settled .before .before .before) in
     let pre = start (after-crews-table cleared .before) .pre in
-    ((pre .0 .0 .sized .persons-most, settled .settle .ensures .size), cleared .clear .ensures)
+    ((pre .0 .0 .book .sized .persons-most, settled .settle .ensures .size), cleared .clear .ensures)
 
 same-length : tie.Need-same-length
 same-length c = search needs

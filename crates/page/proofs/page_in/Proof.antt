@@ -2,7 +2,7 @@
 -- the book (`rows-given`). Assumes nothing.
 use mathlib.Core.Path.{sym, subst}
 use Rattle.frames.specs.Book.{Contents, withQuery, contentsOf}
-use Rattle.frames.specs.Inner.Fits.{Admitted}
+use Rattle.reach.specs.Inner.Leveled.{Leveled}
 use Rattle.page.specs.Inner.Rows.{Roams}
 use Rattle.page.proofs.PageLaws.{roams-itself}
 use Rattle.page.proofs.PersonLaws.{nothing-asked, nothing-accepted}
@@ -25,8 +25,8 @@ fill-requires : tie.Need-fill-requires
 unfolding contentsOf withQuery
 fill-requires c κs =
     let start = c .before .before .before .before in (
-      subst (λ (t : Contents). Admitted t × Roams t) (sym (nothing-asked (contentsOf (start .args .b)) (c .before .asked-nothing .ensures)))
-          (nothing-accepted (contentsOf (start .args .b)) (start .pre), roams-itself (contentsOf (start .args .b))),
+      subst (λ (t : Contents). Leveled t × Roams t) (sym (nothing-asked (contentsOf (start .args .b)) (c .before .asked-nothing .ensures)))
+          (nothing-accepted (contentsOf (start .args .b)) (start .pre .0) (start .pre .1), roams-itself (contentsOf (start .args .b))),
       c .before .before .if1 .left,
     )
 

@@ -33,7 +33,7 @@ is-reached-requires c κs =
     let run-found = c .before .before in
     let searched = after-search (run-found .before) in
     let w = searched .search .ensures .written (not-false _ (run-found .if1 .left)) in
-    ((start searched .pre .0, (w .few-up, w .most-down)), (w .size-up, w .size-down))
+    ((start searched .pre .0 .book, (w .few-up, w .most-down)), (w .size-up, w .size-down))
 
 same-length-3 : tie.Need-same-length-3
 same-length-3 c = search needs
@@ -46,8 +46,8 @@ unfolding contentsOf
 returns-2 c =
     let run-found = c .before .before .before in
     let searched = after-search (run-found .before) in
-    found-best (contentsOf (start searched .args .b)) (start searched .pre .0) (c .is-reached .result)
-    (searched .search .ensures .written (not-false _ (run-found .if1 .left))) (c .is-reached .ensures)
+    found-best (contentsOf (start searched .args .b)) (start searched .pre .0)
+    (searched .search .ensures .written (not-false _ (run-found .if1 .left))) (c .is-reached .result) (c .is-reached .ensures)
 
 pub best-plan-spec : {M : Type 1} → statement M
 best-plan-spec =

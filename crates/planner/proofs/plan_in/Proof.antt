@@ -19,10 +19,10 @@ above-of h e = omega arith
 abbrev start : tie.After-fact-count → tie.Start
 start c = c .before .before .before
 
-abbrev buffer-long : tie.After-best-plan → tie.Else1
+abbrev buffer-long : tie.After-find-plan → tie.Else1
 buffer-long c = c .before .before .before
 
-abbrev planned : tie.After-give-arg → tie.After-best-plan
+abbrev planned : tie.After-give-arg → tie.After-find-plan
 planned c = c .before .before .before .before .before
 
 fact-count-requires : tie.Need-fact-count-requires
@@ -38,14 +38,14 @@ unfolding contentsOf
 returns c =
     answered-short (contentsOf (start (c .before) .args .b)) _ (below-of (c .if1 .taken) (c .before .fact-count .ensures))
 
-slice-aggregate-best-plan : tie.Need-slice-aggregate-best-plan
-slice-aggregate-best-plan c = search needs
+slice-aggregate-find-plan : tie.Need-slice-aggregate-find-plan
+slice-aggregate-find-plan c = search needs
 
-slice-aggregate-best-plan-2 : tie.Need-slice-aggregate-best-plan-2
-slice-aggregate-best-plan-2 c = search needs
+slice-aggregate-find-plan-2 : tie.Need-slice-aggregate-find-plan-2
+slice-aggregate-find-plan-2 c = search needs
 
-best-plan-requires : tie.Need-best-plan-requires
-best-plan-requires c κs = (start (c .before .before .before) .pre, (refl, refl))
+find-plan-requires : tie.Need-find-plan-requires
+find-plan-requires c κs = (start (c .before .before .before) .pre, (refl, refl))
 
 slice-aggregate-give : tie.Need-slice-aggregate-give
 slice-aggregate-give c = search needs
@@ -57,7 +57,7 @@ slice-aggregate-give-2 c = search needs
 give-requires : tie.Need-give-requires
 unfolding contentsOf
 give-requires c κs =
-    let found = planned c .best-plan .ensures in
+    let found = planned c .find-plan .ensures in
     let long = above-of (buffer-long (planned c) .if1 .left) (buffer-long (planned c) .before .fact-count .ensures) in (
       (omega (arith, found .few-up), (omega (arith, found .most-down), omega (arith, found .few, long))),
       (omega arith, omega arith),
@@ -74,7 +74,7 @@ returns-2 c =
     let long = above-of (buffer-long found .if1 .left) (buffer-long found .before .fact-count .ensures) in
     let entry = start (buffer-long found .before) in
     answered-long (contentsOf (entry .args .b)) _ long
-    (given-decided (contentsOf (entry .args .b)) (entry .pre) (found .best-plan .ensures) (entry .args .out .now) long (gave .give .ensures))
+    (given-decided (contentsOf (entry .args .b)) (found .find-plan .ensures) (entry .args .out .now) long (gave .give .ensures))
 
 pub plan-in-spec : {M : Type 1} → statement M
 plan-in-spec =
@@ -83,9 +83,9 @@ plan-in-spec =
     fact-count-requires
     mul-if1
     returns
-    slice-aggregate-best-plan
-    slice-aggregate-best-plan-2
-    best-plan-requires
+    slice-aggregate-find-plan
+    slice-aggregate-find-plan-2
+    find-plan-requires
     slice-aggregate-give
     slice-aggregate-give-2
     give-requires

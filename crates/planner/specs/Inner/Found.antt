@@ -5,24 +5,16 @@ use mathlib.Core.List.{List, _++_}
 use Prim.Native.Nat.{ℕ, _+_, _-_, _*_, _≤_}
 use lib.ListN.{length, drop}
 use Rattle.widths.specs.Inner.Widths.{depotSize}
-use Rattle.facts.specs.Facts.{holds}
 use Rattle.frames.specs.Book.{Contents}
-use Rattle.replay.specs.Met.{met}
-use Rattle.drafts.specs.Inner.Drafts.{carried, flat}
+use Rattle.drafts.specs.Inner.Drafts.{flat}
 use Rattle.search.specs.Inner.Drive.{drafted}
-use Rattle.search.specs.Inner.Scan.{BestWritten}
 use Rattle.sizes.specs.Sizes.{factCount}
-use Rattle.planner.specs.Promise.{NoWay}
+use Rattle.planner.specs.Promise.{NoWay, Works}
 use Rattle.planner.specs.Answer.{Said, said80, said81}
 
--- The best plan's requests stand in two buffers, and lead to a ledger that meets the query.
-pub record Reached (b : Contents) (up down : List ℕ) (ups at : ℕ) : Type 0 where
-  pub written : BestWritten b up down ups at
-  pub meets : met b (holds (carried (b .facts) (drafted up ups down at))) ≡ true
-
--- Found: they do. Not found: there is no way. The count of the requests is small in either case.
+-- Found: the requests in two buffers are a plan that works. Not found: there is no way. Their count is small in either case.
 pub record PlanFound (b : Contents) (up down : List ℕ) (found : Bool) (ups at : ℕ) : Type 0 where
-  pub reached : found ≡ true → Reached b up down ups at
+  pub works : found ≡ true → Works b (drafted up ups down at)
   pub none : found ≡ false → NoWay b
   pub few-up : ups ≤ depotSize
   pub most-down : at ≤ depotSize

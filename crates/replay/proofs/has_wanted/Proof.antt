@@ -4,19 +4,20 @@ use mathlib.Core.Path.{_≡_, refl, sym, _∙_}
 use mathlib.Core.Bool.{Bool, true, false, cond}
 use mathlib.Core.List.{List}
 use Prim.Native.Nat.{ℕ, _≤_, _-_}
-use lib.Dec.{eqb}
 use lib.ListN.{length, getD, take, drop}
 use borrow.Author.Tests.{not-true, not-false}
-use Rattle.sets.specs.Sets.{subset}
 use Rattle.facts.specs.Facts.{holds}
+use Rattle.facts.specs.declared.Fact.the-variants.{Holds}
 use Rattle.sizes.specs.declared.Sizes.{Sizes}
+use Rattle.sizes.specs.Sizes.{valuesOf}
 use Rattle.frames.specs.declared.Want.{Want}
 use Rattle.frames.specs.declared.Query.{Query}
 use Rattle.frames.specs.Book.{contentsOf}
 use Rattle.quantifiers.specs.Quantifiers.{all}
 use Rattle.quantifiers.proofs.ListLaws.{all-out, all-pass, all-fail}
-use Rattle.ledger.specs.Show.{valueSet}
-use Rattle.replay.specs.Met.{wants}
+use Rattle.ledger.specs.Show.{setBelow, valueSet}
+use Rattle.replay.specs.Met.{wants, directSet}
+use Rattle.replay.specs.Inner.Direct.{wanted}
 use borrow.Author.Needs.{needs}
 use native.Mathlib.Omega.{arith}
 use Rattle.replay.proofs.has_wanted.Statement.{statement}
@@ -27,17 +28,18 @@ abbrev none : Want
 none = record { attr = record { 0 = 0 }; set = 0 }
 
 -- The test of one named set.
-abbrev test : Bool → List ℕ → Sizes → List ℕ → Query → Want → Bool
-test exactly ledger z juniors query w =
-    let held = valueSet z juniors (holds ledger) (query .person) (w .attr .0) in
-    cond exactly (eqb held (w .set)) (subset (w .set) held)
+abbrev test : Bool → Bool → List ℕ → Sizes → List ℕ → Query → Want → Bool
+test exactly directly ledger z juniors query w =
+    wanted exactly (w .set)
+    (cond directly (setBelow (λ v. holds ledger (Holds (query .person) (w .attr) v)) (valuesOf z (w .attr .0)))
+    (valueSet z juniors (holds ledger) (query .person) (w .attr .0)))
 
 abbrev Inv-loop : tie.InvT-loop
-Inv-loop exactly ledger z juniors query n j₀ j =
-    (j ≤ n) × (all (test exactly ledger z juniors query) (take n (query .wants)) ≡ all (test exactly ledger z juniors query) (drop j (take n (query .wants))))
+Inv-loop exactly directly ledger z juniors query n j₀ j =
+    (j ≤ n) × (all (test exactly directly ledger z juniors query) (take n (query .wants)) ≡ all (test exactly directly ledger z juniors query) (drop j (take n (query .wants))))
 
 abbrev μ-loop : tie.MeasureT-loop
-μ-loop exactly ledger z juniors query n j₀ j = n - j
+μ-loop exactly directly ledger z juniors query n j₀ j = n - j
 
 -- The places that the answers name, each seen from a later one: the start, from a turn of the loop and from after it.
 abbrev entry-of-turn : tie.In-loop Inv-loop μ-loop → tie.Start Inv-loop μ-loop
@@ -49,7 +51,7 @@ entry c = c .before .before .before .before .before .before
 -- The test under the arguments of the function.
 abbrev tested : tie.Start Inv-loop μ-loop → Want → Bool
 tested start =
-    test (start .args .exactly) (start .args .ledger .now) (start .args .b .sizes) (start .args .b .juniors) (start .args .b .query)
+    test (start .args .exactly) (start .args .directly) (start .args .ledger .now) (start .args .b .sizes) (start .args .b .juniors) (start .args .b .query)
 
 cast-n : tie.Need-cast-n Inv-loop μ-loop
 cast-n c = search needs
@@ -65,12 +67,12 @@ element-copy-out-w : tie.Need-element-copy-out-w Inv-loop μ-loop
 unfolding contentsOf
 element-copy-out-w c = omega (arith, c .loop-test .taken, entry-of-turn c .pre .query-in .few)
 
-slice-aggregate-value-set : tie.Need-slice-aggregate-value-set Inv-loop μ-loop
-slice-aggregate-value-set c = search needs
+slice-aggregate-held-set : tie.Need-slice-aggregate-held-set Inv-loop μ-loop
+slice-aggregate-held-set c = search needs
 
-value-set-requires : tie.Need-value-set-requires Inv-loop μ-loop
+held-set-requires : tie.Need-held-set-requires Inv-loop μ-loop
 unfolding contentsOf
-value-set-requires c κs =
+held-set-requires c κs =
     let start = entry-of-turn (c .before .before .before) in
     (start .pre .sized, start .pre .edge-room)
 
@@ -78,7 +80,7 @@ is-wanted-requires : tie.Need-is-wanted-requires Inv-loop μ-loop
 is-wanted-requires c κs = search needs
 
 returns : tie.Need-returns Inv-loop μ-loop
-unfolding wants contentsOf
+unfolding wants directSet contentsOf
 returns c =
     let in-turn = c .before .before .before .before .before .before in
     let at-loop = in-turn .before in
@@ -90,7 +92,7 @@ returns c =
     let inv = at-loop .loop .inv .1 in
     let room : n ≤ length (b .query .wants) = omega (arith, start .pre .query-in .few, start .pre .query-in .room) in
     let wrong = sym (c .before .is-wanted .ensures) ∙ not-true _ (c .if1 .taken) in
-    let failed : P (getD (b .query .wants) j none) ≡ false = rw (← c .before .before .value-set .ensures) wrong in
+    let failed : P (getD (b .query .wants) j none) ≡ false = rw (← c .before .before .held-set .ensures) wrong in
     sym (inv ∙ all-fail P (b .query .wants) n room j none (in-turn .loop-test .taken) failed)
 
 add-j : tie.Need-add-j Inv-loop μ-loop
@@ -112,12 +114,12 @@ loop-again c =
     let inv = at-loop .loop .inv .1 in
     let room : n ≤ length (b .query .wants) = omega (arith, start .pre .query-in .few, start .pre .query-in .room) in
     let right = sym (c .before .is-wanted .ensures) ∙ not-false _ (c .if1 .left) in
-    let passed : P (getD (b .query .wants) j none) ≡ true = rw (← c .before .before .value-set .ensures) right in
+    let passed : P (getD (b .query .wants) j none) ≡ true = rw (← c .before .before .held-set .ensures) right in
     let more = in-turn .loop-test .taken in
     (omega (arith, more), inv ∙ all-pass P (b .query .wants) n room j none more passed)
 
 returns-2 : tie.Need-returns-2 Inv-loop μ-loop
-unfolding wants contentsOf
+unfolding wants directSet contentsOf
 returns-2 c =
     let start = entry c in
     let b = start .args .b in
@@ -138,8 +140,8 @@ has-wanted-spec =
     loop-holds
     mul-w
     element-copy-out-w
-    slice-aggregate-value-set
-    value-set-requires
+    slice-aggregate-held-set
+    held-set-requires
     is-wanted-requires
     returns
     add-j

@@ -54,14 +54,47 @@ returns-5 c =
     let not-4 = ne-eqb _ _ (c .before .before .if4 .left) in
     rw (not-1, not-2, not-3, not-4, eq-eqb _ _ (c .before .if5 .taken)) (c .holds-at-least .ensures)
 
+holds-directly-requires-2 : tie.Need-holds-directly-requires-2
+holds-directly-requires-2 c κs = search needs
+
 returns-6 : tie.Need-returns-6
 unfolding termHolds
 returns-6 c =
-    let not-two = c .before .before .before in
-    let not-1 = ne-eqb _ _ (not-two .before .if1 .left) in
-    let not-2 = ne-eqb _ _ (not-two .if2 .left) in
-    let not-3 = ne-eqb _ _ (c .before .before .if3 .left) in
-    rw (not-1, not-2, not-3, ne-eqb _ _ (c .before .if4 .left), ne-eqb _ _ (c .if5 .left))
+    let not-four = c .before .before .before in
+    let not-three = not-four .before in
+    let not-1 = ne-eqb _ _ (not-three .before .before .if1 .left) in
+    let not-2 = ne-eqb _ _ (not-three .before .if2 .left) in
+    let not-3 = ne-eqb _ _ (not-three .if3 .left) in
+    let not-4 = ne-eqb _ _ (not-four .if4 .left) in
+    let not-5 = ne-eqb _ _ (c .before .before .if5 .left) in
+    rw (not-1, not-2, not-3, not-4, not-5, eq-eqb _ _ (c .before .if6 .taken), c .holds-directly2 .ensures)
+
+is-directly-in-requires-2 : tie.Need-is-directly-in-requires-2
+is-directly-in-requires-2 c κs = search needs
+
+returns-7 : tie.Need-returns-7
+unfolding termHolds
+returns-7 c =
+    let not-five = c .before .before .before in
+    let not-three = not-five .before .before in
+    let not-1 = ne-eqb _ _ (not-three .before .before .if1 .left) in
+    let not-2 = ne-eqb _ _ (not-three .before .if2 .left) in
+    let not-3 = ne-eqb _ _ (not-three .if3 .left) in
+    let not-4 = ne-eqb _ _ (not-five .before .if4 .left) in
+    let not-5 = ne-eqb _ _ (not-five .if5 .left) in
+    let not-81 = ne-eqb _ _ (c .before .before .if6 .left) in
+    rw (not-1, not-2, not-3, not-4, not-5, not-81, eq-eqb _ _ (c .before .if7 .taken), c .is-directly-in2 .ensures)
+
+returns-8 : tie.Need-returns-8
+unfolding termHolds
+returns-8 c =
+    let not-four = c .before .before .before in
+    let not-1 = ne-eqb _ _ (not-four .before .before .before .if1 .left) in
+    let not-2 = ne-eqb _ _ (not-four .before .before .if2 .left) in
+    let not-3 = ne-eqb _ _ (not-four .before .if3 .left) in
+    let not-4 = ne-eqb _ _ (not-four .if4 .left) in
+    let not-5 = ne-eqb _ _ (c .before .before .if5 .left) in
+    rw (not-1, not-2, not-3, not-4, not-5, ne-eqb _ _ (c .before .if6 .left), ne-eqb _ _ (c .if7 .left))
 
 pub term-holds-spec : {M : Type 1} → statement M
 term-holds-spec =
@@ -77,4 +110,8 @@ term-holds-spec =
     returns-4
     holds-at-least-requires
     returns-5
-    returns-6)
+    holds-directly-requires-2
+    returns-6
+    is-directly-in-requires-2
+    returns-7
+    returns-8)

@@ -6,7 +6,7 @@ use Prim.Native.Nat.{ℕ}
 use native.Mathlib.Omega.{arith}
 use lib.ListN.{getD-replicate}
 use Rattle.frames.specs.Book.{Contents, contentsOf}
-use Rattle.frames.specs.Inner.Fits.{Admitted}
+use Rattle.reach.specs.Inner.Leveled.{Leveled}
 use Rattle.search.specs.Inner.Scan.{NoRun, Scanned, Searched}
 use Rattle.search.proofs.PersonLaws.{to-self, serves-own}
 use Rattle.search.proofs.StepLaws.{no-found, was-found}
@@ -19,9 +19,9 @@ none-found : {b : Contents} {up down : List ℕ} {found : Bool} {ups at : ℕ} �
 none-found e never = record { written = λ f. absurd (true≢false (sym f ∙ e)); stuck = λ f. never }
 
 -- Where no run ends clear for any person, none does for the query's own.
-own-stuck : {b : Contents} → Admitted b → {k : ℕ} {rows : List Bool} {up down : List ℕ} {found : Bool} {ups at : ℕ} → Scanned b k rows up down found ups at
+own-stuck : {b : Contents} → Leveled b → {k : ℕ} {rows : List Bool} {up down : List ℕ} {found : Bool} {ups at : ℕ} → Scanned b k rows up down found ups at
     → found ≡ false → NoRun b
-own-stuck {b} ok s e = subst NoRun (to-self b) (s .stuck e (b .query .person .0) (ok .query-in .person))
+own-stuck {b} ok s e = subst NoRun (to-self b) (s .stuck e (b .query .person .0) (ok .book .query-in .person))
 
 -- The places that the answers name, each seen from a later one.
 abbrev entry : tie.After-facts2 → tie.Start
@@ -53,13 +53,13 @@ slice-aggregate-settle-crews : tie.Need-slice-aggregate-settle-crews
 unfolding contentsOf
 slice-aggregate-settle-crews c =
     let start = entry c in
-    sym (start .pre .0 .0 .facts-room)
+    sym (start .pre .0 .0 .book .facts-room)
 
 slice-aggregate-settle-crews-2 : tie.Need-slice-aggregate-settle-crews-2
 unfolding contentsOf
 slice-aggregate-settle-crews-2 c =
     let start = entry (c .before) in
-    sym (start .pre .0 .0 .edge-room)
+    sym (start .pre .0 .0 .book .edge-room)
 
 slice-aggregate-settle-crews-3 : tie.Need-slice-aggregate-settle-crews-3
 slice-aggregate-settle-crews-3 c = refl
@@ -92,7 +92,7 @@ slice-aggregate-person-level : tie.Need-slice-aggregate-person-level
 unfolding contentsOf
 slice-aggregate-person-level c =
     let start = entry-from-settle-crews-arg2 (after-settle-crews (c .before .before) .before) in
-    sym (start .pre .0 .0 .facts-room)
+    sym (start .pre .0 .0 .book .facts-room)
 
 slice-aggregate-person-level-2 : tie.Need-slice-aggregate-person-level-2
 slice-aggregate-person-level-2 c = sym (after-up (c .before .before .before) .before .before .rows2 .given)

@@ -39,9 +39,9 @@ settle-level-requires c κs =
     let pre = entry (after-person-table c .before) .pre in
     let given = pre .0 in
     let drive = pre .1 in
-    let low = given .accepted .sized .crews-most in
+    let low = given .accepted .book .sized .crews-most in
     record {
-      wants = small-wants (given .accepted);
+      wants = small-wants (given .accepted .book);
       sound-adds = given .moves .sound-adds;
       sound-dels = given .moves .sound-dels;
       names = record { room-added = refl; room-deleted = refl };
@@ -69,10 +69,10 @@ returns c =
     let given = start .pre .0 in
     let drive = start .pre .1 in
     let level = after-settle-level c .settle-level .ensures in
-    let bads = bad-all (contentsOf (start .args .b)) (small-wants (given .accepted)) (start .args .b .sizes .crews) false (omega arith)
+    let bads = bad-all (contentsOf (start .args .b)) (small-wants (given .accepted .book)) (start .args .b .sizes .crews) false (omega arith)
     (λ h. absurd (omega arith)) (level .size) (level .forbidden) in
     let begun = starts-built (start-flags (contentsOf (start .args .b)) (given .same-facts) (omega arith) (level .started)) (level .built) in
-    person-searched (contentsOf (start .args .b)) (given .accepted) (start .args .b .rules) refl (given .accepted .rules-few) (given .moves)
+    person-searched (contentsOf (start .args .b)) (given .accepted) (start .args .b .rules) refl (given .accepted .book .rules-few) (given .moves)
     drive (at-person-table .person-table .ensures)
     bads begun (level .allowed) (level .result)
     (c .before .before .before .up .given ∙ drive .size-up) (c .before .down .given ∙ drive .size-down)

@@ -8,10 +8,10 @@ use Rattle.widths.specs.Inner.Widths.{levelSize, flagsSize, rowsSize, tableSize
 use Rattle.frames.specs.declared.Book.{Book}
 use Rattle.frames.specs.declared.Query.{Query}
 use Rattle.frames.specs.Book.{contentsOf}
-use Rattle.frames.specs.Inner.Fits.{Admitted}
 use Rattle.level.specs.Inner.Moves.{Moves, Sound, movesIn}
 use Rattle.build.specs.Inner.Build.{Built}
 use Rattle.level.specs.Inner.Settle.{Result}
+use Rattle.reach.specs.Inner.Leveled.{Leveled}
 use Rattle.flags.specs.Inner.Flags.{FlagsWritten, Reaching, SmallWants, startFlag, badFlag}
 use Rattle.search.specs.Inner.Scan.{SideMoves, AllAllowed, Serves, Scanned}
 
@@ -23,7 +23,7 @@ pub record Names (added deleted : List ℕ) : Type 0 where
 -- What the levels of the crews need of an accepted book: its query, how many crews it has, its facts and juniors, and the moves on crews.
 pub record CrewParts (q : Query) (crews : ℕ) (facts juniors adds dels : List ℕ) : Type 0 where
   pub book : Book
-  pub accepted : Admitted (contentsOf book)
+  pub accepted : Leveled (contentsOf book)
   pub same-query : q ≡ book .query
   pub same-crews : crews ≡ book .sizes .crews
   pub same-facts : facts ≡ book .facts
@@ -47,7 +47,7 @@ pub record ScannedOf (q : Query) (crews : ℕ) (facts juniors adds dels : List �
 
 -- The level of the query's person: an accepted book with its facts, the moves on the person, and room for a table.
 pub record PersonGiven (b : Book) (facts adds dels : List ℕ) (table : List Bool) : Type 0 where
-  pub accepted : Admitted (contentsOf b)
+  pub accepted : Leveled (contentsOf b)
   pub moves : SideMoves (b .rules) (b .query .roles) 1 5 2 6 (movesIn adds) (movesIn dels)
   pub rows : length table ≡ tableSize
   pub same-facts : facts ≡ b .facts

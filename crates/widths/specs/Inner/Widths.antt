@@ -36,3 +36,7 @@ moveSize = 14
 -- The numbers of 512 moves: 512 × moveSize.
 abbrev pub movesSize : ℕ
 movesSize = 7168
+
+-- The terms of a rule for each fact of a level: 8 × levelSize.
+abbrev pub termsSize : ℕ
+termsSize = 1280

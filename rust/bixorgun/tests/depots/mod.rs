@@ -1,6 +1,6 @@
 //! Small depots drawn from a seed: 1-2 persons, 0-3 crews, 1-2 attributes of 1-3 values, in most depots two of different
-//! counts, at most twelve facts and twelve rules of every op and every kind of term, starting facts, and a query of
-//! either mode.
+//! counts, at most twelve facts and twelve rules of every op and every kind of term, starting facts, and a query of mode
+//! 01 or 02. And others of at most ten facts whose books only grow: with "not" terms, and a query of mode 03.
 
 use crate::seed::Seed;
 use crate::trials::{Draft, Ledger};
@@ -10,8 +10,15 @@ const MOST_FACTS: usize = 12;
 
 const MOST_RULES: usize = 12;
 
+/// The same where a book only grows: most of its ledgers can be reached.
+const MOST_GROWING_FACTS: usize = 10;
+
 /// The kind of a ladder term: the subject effectively holds v or any higher value of a.
 pub const LADDER: u8 = 5;
+
+/// The kinds of "not" terms: the subject does not directly hold v of a, the person is not directly in crew a.
+pub const NOT_HELD: u8 = 0x81;
+pub const NOT_IN: u8 = 0x83;
 
 /// The first line's numbers; an attribute that is not there has count 0.
 #[derive(Clone, Copy)]
@@ -138,7 +145,7 @@ impl Depot {
 
     /// Draws a depot.
     pub fn draw(seed: &mut Seed) -> Self {
-        let sizes = draw_sizes(seed);
+        let sizes = draw_sizes(seed, MOST_FACTS);
         let facts = sizes.facts();
         let mut frames = vec![sizes.frame()];
         let lines = 12 + seed.below(14);
@@ -148,6 +155,38 @@ impl Depot {
         }
         frames.push(draw_query(seed, sizes));
         Depot { sizes, facts, draft: Draft::new(frames) }
+    }
+
+    /// Draws a depot whose book only grows: ops 01, 03 and 05, a rule at most for each op, a and v, terms of kinds 01, 03,
+    /// 81 and 83, one of the latter two at least, and a query of mode 03.
+    pub fn draw_growing(seed: &mut Seed) -> Self {
+        loop {
+            let sizes = draw_sizes(seed, MOST_GROWING_FACTS);
+            let facts = sizes.facts();
+            let mut frames = vec![sizes.frame()];
+            let lines = 8 + seed.below(20);
+            for _ in 0..lines {
+                let line = match seed.below(10) {
+                    0 => draw_edge(seed, sizes),
+                    1 => Some(draw_fact(seed, &facts)),
+                    _ => Some(draw_growing_rule(seed, sizes)),
+                };
+                // A rule for the op, a and v of an earlier one is left out.
+                let is_second =
+                    |frame: &Vec<u8>| frames.iter().any(|other| key(other).is_some_and(|of| Some(of) == key(frame)));
+                frames.extend(line.filter(|frame| !is_second(frame)));
+            }
+            frames.push(draw_growing_query(seed, sizes));
+            let depot = Depot { sizes, facts, draft: Draft::new(frames) };
+            if depot.has_not() {
+                return depot;
+            }
+        }
+    }
+
+    /// Whether a rule has a "not" term.
+    pub fn has_not(&self) -> bool {
+        self.rules().any(|rule| rule[6..].chunks_exact(3).any(|term| matches!(term[0], NOT_HELD | NOT_IN)))
     }
 
     /// The rules' frames: 03, op, role, a, v, n and the terms.
@@ -204,7 +243,7 @@ fn draw_counts(seed: &mut Seed) -> [u8; 2] {
 }
 
 /// Sizes drawn, and cut where they give too many facts: to one person, to counts of at most 2, to one attribute.
-fn draw_sizes(seed: &mut Seed) -> Sizes {
+fn draw_sizes(seed: &mut Seed, most: usize) -> Sizes {
     let persons = 1 + seed.below(2);
     let crews = draw_crews(seed);
     let counts @ [first, second] = draw_counts(seed);
@@ -213,7 +252,46 @@ fn draw_sizes(seed: &mut Seed) -> Sizes {
     let low = Sizes { counts: if first < second { [1, 2] } else { [2, second.min(1)] }, ..lone };
     let one = Sizes { counts: [first, 0], ..drawn };
     let least = Sizes { counts: [2, 0], ..lone };
-    [drawn, lone, low, one].into_iter().find(|sizes| sizes.fact_count() <= MOST_FACTS).unwrap_or(least)
+    [drawn, lone, low, one].into_iter().find(|sizes| sizes.fact_count() <= most).unwrap_or(least)
+}
+
+/// Op, a and v of a rule's frame.
+fn key(frame: &[u8]) -> Option<[u8; 3]> {
+    match *frame {
+        [3, op, _, a, v, ..] => Some([op, a, v]),
+        _ => None,
+    }
+}
+
+/// A rule of op 01 or 05, seldom 03, with one term or two, seldom none or three.
+fn draw_growing_rule(seed: &mut Seed, sizes: Sizes) -> Vec<u8> {
+    let op = if sizes.crews == 0 { 1 } else { [1, 1, 1, 5, 5, 5, 5, 3][usize::from(seed.below(8))] };
+    let role = if seed.below(8) > 0 { seed.below(3) } else { 15 };
+    let n = [0, 1, 1, 1, 1, 2, 2, 3][usize::from(seed.below(8))];
+    let (a, v) = if op == 5 { (seed.below(sizes.crews), 0) } else { draw_value(seed, sizes) };
+    let mut frame = vec![3, op, role, a, v, n];
+    for _ in 0..n {
+        let not = 0x80 * seed.below(2);
+        if op == 5 && seed.below(2) == 1 {
+            frame.extend([3 | not, seed.below(sizes.crews), 0]);
+        } else {
+            let (a, v) = draw_value(seed, sizes);
+            frame.extend([1 | not, a, v]);
+        }
+    }
+    frame
+}
+
+/// A query of mode 03, mostly by roles 0 to 2 and for most of what there is.
+fn draw_growing_query(seed: &mut Seed, sizes: Sizes) -> Vec<u8> {
+    let person = seed.below(sizes.persons);
+    let named: Vec<u8> = (0..sizes.attrs()).filter(|_| seed.below(8) > 0).collect();
+    let mut frame = vec![5, 3, person, 128 * seed.below(2), draw_roles(seed), named.len() as u8];
+    for a in named {
+        frame.extend([a, 0, draw_set(seed, sizes.values(a))]);
+    }
+    frame.extend([0, 0, 0, draw_set(seed, sizes.crews)]);
+    frame
 }
 
 /// A line between the first and the query: an edge, a starting fact, or a rule while there are not too many.

@@ -39,13 +39,13 @@ impl Default for Reached {
 
 impl Reached {
     /// Notes a ledger, by what show gives of each person. One who was seen with every value is shown no more, but for
-    /// the query: nothing is left to note.
+    /// the query: nothing is left to note. A book with a "not" term has no page, and the query alone is judged.
     pub fn note(&mut self, depot: &Depot, ledger: &Ledger) {
         self.ledgers += 1;
         let full = depot.sizes.full_row();
         for (person, row) in (0..depot.sizes.persons).zip(self.held.chunks_exact_mut(16)) {
             let is_asked = person == depot.draft.query()[2] && !self.query;
-            if *row == full && !is_asked {
+            if (depot.has_not() || *row == full) && !is_asked {
                 continue;
             }
             let view = depot.draft.show(ledger, person);
@@ -57,13 +57,17 @@ impl Reached {
     }
 }
 
-/// Walks through every ledger that chains of requests reach, to the last.
+/// Walks through every ledger that chains of requests reach, to the last; where the book has a "not" term, to the first
+/// that meets the query, since nothing else is asked of it.
 pub fn walk(depot: &Depot) -> Reached {
     let seen = vec![false; 1 << depot.facts.len()];
     let mut search = Search { depot, moves: moves_of(depot), seen, queue: Vec::new() };
     search.enter(search.state_of(&depot.draft.open()));
     let mut reached = Reached::default();
     while let Some(&state) = search.queue.get(reached.ledgers) {
+        if reached.query && depot.has_not() {
+            break;
+        }
         let ledger = search.ledger_of(state);
         reached.note(depot, &ledger);
         search.expand(state, &ledger);

@@ -27,7 +27,7 @@ impl Draft {
         &self.text
     }
 
-    /// The query's frame: 05, mode, person, roles, q, the named sets, and in mode 02 the crews.
+    /// The query's frame: 05, mode, person, roles, q, the named sets, and in modes 02 and 03 the crews.
     pub fn query(&self) -> &[u8] {
         self.frames.last().expect("a query")
     }
@@ -61,12 +61,17 @@ impl Draft {
         self.is_met_by(ledger, &self.show(ledger, self.query()[2]))
     }
 
-    /// The same, where show has given this of the query's person.
+    /// The same, where show has given this of the query's person. Mode 03 asks the ledger's own bytes of the person's
+    /// values too.
     pub fn is_met_by(&self, ledger: &Ledger, view: &View) -> bool {
         let &[_, mode, person, _, _, q, ref rest @ ..] = self.query() else { panic!("a query") };
         let (sets, crews) = rest.split_at(3 * usize::from(q));
         let met = sets.chunks_exact(3).all(|set| {
-            let held = view.values(Attr(set[0])).bits();
+            let own = 16 * usize::from(person) + 2 * usize::from(set[0]);
+            let held = match mode {
+                3 => u16::from_be_bytes([ledger[own], ledger[own + 1]]),
+                _ => view.values(Attr(set[0])).bits(),
+            };
             let wanted = u16::from_be_bytes([set[1], set[2]]);
             if mode == 2 {
                 held == wanted
@@ -74,7 +79,11 @@ impl Draft {
                 held & wanted == wanted
             }
         });
-        let members = MEMBERS_AT + 4 * usize::from(person);
-        met && (mode == 1 || ledger[members..members + 4] == *crews)
+        let members = &ledger[MEMBERS_AT + 4 * usize::from(person)..][..4];
+        met && match mode {
+            1 => true,
+            2 => members == crews,
+            _ => members.iter().zip(crews).all(|(members, listed)| listed & !members == 0),
+        }
     }
 }

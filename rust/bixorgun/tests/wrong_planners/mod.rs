@@ -1,7 +1,8 @@
 //! Planners that are wrong, each in one way, to see that the search catches them. Two give every book the same answer,
-//! some damage the answer of the library's planner, and the others are the small planner of `model` with a fault, which
-//! is right without one.
+//! some damage the answer of the library's planner, and the others are the small planner of `model`, or for books that
+//! only grow that of `growing`, with a fault; both are right without one.
 
+pub mod growing;
 pub mod model;
 
 use bixorgun::bytes::{self, Planned};
@@ -44,6 +45,45 @@ pub const WRONG: [(&str, Planner); 26] = [
     ("a short buffer not refused", fill_short_buffer),
     ("10 × F by A × the first attribute's count", need_by_first),
 ];
+
+/// The wrong planners for books that only grow, by their faults.
+pub const WRONG_GROWING: [(&str, Planner); 25] = [
+    ("no way to every book", |depot, out| answer(depot, out, || None)),
+    ("the empty plan to every book", |depot, out| answer(depot, out, || Some(Vec::new()))),
+    ("\"not\" terms not heeded", |depot, out| grown(depot, out, growing::Fault::NotsUnheeded)),
+    ("added in any order that is permitted", |depot, out| grown(depot, out, growing::Fault::AnyOrder)),
+    ("added in the order of their numbers", |depot, out| grown(depot, out, growing::Fault::ByNumber)),
+    ("what is asked for not added", |depot, out| grown(depot, out, growing::Fault::NeedsUnclosed)),
+    ("all added that a rule adds", |depot, out| grown(depot, out, growing::Fault::AllNeeded)),
+    ("starting facts bar nothing", |depot, out| grown(depot, out, growing::Fault::StartBarsNothing)),
+    ("starting facts forgotten", |depot, out| grown(depot, out, growing::Fault::StartForgotten)),
+    ("rules of roles outside the query used", |depot, out| grown(depot, out, growing::Fault::RolesIgnored)),
+    ("a rule that bars its own fact not used", |depot, out| grown(depot, out, growing::Fault::OwnFactBarred)),
+    ("what is effective bars", |depot, out| grown(depot, out, growing::Fault::EffectiveBars)),
+    ("what is effective meets the query", |depot, out| grown(depot, out, growing::Fault::EffectiveMeets)),
+    ("a \"not\" term asks for the fact", |depot, out| grown(depot, out, growing::Fault::NotTurned)),
+    ("a \"not\" term on crews not tested", |depot, out| grown(depot, out, growing::Fault::CrewNotsUnheeded)),
+    ("a term that asks for a fact not tested", |depot, out| grown(depot, out, growing::Fault::AskedUnheeded)),
+    ("the listed crews not asked for", |depot, out| grown(depot, out, growing::Fault::CrewsNotAsked)),
+    ("mode 03 taken for mode 02", |depot, out| grown(depot, out, growing::Fault::Exactly)),
+    ("any person's starting facts taken", |depot, out| grown(depot, out, growing::Fault::AnyPersonsStart)),
+    ("the last request left out", leave_out_last),
+    ("a request doubled", double_first),
+    ("a wrong count", miscount),
+    ("a byte written behind the plan", write_behind),
+    ("a byte written on no way", write_on_no_way),
+    ("a short buffer not refused", fill_short_buffer),
+];
+
+/// The small planner for these books without a fault, and a search in its place.
+pub const RIGHT_GROWING: [Planner; 2] = [
+    |depot, out| grown(depot, out, growing::Fault::None),
+    |depot, out| answer(depot, out, || growing::shortest(depot)),
+];
+
+fn grown(depot: &Depot, out: &mut [u8], fault: growing::Fault) -> Result<Planned, Refusal> {
+    answer(depot, out, || growing::plan(depot, fault))
+}
 
 /// The small planner without a fault, in its two forms.
 pub const RIGHT: [Planner; 2] =

@@ -1,5 +1,7 @@
 //! The planner for every size.
 //!
+//! Books with "not" terms, whose query has mode 03, are [`growing`]'s. What follows is about all others.
+//!
 //! No term speaks of a missing fact, so what is permitted in a ledger is permitted in every larger one. Terms about a
 //! person look at that person and at crews, terms about a crew at it and its juniors: of all persons only the query's
 //! matters. Call a fact *unwanted* when no ledger that meets the query has it.
@@ -25,6 +27,8 @@ use crate::book::{Attr, Book, Crew, Fact, Mode, Person, Role, Rule, Sizes, Term,
 use crate::book::{MOST_ATTRS, MOST_RULES, MOST_TERMS, MOST_VALUES};
 use crate::ledger::{crews, numbers, Request};
 
+use super::growing;
+
 /// The query's person in a column.
 const PERSON: u64 = 1 << 32;
 /// The crews in a column.
@@ -35,6 +39,9 @@ const COLUMNS: usize = MOST_ATTRS * MOST_VALUES;
 /// A plan that demand 3 allows, or nothing when there is no way.
 #[must_use]
 pub fn plan(book: &Book) -> Option<Vec<Request>> {
+    if matches!(book.query.mode, Mode::AtLeastDirectly { .. }) {
+        return growing::plan(book);
+    }
     let tree = Tree::new(book);
     let goal = Goal::new(book, &tree);
     let adding = Moves::new(book, Way::Add, &tree);
@@ -304,6 +311,7 @@ impl Trial {
                 }
                 Term::In(crew) => inside |= 1 << crew.0,
                 Term::EffectivelyIn(crew) => under |= 1 << crew.0,
+                Term::NotHolds(..) | Term::NotIn(_) => unreachable!("books with such a term have mode 03"),
             }
         }
         if rule.way == Way::Delete {

@@ -33,6 +33,10 @@ pub struct Counts {
     pub plans_by_ladder: usize,
     /// No way, though there is a plan without the ladder terms.
     pub no_way_by_ladder: usize,
+    /// Depots whose book has a "not" term.
+    pub nots: usize,
+    /// No way, though there is a plan without the "not" terms.
+    pub no_way_by_not: usize,
     /// Depots with two attributes or more.
     pub several_attrs: usize,
     /// Those of them whose counts are not all the same.
@@ -55,6 +59,7 @@ impl Counts {
         self.depots += 1;
         self.exact += usize::from(exact);
         self.ladders += usize::from(book.has_ladder());
+        self.nots += usize::from(book.has_not());
         let differing = usize::from(book.sizes.differ());
         self.several_attrs += usize::from(book.sizes.attrs() > 1);
         self.differing += differing;
@@ -64,6 +69,7 @@ impl Counts {
                 self.no_way_exact += usize::from(exact);
                 self.no_way_differing += differing;
                 self.no_way_by_ladder += usize::from(closure::plan(&book.ladders_dropped()).is_some());
+                self.no_way_by_not += usize::from(closure::plan(&book.nots_dropped()).is_some());
                 Ok(())
             }
             (Some(shortest), Some(plan)) => {

@@ -2,7 +2,7 @@
 //!
 //! Two methods: [`search`] tries every ledger of a small depot by the ledger's definitions, [`closure`] serves every size
 //! with sets of its own. They share the book, with the crews below each crew, and nothing of the ledger but how the
-//! numbers of a set are counted off. [`plan`] uses the second.
+//! numbers of a set are counted off. [`plan`] uses the second, which hands books with "not" terms on to [`growing`].
 
 use std::fmt::Write as _;
 
@@ -13,6 +13,7 @@ use crate::refusals::numbered;
 pub mod closure;
 pub mod compare;
 pub mod demand;
+pub mod growing;
 pub mod search;
 
 /// "It returns no way, and the buffer keeps its bytes, or a plan's count of requests."
@@ -27,7 +28,7 @@ pub enum Answer {
 /// What turns the planner back.
 #[derive(Clone, Copy, Debug, PartialEq, Eq)]
 pub enum Refusal {
-    /// 1 to 9.
+    /// 1 to 9, 16 and 17.
     Book(book::Refusal),
     /// 10: "plan buffer under 10 × F"
     Buffer,
@@ -39,7 +40,7 @@ numbered!(Buffer = 10);
 ///
 /// # Errors
 ///
-/// 1-9, then 10; the buffer then keeps its bytes.
+/// 1-9, 16 and 17, then 10; the buffer then keeps its bytes.
 pub fn plan(characters: &[u8], buffer: &mut [u8]) -> Result<Answer, Refusal> {
     let book = book::read(characters)?;
     if buffer.len() < 2 * REQUEST_BYTES * book.sizes.facts() {
@@ -223,12 +224,63 @@ mod tests {
         assert_eq!(counts(&text.replace("0401000002\n", "")), None);
     }
 
+    /// One person, two values, role 0, mode 03: which values are wanted, and the rules as "v if ...".
+    #[test]
+    fn books_that_only_grow() {
+        let wanted = |set: u16| format!("05030000010100{set:04X}00000000");
+        let zero_if_not_1 = "030100000001810001\n";
+        let one = "030100000100\n";
+        let one_if_not_0 = "030100000101810000\n";
+        let grown = |frames: &[&str], set: u16| counts(&bare(&frames.concat(), &wanted(set)));
+        assert_eq!(grown(&[zero_if_not_1, one], 3), Some((2, 2)));
+        assert_eq!(grown(&[one, zero_if_not_1], 3), Some((2, 2)));
+        assert_eq!(grown(&[zero_if_not_1, one_if_not_0], 3), None, "each bars the other");
+        assert_eq!(grown(&[zero_if_not_1, one_if_not_0], 1), Some((1, 1)));
+        assert_eq!(grown(&[zero_if_not_1, one_if_not_0], 2), Some((1, 1)));
+        assert_eq!(grown(&[one_if_not_0, "0401000000\n"], 3), None, "what it bars is there at the start");
+        assert_eq!(grown(&[zero_if_not_1, one, "0401000001\n"], 2), Some((0, 0)));
+        assert_eq!(grown(&["030100000001810000\n"], 1), Some((1, 1)), "it bars its own fact");
+        assert_eq!(grown(&["030100000001810000\n", "0401000000\n"], 1), Some((0, 0)));
+        assert_eq!(grown(&["030100000002010001810001\n", one], 1), None, "it asks for what it bars");
+        assert_eq!(grown(&["030100000002010001810001\n", one], 2), Some((1, 1)));
+        assert_eq!(grown(&["030100000002010000810001\n"], 1), None, "it asks for its own fact");
+        assert_eq!(grown(&[zero_if_not_1, one], 1), Some((1, 1)), "nobody has to add 1");
+        assert_eq!(grown(&["030101000001810001\n", one], 1), None, "the rule of another role");
+        assert_eq!(grown(&[zero_if_not_1, "0401000000\n"], 1), Some((0, 0)));
+        assert_eq!(grown(&[zero_if_not_1], 0), Some((0, 0)));
+        assert_eq!(grown(&[zero_if_not_1], 2), None, "no rule for 1");
+    }
+
+    /// "may join customs if not in returns": crew 1 unless in crew 0; a person inherits nothing that counts.
+    #[test]
+    fn customs_and_returns() {
+        let joining = |frames: &str, query: &str| counts(&format!("0101020102\n{frames}{query}\n"));
+        let (customs, returns) = ("030500010001830000\n", "030500000000\n");
+        let (both, first) = ("05030000010000000003", "05030000010000000002");
+        assert_eq!(joining(&format!("{customs}{returns}"), both), Some((2, 2)));
+        assert_eq!(joining(&format!("{customs}{returns}0403000000\n"), both), None);
+        assert_eq!(joining(&format!("{customs}{returns}0403000000\n0403000100\n"), both), Some((0, 0)));
+        assert_eq!(joining(&format!("{customs}{returns}0403000000\n"), first), None);
+        // In crew 1, its senior, the person is not directly in crew 0; and crew 0's value is not directly the person's.
+        assert_eq!(joining(&format!("020100\n{customs}{returns}0403000100\n"), both), Some((1, 1)));
+        assert_eq!(joining(&format!("{customs}0402010000\n"), "05030000010100000100000002"), None);
+        // Crew 0 if 0; 0; 1 if not 0; crew 1 if 1 and not in crew 0. With crew 0 if 0 and not 1, value 1 would have to
+        // come before 0 and after crew 0.
+        let graded = "030500000001010000\n030100000000\n030100000101810000\n030500010002010001830000\n";
+        assert_eq!(joining(graded, both), Some((4, 4)));
+        assert_eq!(joining(&graded.replace("030500000001010000", "030500000002010000810001"), both), None);
+    }
+
     #[test]
     fn the_printed_output() {
         assert_eq!(printed(D1.as_bytes()), "810002\n0100000001\n0501000000\n");
         assert_eq!(printed(b""), "8F030001\n");
         assert_eq!(printed(bare("", "050100FFFF00").as_bytes()), "810000\n");
         assert_eq!(printed(bare("", "050100FFFF01000001").as_bytes()), "80\n");
+        let not = bare("030100000001810001\n030100000100\n", "05030000010100000300000000");
+        assert_eq!(printed(not.as_bytes()), "810002\n0100000000\n0100000001\n");
+        assert_eq!(printed(not.replace("050300", "050100").replace("0300000000", "03").as_bytes()), "8F110004\n");
+        assert_eq!(printed(not.replace("030100000100", "030200000100").as_bytes()), "8F100004\n");
     }
 
     #[test]

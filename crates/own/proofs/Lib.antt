@@ -1,0 +1,11 @@
+pub mod EnteredLaws
+pub mod WantedLaws
+pub mod RequestLaws
+pub mod OwnLaws
+pub mod MetLaws
+pub mod RuleLaws
+pub mod MayLaws
+pub mod ChainLaws
+pub mod WayLaws
+pub mod TableLaws
+pub mod FoundLaws
