@@ -2,7 +2,7 @@
  *
  * Link with libbixorgun.a (x86-64). The functions keep no state, allocate nothing and write to the one lent buffer
  * alone, so any number of threads may call them at once; a buffer that one call writes is in no other call's hands
- * meanwhile. Give a thread 320 KB of stack or more (BIXORGUN_STACK). As measured with threads, plan needs 148 KB (of
+ * meanwhile. Give a thread 320 KB of stack or more (BIXORGUN_STACK). As measured with threads, plan needs 160 KB (of
  * 1,024 bytes), page 136 KB, request 84 KB and each other operation 75 KB or less; the rest is room for later versions.
  *
  * What the proofs take for granted, and a caller has to see to:

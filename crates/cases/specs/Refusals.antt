@@ -1,5 +1,6 @@
 -- The table of refusals, with the paper's number, line and example of each. Paper 01, "Turned back at the gate"; 15 to 17, each
--- attribute's own range, and 10 of the page, by paper 02. What a row means is said by the product's own definitions on the book's characters; no number is taken from them.
+-- attribute's own range, and 10 of the page, by paper 02. What a row means is said by the product's own definitions on the book's
+-- characters; no number is taken from them.
 use mathlib.Core.Path.{_≡_}
 use mathlib.Core.List.{List, [], _∷_, _++_}
 use Prim.Native.Nat.{ℕ}

@@ -1,5 +1,5 @@
--- The table of the paper's marked examples, and of three books that only grow. Paper 01, "Marked examples for the definitions": "One person, one attribute, values 0 and
--- 1, no crews but those named, all roles, terms by kind 01, unless said."
+-- The table of the paper's marked examples, and of three books that only grow. Paper 01, "Marked examples for the definitions": "One
+-- person, one attribute, values 0 and 1, no crews but those named, all roles, terms by kind 01, unless said."
 use mathlib.Core.List.{List, [], _∷_}
 use Rattle.cases.specs.Claims.{Row, reaches, no-way, shows, unchanged, deletes}
 

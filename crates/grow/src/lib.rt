@@ -7,7 +7,7 @@ ghost use lib.ListN.{length};
 ghost use Rattle.widths.specs.Inner.Widths.{levelSize, termsSize};
 ghost use Rattle.quantifiers.specs.Quantifiers.{anyBelow};
 ghost use Rattle.grow.specs.Inner.Tables.{says, newAt, failsAt, unmetAt, barsAt, freeAt, Gathered, Added, Answer};
-use widths::HIGHER_AT;
+use widths::IDLE_AT;
 use widths::LEVEL_SIZE;
 use widths::TERMS_SIZE;
 
@@ -61,7 +61,7 @@ fn fails(ts: &[u16], x: &[bool], i: usize) -> bool
     if g < LEVEL_SIZE {
         return !x[g];
     }
-    if g < HIGHER_AT {
+    if g < IDLE_AT {
         return x[g - LEVEL_SIZE];
     }
     false

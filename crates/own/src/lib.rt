@@ -17,7 +17,7 @@ use frames::Book;
 use frames::Query;
 use grow::Found;
 use level::Move;
-use widths::HIGHER_AT;
+use widths::IDLE_AT;
 use widths::LEVEL_SIZE;
 use widths::MOVE_SIZE;
 use widths::MOVES_SIZE;
@@ -33,7 +33,7 @@ fn term_of(m: Move, j: usize) -> u16
     if j < m.n {
         return m.terms[j];
     }
-    HIGHER_AT as u16
+    IDLE_AT as u16
 }
 
 // Writes the eight terms of a move's fact.
@@ -142,7 +142,7 @@ fn find_by(b: Book, adds: &[u16], up: &mut [u8]) -> Found
     let facts = b.facts;
     let crews = b.sizes.crews;
     let mut us = [false; LEVEL_SIZE];
-    let mut ts = [HIGHER_AT as u16; TERMS_SIZE];
+    let mut ts = [IDLE_AT as u16; TERMS_SIZE];
     let mut by = [0u16; LEVEL_SIZE];
     let mut x = [false; LEVEL_SIZE];
     let mut w = [false; LEVEL_SIZE];

@@ -29,3 +29,6 @@ pub const MOVES_SIZE: usize = 7168;
 
 // The terms of a rule for each fact of a level.
 pub const TERMS_SIZE: usize = 1280;
+
+// In a table of such terms: from this number on a term asks nothing.
+pub const IDLE_AT: usize = 320;

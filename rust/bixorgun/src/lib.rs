@@ -106,7 +106,7 @@ pub const VIEW_SIZE: usize = 20;
 pub const PAGE_SIZE: usize = 1_024;
 /// The bytes of a plan buffer that is long enough for every book.
 pub const PLAN_MAX: usize = plan_size(32, 128);
-/// The bytes of stack that a thread is given, at least. As measured with threads, plan needs 148 KB (of 1,024 bytes),
+/// The bytes of stack that a thread is given, at least. As measured with threads, plan needs 160 KB (of 1,024 bytes),
 /// page 136 KB, request 84 KB and each other operation 75 KB or less; the rest is room for later versions.
 pub const STACK: usize = 320 * 1_024;
 

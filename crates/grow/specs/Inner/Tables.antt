@@ -6,7 +6,7 @@ use mathlib.Core.List.{List}
 use Prim.Native.Nat.{ℕ, _+_, _-_, _*_, _/_, _≤_, _<_}
 use lib.Dec.{eqb, ltb}
 use lib.ListN.{length, getD, take}
-use Rattle.widths.specs.Inner.Widths.{levelSize, higherAt}
+use Rattle.widths.specs.Inner.Widths.{levelSize, idleAt}
 use Rattle.quantifiers.specs.Quantifiers.{anyBelow}
 use Rattle.theory.specs.Inner.Facts.{State, _⊆_}
 use Rattle.shown.specs.Inner.Shown.{direct}
@@ -45,7 +45,7 @@ newAt ts s d i = ltb (term ts i) levelSize && (flag d (i / 8) && not (flag s (i 
 unfoldable pub failsAt : List ℕ → List Bool → ℕ → Bool
 failsAt ts x i =
     cond (ltb (term ts i) levelSize) (not (flag x (term ts i)))
-    (cond (ltb (term ts i) higherAt) (flag x (term ts i - levelSize)) false)
+    (cond (ltb (term ts i) idleAt) (flag x (term ts i - levelSize)) false)
 
 -- Some term of the rule of f does not hold in x.
 abbrev pub unmetAt : List ℕ → List Bool → ℕ → Bool

@@ -6,13 +6,13 @@ use mathlib.Core.List.{List}
 use Prim.Native.Nat.{ℕ, _+_, _*_, _/_, _<_}
 use lib.Dec.{ltb}
 use lib.ListN.{length, getD}
-use Rattle.widths.specs.Inner.Widths.{levelSize, higherAt, termsSize}
+use Rattle.widths.specs.Inner.Widths.{levelSize, idleAt, termsSize}
 use Rattle.level.specs.Inner.Moves.{Moves, moveAt}
 use Rattle.level.specs.declared.Move.{Move}
 
 -- Term j of a move; where it has no such term, one that asks nothing.
 unfoldable pub termOf : Move → ℕ → ℕ
-termOf m j = cond (ltb j (m .n)) (getD (m .terms) j 0) higherAt
+termOf m j = cond (ltb j (m .n)) (getD (m .terms) j 0) idleAt
 
 -- The eight terms of the move's fact are those of the move; all others are as before.
 pub record TermsEntered (before : List ℕ) (m : Move) (ts : List ℕ) : Type 0 where
@@ -26,7 +26,7 @@ pub record Fresh (us : List Bool) (ts by : List ℕ) : Type 0 where
   pub size-ts : length ts ≡ termsSize
   pub size-by : length by ≡ levelSize
   pub none : (f : ℕ) → f < levelSize → getD us f false ≡ false
-  pub blank : (i : ℕ) → i < termsSize → getD ts i 0 ≡ higherAt
+  pub blank : (i : ℕ) → i < termsSize → getD ts i 0 ≡ idleAt
 
 -- Move i, one of the first k, adds the fact f, and the eight terms of f are its terms.
 pub record EnteredAt (ms : Moves) (k f i : ℕ) (ts : List ℕ) : Type 0 where
@@ -41,4 +41,4 @@ pub record Entered (ms : Moves) (k : ℕ) (us : List Bool) (ts by : List ℕ) : 
   pub size-by : length by ≡ levelSize
   pub each : (f : ℕ) → f < levelSize → getD us f false ≡ true → EnteredAt ms k f (getD by f 0) ts
   pub every : (i : ℕ) → i < k → getD us (moveAt ms i .fact) false ≡ true
-  pub idle : (f : ℕ) → f < levelSize → getD us f false ≡ false → (j : ℕ) → j < 8 → getD ts (8 * f + j) 0 ≡ higherAt
+  pub idle : (f : ℕ) → f < levelSize → getD us f false ≡ false → (j : ℕ) → j < 8 → getD ts (8 * f + j) 0 ≡ idleAt

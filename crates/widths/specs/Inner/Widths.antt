@@ -40,3 +40,8 @@ movesSize = 7168
 -- The terms of a rule for each fact of a level: 8 × levelSize.
 abbrev pub termsSize : ℕ
 termsSize = 1280
+
+-- In a table of such terms: from this number on a term asks nothing. Below levelSize it asks for a fact, and below this for one to be
+-- lacking: 2 × levelSize.
+abbrev pub idleAt : ℕ
+idleAt = 320
