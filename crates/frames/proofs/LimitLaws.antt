@@ -1,69 +1,24 @@
 -- What the limits of a book with "not" terms come to: of a term, of a rule, of a list of rules, and of an accepted book.
 use mathlib.Core.Path.{_≡_, refl, ap, sym, _∙_}
-use mathlib.Core.Bool.{Bool, true, false, not, _&&_, _||_, and-true, and-assoc, true≢false}
+use mathlib.Core.Bool.{Bool, true, false, not, _&&_, _||_, true≢false}
 use mathlib.Core.List.{List, [], _∷_, _++_}
 use mathlib.Core.Logic.{_⊎_, inl, inr, dite}
 use Prim.Native.Nat.{ℕ, zero, suc, _+_, _≤_, _<_}
 use native.Mathlib.Decide.{decLt}
 use native.Mathlib.Numerals.{add-one}
 use native.Mathlib.Omega.{arith}
-use lib.Dec.{eqb, ltb}
-use lib.ListN.{length, getD, take, drop, drop-of-length-le, length-take}
+use lib.Dec.{eqb}
+use lib.ListN.{length, getD, take, drop, drop-of-length-le}
 use lib.Seq.{drop-cons, getD-take, length-take-le}
-use borrow.Author.Tests.{eqb-true, eq-eqb, ltb-false, not-true, not-false}
+use borrow.Author.Tests.{eqb-true, eq-eqb, not-true, not-false}
 use Rattle.quantifiers.specs.Quantifiers.{all, any}
-use Rattle.quantifiers.proofs.BoolLaws.{and-both, or-either, or-none, by-test}
-use Rattle.quantifiers.proofs.ListLaws.{rest-out}
+use Rattle.quantifiers.proofs.BoolLaws.{and-both, or-either, or-neither, or-none}
+use Rattle.quantifiers.proofs.ListLaws.{all-get, any-get, all-behind}
 use Rattle.frames.specs.declared.Term.{Term}
 use Rattle.frames.specs.declared.Rule.{Rule}
 use Rattle.frames.specs.Limits.{isNot, plain, allPlain, growing, sameKey, twice, beyondNot, wrongMode}
 use Rattle.frames.specs.Book.{Contents, noTerm}
 use Rattle.frames.specs.Inner.Fits.{Short, Admitted}
-
--- Where neither of two tests is passed, the first is not.
-pub or-neither : (a b : Bool) → a || b ≡ false → a ≡ false
-or-neither true b e = e
-or-neither false b e = refl
-
--- ---------------------------------------------------------------- lists
-
-module _ {A : Type 0} (p : A → Bool) where
-  -- Where all of a list pass a test, the one at each place does.
-  pub all-get : (xs : List A) (d : A) (i : ℕ) → all p xs ≡ true → i < length xs → p (getD xs i d) ≡ true
-  unfolding all
-  all-get [] d i e h = absurd (omega arith)
-  all-get (x ∷ xs) d zero e h = and-both (p x) (all p xs) e .0
-  all-get (x ∷ xs) d (suc i) e h = all-get xs d i (and-both (p x) (all p xs) e .1) (omega arith)
-
-  -- All of a list with one more behind it pass where all of the list do, and that one.
-  all-behind : (xs : List A) (y : A) → all p (xs ++ (y ∷ [])) ≡ all p xs && p y
-  unfolding all
-  all-behind [] y = and-true (p y)
-  all-behind (x ∷ xs) y = ap (λ (u : Bool). p x && u) (all-behind xs y) ∙ sym (and-assoc (p x) (all p xs) (p y))
-
-  -- Where no one of a list passes a test, the one at each place does not.
-  any-get : (xs : List A) (d : A) (i : ℕ) → any p xs ≡ false → i < length xs → p (getD xs i d) ≡ false
-  unfolding any
-  any-get [] d i e h = absurd (omega arith)
-  any-get (x ∷ xs) d zero e h = or-neither (p x) (any p xs) e
-  any-get (x ∷ xs) d (suc i) e h = any-get xs d i (or-none (p x) (any p xs) e) (omega arith)
-
--- A test of the first n of a list, however long it is, of which b says how those before place j did: with the one at j, and at the end.
-module _ {A : Type 0} (p : A → Bool) (xs : List A) (n : ℕ) (b : Bool) where
-  pub front-more : (j : ℕ) (d : A) → j < n → j < length xs
-      → (b && all p (drop j (take n xs))) ≡ ((b && p (getD xs j d)) && all p (drop (j + 1) (take n xs)))
-  unfolding all
-  front-more j d h k =
-      let in-front : j < length (take n xs) = omega (arith, length-take n xs, h, k) in
-      rw (drop-cons (take n xs) j d in-front, getD-take n xs j d h, add-one j) (sym (and-assoc b (p (getD xs j d)) _))
-
-  pub front-out : (j : ℕ) → ltb j n && ltb j (length xs) ≡ false → (b && all p (drop j (take n xs))) ≡ b
-  front-out j e = ap (λ (u : Bool). b && u) (rest-out p (take n xs) j past) ∙ and-true b
-    where
-      past : length (take n xs) ≤ j
-      past =
-          by-test (ltb j n) (λ i. omega (arith, length-take n xs, ltb-false j (length xs) (rw i at e)))
-          (λ i. omega (arith, length-take n xs, ltb-false j n i))
 
 -- ---------------------------------------------------------------- a term, a rule
 

@@ -1,10 +1,12 @@
 -- The rules of an accepted book are good: what they aim at, and what their terms ask, has a place among a level's facts.
 use mathlib.Core.Path.{_≡_, sym, _∙_}
 use mathlib.Core.Bool.{true, true≢false, _&&_, _||_}
+use mathlib.Core.List.{List}
 use Prim.Native.Nat.{ℕ, _≤_, _<_}
 use native.Mathlib.Omega.{arith}
 use lib.Dec.{eqb, ltb, leb}
 use lib.ListN.{length, getD}
+use lib.Seq.{getD-take, length-take-le}
 use borrow.Author.Tests.{ltb-true, lt-ltb, le-ltb}
 use Rattle.gate.specs.Gate.{headGood, asksValue, asksCrew, termGood}
 use Rattle.sizes.specs.Sizes.{between, isCrew, isValue, isCrewField}
@@ -16,12 +18,13 @@ use Rattle.sizes.proofs.SizeLaws.{between-true, value-bounds}
 use Rattle.quantifiers.proofs.BoolLaws.{and-both, or-either}
 use Rattle.quantifiers.proofs.BelowLaws.{all-at}
 use Rattle.quantifiers.proofs.ListLaws.{each-at}
-use Rattle.frames.specs.Book.{noTerm, noRule, listed}
-use Rattle.frames.specs.Inner.Fits.{termOf, termFits, ruleFits, Short}
+use Rattle.frames.specs.Book.{noTerm, noRule, listed, contentsOf}
+use Rattle.frames.specs.Inner.Fits.{termOf, termFits, ruleFits, Short, Admitted}
 use Rattle.quantifiers.specs.Inner.Lists.{Each}
 use Rattle.frames.specs.declared.Term.{Term}
 use Rattle.frames.specs.declared.Rule.{Rule}
 use Rattle.frames.specs.declared.Rules.{Rules}
+use Rattle.frames.specs.declared.Book.{Book}
 use Rattle.level.specs.Inner.Moves.{placeOf}
 use Rattle.level.specs.Inner.Terms.{TermInRange, GoodRule}
 use Rattle.level.specs.Inner.Chosen.{ruleAt, GoodRules}
@@ -87,3 +90,18 @@ module _ (z : Sizes) (sized : InRange z) where
             (each-at (λ r. ruleFits z r ≡ true) (rs .rules) (rs .count) i noRule l (omega arith) fit)
             (each-at Short (rs .rules) (rs .count) i noRule l (omega arith) short);
       }
+
+-- The rules of a book are those of the list by value, place by place.
+module _ {rules : List Rule} (rs : Rules) (same : rules ≡ listed rs) where
+  pub listed-at : (j : ℕ) → j < rs .count → getD rules j noRule ≡ ruleAt rs j
+  unfolding listed ruleAt
+  listed-at j l = rw same (getD-take (rs .count) (rs .rules) j noRule l)
+
+  pub listed-length : rs .count ≤ 512 → length (rs .rules) ≡ 512 → length rules ≡ rs .count
+  unfolding listed
+  listed-length few room = rw same (length-take-le (rs .count) (rs .rules) (omega arith))
+
+-- So the list by value of an accepted book is good.
+pub book-good : (bk : Book) → Admitted (contentsOf bk) → length (bk .rules .rules) ≡ 512 → GoodRules (bk .rules)
+unfolding contentsOf
+book-good bk ok room = rules-good (bk .sizes) (ok .sized) (bk .rules) (ok .rules-few) room (ok .rules-in) (ok .rules-short)

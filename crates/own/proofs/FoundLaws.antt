@@ -16,11 +16,11 @@ use Rattle.theory.specs.Inner.Facts.{State, update}
 use Rattle.theory.specs.Inner.Plan.{Ask}
 use Rattle.shown.specs.Inner.Shown.{direct}
 use Rattle.level.specs.Inner.Moves.{Moves}
-use Rattle.level.specs.Inner.Chosen.{GoodRules, MovesOf}
+use Rattle.level.specs.Inner.Chosen.{MovesOf}
 use Rattle.level.specs.Inner.Notes.{asks}
 use Rattle.level.specs.Inner.Moves.{movesIn}
 use Rattle.level.proofs.ChosenLaws.{moves-sound}
-use Rattle.level.proofs.RuleLaws.{rules-good}
+use Rattle.level.proofs.RuleLaws.{book-good}
 use Rattle.reach.specs.Inner.Tracked.{track, bytesOf}
 use Rattle.reach.specs.Inner.Growing.{Growing}
 use Rattle.flags.specs.Inner.Flags.{FlagsWritten, SmallWants, startFlag}
@@ -57,14 +57,9 @@ fresh-tables =
     }
 
 module _ (bk : Book) (ok : Admitted (contentsOf bk)) (room : length (bk .rules .rules) ≡ 512) where
-  -- The rules of the book are good.
-  pub book-good : GoodRules (bk .rules)
-  unfolding contentsOf
-  book-good = rules-good (bk .sizes) (ok .sized) (bk .rules) (ok .rules-few) room (ok .rules-in) (ok .rules-short)
-
   -- The moves that add to a person.
   pub own-moves : {roles : ℕ} {xs : List ℕ} → MovesOf (bk .rules) 1 5 roles (movesIn xs) (bk .rules .count) → OwnMoves (bk .rules) roles (movesIn xs)
-  own-moves moves = record { room = room; moves = moves; sound = moves-sound book-good moves }
+  own-moves moves = record { room = room; moves = moves; sound = moves-sound (book-good bk ok room) moves }
 
 -- ---------------------------------------------------------------- what it comes to
 

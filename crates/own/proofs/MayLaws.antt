@@ -16,7 +16,8 @@ use Rattle.facts.specs.declared.Person.{Person}
 use Rattle.frames.specs.Book.{Contents, noTerm, noRule}
 use Rattle.frames.specs.Limits.{growing}
 use Rattle.frames.specs.Inner.Fits.{ruleFits, Short}
-use Rattle.frames.proofs.LimitLaws.{all-get, growing-op, growing-at, key-same, once-at}
+use Rattle.quantifiers.proofs.ListLaws.{all-get}
+use Rattle.frames.proofs.LimitLaws.{growing-op, growing-at, key-same, once-at}
 use Rattle.requests.specs.declared.Request.{Request}
 use Rattle.requests.specs.Requests.{adds, aimed}
 use Rattle.requests.proofs.RequestLaws.{request-parts, aimed-value, aimed-crew, aimed-member, well-formed-parts, well-formed-from}

@@ -22,7 +22,7 @@ use Rattle.sizes.proofs.SizeLaws.{value-bounds}
 use Rattle.frames.specs.declared.Want.{Want}
 use Rattle.frames.specs.Book.{Contents, noWant}
 use Rattle.frames.specs.Inner.Fits.{wantOf, wantFits}
-use Rattle.frames.proofs.LimitLaws.{all-get}
+use Rattle.quantifiers.proofs.ListLaws.{all-get}
 use Rattle.ledger.proofs.OperationLaws.{set-below-from, set-below-parts}
 use Rattle.replay.specs.Met.{wants, directSet, directCrews, metDirectly, met}
 use Rattle.replay.proofs.MetLaws.{met-directly, wants-front}

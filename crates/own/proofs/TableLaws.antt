@@ -8,7 +8,6 @@ use Prim.Native.Nat.{ℕ, _+_, _≤_, _<_}
 use native.Mathlib.Decide.{decLt}
 use native.Mathlib.Omega.{arith}
 use lib.ListN.{length, getD}
-use lib.Seq.{getD-take, length-take-le}
 use borrow.Author.Tests.{lt-ltb, le-ltb}
 use Rattle.facts.specs.Facts.{holds}
 use Rattle.frames.specs.declared.Rule.{Rule}
@@ -20,6 +19,7 @@ use Rattle.level.specs.Inner.Moves.{Moves, moveAt}
 use Rattle.level.specs.Inner.Terms.{MoveOf}
 use Rattle.level.specs.Inner.Chosen.{ruleAt, MovesOf, chosenIn}
 use Rattle.level.proofs.ChosenLaws.{chosen-parts, chosen-from}
+use Rattle.level.proofs.RuleLaws.{listed-at, listed-length}
 use Rattle.reach.specs.Inner.Tracked.{personLevel, track, bytesOf}
 use Rattle.reach.specs.Inner.Growing.{Growing}
 use Rattle.flags.specs.Inner.Flags.{FlagsWritten, StartFlags}
@@ -74,14 +74,6 @@ module _ {r : Rule} {m : Move} (is : MoveOf r m) where
   place-term i h = let l : i < m .n = omega (arith, is .n) in (omega (arith, is .fine .few), sym (term-own m i l) ∙ is .places i h)
 
 module _ (b : Contents) (rs : Rules) (same-rules : b .rules ≡ listed rs) (few : rs .count ≤ 512) (room : length (rs .rules) ≡ 512) where
-  listed-at : (j : ℕ) → j < rs .count → bookRule b j ≡ ruleAt rs j
-  unfolding listed ruleAt
-  listed-at j l = rw same-rules (getD-take (rs .count) (rs .rules) j noRule l)
-
-  listed-length : length (b .rules) ≡ rs .count
-  unfolding listed
-  listed-length = rw same-rules (length-take-le (rs .count) (rs .rules) (omega arith))
-
   module _ {ms : Moves} (moves : MovesOf rs 1 5 (b .query .roles) ms (rs .count)) {us : List Bool} {ts by : List ℕ}
       (entered : Entered ms (ms .count) us ts by) where
     -- The rule of a fact with a move.
@@ -90,10 +82,10 @@ module _ (b : Contents) (rs : Rules) (same-rules : b .rules ≡ listed rs) (few 
     move-rule f i j at l chosen is =
         let m = moveAt ms i in
         let r = bookRule b j in
-        let whole : MoveOf r m = rw (listed-at j l) is in
-        let parts = chosen-parts 1 5 (b .query .roles) r (rw (listed-at j l) chosen) in
+        let whole : MoveOf r m = rw (listed-at rs same-rules j l) is in
+        let parts = chosen-parts 1 5 (b .query .roles) r (rw (listed-at rs same-rules j l) chosen) in
         record {
-          listed = rw listed-length l;
+          listed = rw (listed-length rs same-rules few room) l;
           op = parts .0;
           place = sym (whole .fine .aim ∙ rw (whole .op, whole .a, whole .v) refl) ∙ at .fact;
           role = parts .1;
@@ -120,12 +112,12 @@ module _ (b : Contents) (rs : Rules) (same-rules : b .rules ≡ listed rs) (few 
               let from = moves .each (getD by f 0) (at .known) in
               record { at = from .0; is = move-rule f (getD by f 0) (from .0) at (from .1) (from .2) (from .3) };
           every = λ j l op role.
-              let l′ : j < rs .count = omega (arith, listed-length) in
+              let l′ : j < rs .count = omega (arith, listed-length rs same-rules few room) in
               let chosen : chosenIn 1 5 (b .query .roles) (ruleAt rs j) ≡ true =
-              sym (ap (chosenIn 1 5 (b .query .roles)) (listed-at j l′)) ∙ chosen-from 1 5 (b .query .roles) (bookRule b j) op role in
+              sym (ap (chosenIn 1 5 (b .query .roles)) (listed-at rs same-rules j l′)) ∙ chosen-from 1 5 (b .query .roles) (bookRule b j) op role in
               let found = moves .every j l′ chosen in
               let is : MoveOf (bookRule b j) (moveAt ms (found .0)) =
-              subst (λ (r : Rule). MoveOf r (moveAt ms (found .0))) (sym (listed-at j l′)) (found .2) in
+              subst (λ (r : Rule). MoveOf r (moveAt ms (found .0))) (sym (listed-at rs same-rules j l′)) (found .2) in
               let place : moveAt ms (found .0) .fact ≡ placeOfRule (bookRule b j) = is .fine .aim ∙ rw (is .op, is .a, is .v) refl in
               (omega (arith, place, is .fine .fact), ap (λ (f : ℕ). getD us f false) (sym place) ∙ entered .every (found .0) (found .1));
         }
@@ -138,5 +130,5 @@ module _ (b : Contents) (rs : Rules) (same-rules : b .rules ≡ listed rs) (few 
         let at = entered .each f (u .0) (u .1) in
         let from = moves .each (getD by f 0) (at .known) in
         let is : MoveOf (bookRule b (from .0)) (moveAt ms (getD by f 0)) =
-        subst (λ (r : Rule). MoveOf r (moveAt ms (getD by f 0))) (sym (listed-at (from .0) (from .1))) (from .3) in
+        subst (λ (r : Rule). MoveOf r (moveAt ms (getD by f 0))) (sym (listed-at rs same-rules (from .0) (from .1))) (from .3) in
         rw (is .op, is .role, is .a, is .v) refl

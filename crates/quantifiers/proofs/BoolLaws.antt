@@ -28,7 +28,11 @@ or-left a b e = rw e refl
 pub or-right : (a b : Bool) → b ≡ true → a || b ≡ true
 or-right a b e = rw e (or-true a)
 
--- Where neither of two tests is passed, the second is not.
+-- Where neither of two tests is passed, the first is not, and the second is not.
+pub or-neither : (a b : Bool) → a || b ≡ false → a ≡ false
+or-neither true b e = e
+or-neither false b e = refl
+
 pub or-none : (a b : Bool) → a || b ≡ false → b ≡ false
 or-none true b e = absurd (true≢false e)
 or-none false b e = e

@@ -1,15 +1,17 @@
 -- Tests over a list: by its elements, by its places, and from a place on, where what is left decides.
 use mathlib.Core.Path.{_≡_, refl, ap, sym, _∙_}
-use mathlib.Core.Bool.{Bool, true, false, _&&_, _||_, or-false, or-assoc, true≢false}
+use mathlib.Core.Bool.{Bool, true, false, _&&_, _||_, and-true, and-assoc, or-false, or-assoc, true≢false}
 use mathlib.Core.List.{List, [], _∷_, _++_, map}
 use Prim.Native.Nat.{ℕ, zero, suc, _+_, _≤_, _<_}
 use native.Mathlib.Numerals.{add-one}
 use native.Mathlib.Omega.{arith}
-use lib.ListN.{length, getD, set, take, drop, drop-of-length-le}
+use lib.Dec.{ltb}
+use lib.ListN.{length, getD, set, take, drop, drop-of-length-le, length-take}
+use borrow.Author.Tests.{ltb-false}
 use lib.Seq.{drop-cons, getD-take, length-take-le, take-suc, take-suc-set, take-all}
 use Rattle.quantifiers.specs.Quantifiers.{all, any, anyBelow}
 use Rattle.quantifiers.specs.Inner.Lists.{Each}
-use Rattle.quantifiers.proofs.BoolLaws.{and-both, and-from, or-right}
+use Rattle.quantifiers.proofs.BoolLaws.{and-both, and-from, or-right, or-neither, or-none, by-test}
 use Rattle.quantifiers.proofs.BelowLaws.{any-zero, any-step}
 
 -- ---------------------------------------------------------------- by the elements
@@ -102,6 +104,27 @@ module _ {A : Type 0} where
       ap (any p) (take-suc xs n d (omega arith)) ∙ any-last p (take n xs) (getD xs n d)
       ∙ ap (λ u. u || p (getD xs n d)) (any-front p d xs n (omega arith)) ∙ sym (any-step (λ j. p (getD xs j d)) n)
 
+module _ {A : Type 0} (p : A → Bool) where
+  -- Where all of a list pass a test, the one at each place does.
+  pub all-get : (xs : List A) (d : A) (i : ℕ) → all p xs ≡ true → i < length xs → p (getD xs i d) ≡ true
+  unfolding all
+  all-get [] d i e h = absurd (omega arith)
+  all-get (x ∷ xs) d zero e h = and-both (p x) (all p xs) e .0
+  all-get (x ∷ xs) d (suc i) e h = all-get xs d i (and-both (p x) (all p xs) e .1) (omega arith)
+
+  -- All of a list with one more behind it pass where all of the list do, and that one.
+  pub all-behind : (xs : List A) (y : A) → all p (xs ++ (y ∷ [])) ≡ all p xs && p y
+  unfolding all
+  all-behind [] y = and-true (p y)
+  all-behind (x ∷ xs) y = ap (λ (u : Bool). p x && u) (all-behind xs y) ∙ sym (and-assoc (p x) (all p xs) (p y))
+
+  -- Where no one of a list passes a test, the one at each place does not.
+  pub any-get : (xs : List A) (d : A) (i : ℕ) → any p xs ≡ false → i < length xs → p (getD xs i d) ≡ false
+  unfolding any
+  any-get [] d i e h = absurd (omega arith)
+  any-get (x ∷ xs) d zero e h = or-neither (p x) (any p xs) e
+  any-get (x ∷ xs) d (suc i) e h = any-get xs d i (or-none (p x) (any p xs) e) (omega arith)
+
 -- ---------------------------------------------------------------- from a place on
 
 module _ {A : Type 0} (p : A → Bool) (xs : List A) where
@@ -132,6 +155,23 @@ module _ {A : Type 0} (p : A → Bool) (xs : List A) (n : ℕ) (fits : n ≤ len
 
   pub all-fail : (i : ℕ) (d : A) → i < n → p (getD xs i d) ≡ false → all p (drop i (take n xs)) ≡ false
   all-fail i d h e = rest-fail p (take n xs) i d (omega (arith, length-take-le n xs fits)) (ap p (getD-take n xs i d h) ∙ e)
+
+-- A test of the first n of a list, however long it is, of which b says how those before place j did: with the one at j, and at the end.
+module _ {A : Type 0} (p : A → Bool) (xs : List A) (n : ℕ) (b : Bool) where
+  pub front-more : (j : ℕ) (d : A) → j < n → j < length xs
+      → (b && all p (drop j (take n xs))) ≡ ((b && p (getD xs j d)) && all p (drop (j + 1) (take n xs)))
+  unfolding all
+  front-more j d h k =
+      let in-front : j < length (take n xs) = omega (arith, length-take n xs, h, k) in
+      rw (drop-cons (take n xs) j d in-front, getD-take n xs j d h, add-one j) (sym (and-assoc b (p (getD xs j d)) _))
+
+  pub front-out : (j : ℕ) → ltb j n && ltb j (length xs) ≡ false → (b && all p (drop j (take n xs))) ≡ b
+  front-out j e = ap (λ (u : Bool). b && u) (rest-out p (take n xs) j past) ∙ and-true b
+    where
+      past : length (take n xs) ≤ j
+      past =
+          by-test (ltb j n) (λ i. omega (arith, length-take n xs, ltb-false j (length xs) (rw i at e)))
+          (λ i. omega (arith, length-take n xs, ltb-false j n i))
 
 -- Where all of a list pass, the first n do.
 pub all-take : {A : Type 0} (p : A → Bool) (xs : List A) (n : ℕ) → all p xs ≡ true → all p (take n xs) ≡ true

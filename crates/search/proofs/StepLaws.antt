@@ -39,7 +39,7 @@ use Rattle.search.specs.Inner.Drive.{starts, Driving}
 use Rattle.search.specs.Inner.Scan.{SideMoves, NoRun, AllAllowed, BlankTable, toPerson, Serves, Scanned, Searched}
 use Rattle.search.proofs.Tables.{CrewTableRight, PersonTableRight}
 use Rattle.search.proofs.TermBridge.{person-effective}
-use Rattle.search.proofs.WithinLaws.{within, all-good}
+use Rattle.search.proofs.WithinLaws.{within}
 use Rattle.search.proofs.SubjectLaws.{crew-level, crew-terms, crew-adds, crew-dels, person-level, person-terms, person-adds, person-dels}
 use Rattle.search.proofs.PersonLaws.{to-leveled, start-for, bad-for}
 use Rattle.search.proofs.DriveLaws.{Handed, drive-first, crew-table, person-table, rows-next, drive-stuck, drive-next}
@@ -79,11 +79,6 @@ table-same {k = k} {rows} {before} {table} e made = subst (λ (js : List ℕ). f
 
 pub row-same : {js js′ : List ℕ} {k : ℕ} {x rows rows′ : List Bool} → js ≡ js′ → flags.FilledRow js k x rows rows′ → flags.FilledRow js′ k x rows rows′
 row-same {k = k} {x} {rows} {rows′} e filled = subst (λ (js : List ℕ). flags.FilledRow js k x rows rows′) e filled
-
--- The rules of an accepted book are in order, and so are the moves chosen from them.
-pub book-good : (bk : Book) → Leveled (contentsOf bk) → length (bk .rules .rules) ≡ 512 → GoodRules (bk .rules)
-unfolding contentsOf
-book-good bk ok room = all-good (contentsOf bk) ok (bk .rules) refl (ok .book .rules-few) room
 
 pub side-moves : {rs : Rules} {roles : ℕ} → GoodRules rs → length (rs .rules) ≡ 512 → {adds dels : List ℕ} {add₁ add₂ del₁ del₂ : ℕ}
     → MovesOf rs add₁ add₂ roles (movesIn adds) (rs .count) → MovesOf rs del₁ del₂ roles (movesIn dels) (rs .count)

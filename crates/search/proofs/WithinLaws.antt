@@ -33,7 +33,7 @@ use Rattle.level.specs.Inner.Terms.{termShown, ruleShown, GoodRule}
 use Rattle.level.specs.Inner.Chosen.{ruleAt, GoodRules, MovesOf}
 use Rattle.level.proofs.Levels.{onLevel, toWhole, toLevel, Within}
 use Rattle.level.proofs.TermLaws.{move-met}
-use Rattle.level.proofs.RuleLaws.{rules-good}
+use Rattle.level.proofs.RuleLaws.{rules-good, listed-at, listed-length}
 use Rattle.level.proofs.ChosenLaws.{chosen-parts, chosen-from}
 use Rattle.reach.specs.Inner.Leveled.{Leveled}
 use Rattle.reach.specs.Inner.Tracked.{tracked, numberOf, lift, bytesOf, asked, May}
@@ -59,16 +59,8 @@ module _ (b : Contents) (ok : Leveled b) (rs : Rules) (same-rules : b .rules ≡
   unfolding listed ruleAt
   fits-at j l = each-at (λ r. ruleFits (b .sizes) r ≡ true) (rs .rules) (rs .count) j noRule l (omega arith) rules-fit
 
-  listed-at : (j : ℕ) → j < rs .count → getD (b .rules) j noRule ≡ ruleAt rs j
-  unfolding listed ruleAt
-  listed-at j l = rw same-rules (getD-take (rs .count) (rs .rules) j noRule l)
-
-  listed-length : length (b .rules) ≡ rs .count
-  unfolding listed
-  listed-length = rw same-rules (length-take-le (rs .count) (rs .rules) (omega arith))
-
   plain-rule : (j : ℕ) → j < rs .count → plain (ruleAt rs j) ≡ true
-  plain-rule j l = rw (listed-at j l) at (plain-each (b .rules) noRule j (ok .plain) (rw listed-length l))
+  plain-rule j l = rw (listed-at rs same-rules j l) at (plain-each (b .rules) noRule j (ok .plain) (rw (listed-length rs same-rules few room) l))
 
   -- What a level is: its number, its subject, and the ops that act on it.
   pub record LevelIs (Op : ℕ → Type 0) (k p : ℕ) (s : Subject) : Type 0 where
@@ -138,8 +130,8 @@ module _ (b : Contents) (ok : Leveled b) (rs : Rules) (same-rules : b .rules ≡
           of-fact = rw (rule-asked r) (level .tracks r parts op);
           number = rw (rule-asked r) (level .number r parts op);
           bounded = omega (arith, level .low, good .aims);
-          allows = permitted-from (b .juniors) (lift b (onLevel k R S)) (asked (wholeAsk r)) (b .rules) noRule j (rw listed-length l)
-              (rw (listed-at j l) (permits-rule S r parts good (plain-rule j l) op shows));
+          allows = permitted-from (b .juniors) (lift b (onLevel k R S)) (asked (wholeAsk r)) (b .rules) noRule j (rw (listed-length rs same-rules few room) l)
+              (rw (listed-at rs same-rules j l) (permits-rule S r parts good (plain-rule j l) op shows));
         }
 
     -- What a permission says of the rule that gives it.
@@ -215,9 +207,9 @@ module _ (b : Contents) (ok : Leveled b) (rs : Rules) (same-rules : b .rules ≡
       side-out : (S : State) (q : Ask) → q .fact / 160 ≡ k → May b (onLevel k R S) on q → Some T ms p S (toLevel q)
       side-out S q here may =
           let found = permitted-cases (b .juniors) (lift b (onLevel k R S)) (asked q) (b .rules) noRule (may .allows) in
-          let l : found .0 < rs .count = rw listed-length at (found .1 .0) in
+          let l : found .0 < rs .count = rw (listed-length rs same-rules few room) at (found .1 .0) in
           some-of S q here may (found .0) l
-          (named-parts (lift b (onLevel k R S)) q (ruleAt rs (found .0)) (fields-of q (may .formed)) (rw (listed-at (found .0) l) at (found .1 .1)))
+          (named-parts (lift b (onLevel k R S)) q (ruleAt rs (found .0)) (fields-of q (may .formed)) (rw (listed-at rs same-rules (found .0) l) at (found .1 .1)))
 
     -- The level's world is the depot's at that level.
     pub within : {add₁ add₂ del₁ del₂ : ℕ} (adds dels : Moves) → SideIs Op add₁ add₂ true → SideIs Op del₁ del₂ false

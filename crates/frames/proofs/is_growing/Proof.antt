@@ -12,7 +12,7 @@ use Rattle.quantifiers.proofs.BoolLaws.{two-below}
 use Rattle.frames.specs.declared.Term.{Term}
 use Rattle.frames.specs.Limits.{isNot, growing}
 use Rattle.frames.specs.Book.{noTerm}
-use Rattle.frames.proofs.LimitLaws.{front-more, front-out}
+use Rattle.quantifiers.proofs.ListLaws.{front-more, front-out}
 use Rattle.frames.proofs.is_growing.Statement.{statement}
 use Rattle.frames.proofs.is_growing.Tie as tie
 

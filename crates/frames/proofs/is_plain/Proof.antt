@@ -11,7 +11,7 @@ use Rattle.quantifiers.proofs.BoolLaws.{two-below}
 use Rattle.frames.specs.declared.Term.{Term}
 use Rattle.frames.specs.Limits.{isNot, plain}
 use Rattle.frames.specs.Book.{noTerm}
-use Rattle.frames.proofs.LimitLaws.{front-more, front-out}
+use Rattle.quantifiers.proofs.ListLaws.{front-more, front-out}
 use Rattle.frames.proofs.is_plain.Statement.{statement}
 use Rattle.frames.proofs.is_plain.Tie as tie
 

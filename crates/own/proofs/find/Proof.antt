@@ -3,7 +3,8 @@ use mathlib.Core.Path.{refl}
 use lib.ListN.{length-map}
 use borrow.Author.Needs.{needs}
 use Rattle.frames.specs.Book.{contentsOf}
-use Rattle.own.proofs.FoundLaws.{book-good, own-moves}
+use Rattle.level.proofs.RuleLaws.{book-good}
+use Rattle.own.proofs.FoundLaws.{own-moves}
 use Rattle.own.proofs.find.Statement.{statement}
 use Rattle.own.proofs.find.Tie as tie
 

@@ -4,7 +4,8 @@ use mathlib.Core.Path.{refl, sym}
 use native.Mathlib.Omega.{arith}
 use lib.ListN.{length-map}
 use lib.Seq.{length-take-le}
-use Rattle.search.proofs.StepLaws.{book-good, side-moves}
+use Rattle.level.proofs.RuleLaws.{book-good}
+use Rattle.search.proofs.StepLaws.{side-moves}
 use borrow.Author.Needs.{needs}
 use Rattle.page.proofs.fill.Statement.{statement}
 use Rattle.page.proofs.fill.Tie as tie
@@ -24,7 +25,7 @@ slice-aggregate-moves-listed c = search needs
 
 moves-listed-requires : tie.Need-moves-listed-requires
 moves-listed-requires c κs = (
-  book-good (c .before .before .before .args .b) (c .before .before .before .pre .0 .0)
+  book-good (c .before .before .before .args .b) (c .before .before .before .pre .0 .0 .book)
       (simp length-map at (c .before .before .before .good .0 .1 .1 .1 .1 .0 .1 .1 .1 .0 .1 .0 .1)),
   refl,
 )
@@ -77,7 +78,7 @@ fill-by-requires c κs =
     let start = entry listed in
     let pre = start .pre in
     let room = simp length-map at (start .good .0 .1 .1 .1 .1 .0 .1 .1 .1 .0 .1 .0 .1) in
-    let good = book-good (start .args .b) (pre .0 .0) room in (
+    let good = book-good (start .args .b) (pre .0 .0 .book) room in (
       pre .0,
       (
         (side-moves good room (sides .crew-more) (sides .crew-less), record { dels = _; sides = side-moves good room (sides .more) (sides .less) }),

@@ -4,7 +4,8 @@ use mathlib.Core.Path.{refl, sym}
 use native.Mathlib.Omega.{arith}
 use lib.ListN.{length-map}
 use lib.Seq.{length-take-le}
-use Rattle.search.proofs.StepLaws.{book-good, side-moves}
+use Rattle.level.proofs.RuleLaws.{book-good}
+use Rattle.search.proofs.StepLaws.{side-moves}
 use borrow.Author.Needs.{needs}
 use Rattle.search.proofs.search.Statement.{statement}
 use Rattle.search.proofs.search.Tie as tie
@@ -24,7 +25,7 @@ slice-aggregate-moves-listed c = search needs
 
 moves-listed-requires : tie.Need-moves-listed-requires
 moves-listed-requires c κs = (
-  book-good (start c .args .b) (start c .pre .0) (simp length-map at (start c .good .0 .1 .1 .1 .1 .0 .1 .1 .1 .0 .1 .0 .1)),
+  book-good (start c .args .b) (start c .pre .0 .book) (simp length-map at (start c .good .0 .1 .1 .1 .1 .0 .1 .1 .1 .0 .1 .0 .1)),
   refl,
 )
 
@@ -91,7 +92,7 @@ all-levels-requires c κs =
     let at-start = start (at-moves-listed .before) in
     let pre = at-start .pre in
     let room = simp length-map at (at-start .good .0 .1 .1 .1 .1 .0 .1 .1 .1 .0 .1 .0 .1) in
-    let good = book-good (at-start .args .b) (pre .0) room in
+    let good = book-good (at-start .args .b) (pre .0 .book) room in
     let crews = side-moves good room (sides .crew-more) (sides .crew-less) in
     let person = side-moves good room (sides .more) (sides .less) in
     ((pre .0, (crews, person)), (pre .1 .0, pre .1 .1))
