@@ -23,7 +23,17 @@ pub fn on(topic: Option<&str>) -> Option<String> {
         _ => return None,
     };
     debug_assert!(COMMANDS.contains(&topic) || page == NOTATION || page == JSON);
-    Some(page.into())
+    let example = if page == NOTATION { indented(PILOT) } else { String::new() };
+    Some(format!("{page}{example}"))
+}
+
+/// The example of the notation: the stored pilot depot.
+const PILOT: &str = include_str!("../../../examples/depots/pilot.depot");
+
+/// A text two blanks to the right, without its comments.
+fn indented(text: &str) -> String {
+    let lines = text.lines().filter(|line| !line.starts_with('#'));
+    lines.map(|line| if line.is_empty() { "\n".into() } else { format!("  {line}\n") }).collect()
 }
 
 const OVERVIEW: &str = "\
@@ -245,19 +255,6 @@ EXPECTATIONS, for `depot test`
   expect yes: may ..               expect no way: may ..
 
 EXAMPLE
-  persons    Ana
-  crews      returns
-  attribute  grade  trainee sorter
-  attribute  lane   control
-  leads      shift quality lanes
-
-  returns has grade trainee
-
-  shift    may assign to returns
-  quality  may add grade sorter  to persons  if has grade trainee
-  lanes    may add lane control  to persons  if directly has grade sorter
-
-  may Ana ever have lane control  by shift quality lanes
 ";
 
 const JSON: &str = "\

@@ -18,8 +18,31 @@ use crate::story::Telling;
 /// The cells of one person: by attribute, then by value.
 pub type Row = Vec<Vec<Cell>>;
 
+/// Why there are no cells.
+#[derive(Clone, Copy, Debug, PartialEq, Eq)]
+pub enum Unmade {
+    /// The library refuses the book.
+    Refused(Refusal),
+    /// The library's page says that a person can come to a value, and its plan that there is no way. That both are proved
+    /// rules this out; if it came, nothing would be told.
+    Differ {
+        /// Whose cell it is.
+        person: u8,
+        /// The attribute.
+        attribute: u8,
+        /// The value.
+        value: u8,
+    },
+}
+
+impl From<Refusal> for Unmade {
+    fn from(refusal: Refusal) -> Unmade {
+        Unmade::Refused(refusal)
+    }
+}
+
 /// The cells of every person. `done` is told how many persons are done, now and then.
-pub fn rows(depot: &Depot, book: &[u8], leads: u16, done: &(dyn Fn(usize) + Sync)) -> Result<Vec<Row>, Refusal> {
+pub fn rows(depot: &Depot, book: &[u8], leads: u16, done: &(dyn Fn(usize) + Sync)) -> Result<Vec<Row>, Unmade> {
     let page = Book::new(book).page()?;
     let telling = Telling::new(depot, book)?;
     let asker = Asker { telling: &telling, book, front: front(book), page: &page, leads };
@@ -36,7 +59,7 @@ pub fn rows(depot: &Depot, book: &[u8], leads: u16, done: &(dyn Fn(usize) + Sync
             rows.push((person, asker.row(person as u8)?));
         }
     };
-    let parts: Vec<Result<Vec<(usize, Row)>, Refusal>> = thread::scope(|scope| {
+    let parts: Vec<Result<Vec<(usize, Row)>, Unmade>> = thread::scope(|scope| {
         let others: Vec<_> = (1..workers).map(|_| scope.spawn(work)).collect();
         let own = work();
         let others =
@@ -66,7 +89,7 @@ struct Asker<'a> {
 }
 
 impl Asker<'_> {
-    fn row(&self, person: u8) -> Result<Row, Refusal> {
+    fn row(&self, person: u8) -> Result<Row, Unmade> {
         let depot = self.telling.depot;
         let held = holdings(depot, self.book, &self.telling.start, person)?;
         let mut row: Row = depot.attributes.iter().map(|_| Vec::new()).collect();
@@ -83,14 +106,13 @@ impl Asker<'_> {
     }
 
     /// The plan for one value.
-    fn reach(&self, person: u8, attribute: u8, value: u8) -> Result<Cell, Refusal> {
+    fn reach(&self, person: u8, attribute: u8, value: u8) -> Result<Cell, Unmade> {
         let wants = vec![(attribute, 1 << value)];
         let question = Question { mode: Mode::AtLeast, person, leads: self.leads, wants, crews: 0 };
         let book = [self.front, compile::question(&question).as_bytes()].concat();
         let mut buffer = vec![0; PLAN_MAX];
         match bytes::plan_into(&book, &mut buffer)? {
-            // The page's promise is that this does not come: a set bit has a plan.
-            Planned::NoWay => Ok(Cell::NoWay),
+            Planned::NoWay => Err(Unmade::Differ { person, attribute, value }),
             Planned::Plan(count) => {
                 let requests = buffer[..REQUEST_SIZE * count].chunks_exact(REQUEST_SIZE);
                 let plan: Vec<Request> = requests

@@ -7,35 +7,7 @@ use std::process::{Command, Output, Stdio};
 use std::time::{Duration, Instant};
 
 use bixorgun::{bytes, Refusal, LEDGER_SIZE};
-use support::{book, Chance, Folder, Json};
-
-/// The pilot depot.
-const PILOT: &str = "\
-# The pilot depot, the evening the truck left with the wrong bags.
-persons    Ana
-crews      returns
-attribute  grade  trainee sorter
-attribute  lane   control
-leads      shift quality lanes
-
-returns has grade trainee
-
-shift    may assign to returns
-quality  may add grade sorter  to persons  if has grade trainee
-lanes    may add lane control  to persons  if directly has grade sorter
-
-may Ana ever have lane control  by shift quality lanes
-";
-
-/// Its book, by hand from docs/BOOK.md.
-const PILOT_BOOK: &[&str] = &[
-    "01 01 01 02 02 01",
-    "04 02 00 00 00",
-    "03 05 00 00 00 00",
-    "03 01 01 00 01 01 02 00 00",
-    "03 01 02 01 00 01 01 00 01",
-    "05 01 00 0007 01 01 0001",
-];
+use support::{book, Chance, Folder, Json, PILOT, PILOT_BOOK};
 
 /// What `depot plan` says of it.
 const PILOT_PLAN: &str = "\

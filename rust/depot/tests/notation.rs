@@ -14,7 +14,7 @@ use depot::load::{load_bytes, Loaded, Trouble};
 use depot::model::Said;
 use depot::paint::Paint;
 use depot::source::split;
-use support::{book, Chance};
+use support::{book, Chance, PILOT, PILOT_BOOK};
 
 /// Names for most rows: persons Ana 0, Ben 1; crews low 0, mid 1, top 2; leads shift 0, quality 1, lanes 2; attributes
 /// grade 0 (trainee 0, sorter 1, clerk 2), lane 1 (control 0). Five lines, so what stands behind begins in line 6.
@@ -275,29 +275,8 @@ fn expectations_begin_in_several_ways() {
 const FILES: &[(&str, &str, &[&str])] = &[
     (
         "the pilot depot",
-        "# The pilot depot, the evening the truck left with the wrong bags.
-persons    Ana
-crews      returns
-attribute  grade  trainee sorter
-attribute  lane   control
-leads      shift quality lanes
-
-returns has grade trainee
-
-shift    may assign to returns
-quality  may add grade sorter  to persons  if has grade trainee
-lanes    may add lane control  to persons  if directly has grade sorter
-
-may Ana ever have lane control  by shift quality lanes
-",
-        &[
-            "01 01 01 02 02 01",
-            "04 02 00 00 00",
-            "03 05 00 00 00 00",
-            "03 01 01 00 01 01 02 00 00",
-            "03 01 02 01 00 01 01 00 01",
-            "05 01 00 0007 01 01 0001",
-        ],
+        PILOT,
+        PILOT_BOOK,
     ),
     (
         "the smallest: one person, one attribute with one value",

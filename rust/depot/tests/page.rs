@@ -1,11 +1,12 @@
 //! The page as it is written: each cell against the library's plan for that person and value, and each plan behind a cell
 //! read off the page and replayed.
 
-use bixorgun::{bytes, Answer, Attr, Book, Judgement, Person, Request, Value};
+use bixorgun::{bytes, Answer, Attr, Book, Judgement, Person, Refusal, Request, Value};
 use depot::compile;
 use depot::html::{self, Sheet};
 use depot::model::{Depot, Mode, Question};
-use depot::{hex, requests, sheet};
+use depot::sheet::{self, Unmade};
+use depot::{hex, requests};
 use reference::gen::Rng;
 
 mod books;
@@ -169,6 +170,6 @@ fn the_largest_book() {
 fn a_depot_with_not_has_no_page() {
     let book = books::book("not-depot.book");
     let depot = hex::read(&book).expect("an accepted book");
-    let refused = sheet::rows(&depot, &book, 7, &|_| ()).err().expect("no page");
-    assert_eq!((refused.number(), refused.line()), (17, Some(20)));
+    let unmade = sheet::rows(&depot, &book, 7, &|_| ()).err();
+    assert_eq!(unmade, Some(Unmade::Refused(Refusal::WrongMode { line: 20 })));
 }

@@ -5,13 +5,16 @@ use std::path::Path;
 use std::time::{Duration, Instant};
 
 use super::{refused, usage, Answered, Context};
+use crate::compile::Compiled;
+use crate::fault::Fault;
+use crate::hex;
 use crate::html::{self, Cell, Sheet};
 use crate::json::Json;
 use crate::model::{members, Depot};
 use crate::reply::{Reply, YES};
 use crate::say::counted;
+use crate::sheet::{self, Unmade};
 use crate::wrap::wrap;
-use crate::{hex, sheet};
 
 /// Writes the page of a file.
 pub fn page(context: &Context<'_>, file: &str) -> Answered<Reply> {
@@ -21,15 +24,7 @@ pub fn page(context: &Context<'_>, file: &str) -> Answered<Reply> {
     let progress = Progress { begun: Instant::now(), shown: context.terminal, of: depot.persons.len() };
     let rows = sheet::rows(&depot, &book.characters, leads, &|done| progress.tell(done));
     progress.end();
-    let rows = rows.map_err(|refusal| {
-        let mut fault = hex::explain_page(&book.characters, &refusal);
-        if let (false, Some(line)) = (hexadecimal, depot.not_line()) {
-            fault.text = format!("a depot with a `not` (line {line}) has no page");
-        }
-        fault.line = refusal.line().and_then(|line| book.lines.get(line.wrapping_sub(1))).copied().unwrap_or(0);
-        fault.column = 0;
-        refused(file, fault)
-    })?;
+    let rows = rows.map_err(|unmade| unmade_page(file, (&depot, &book), hexadecimal, unmade))?;
     let name = Path::new(file).file_name().map_or(file.into(), |name| name.to_string_lossy());
     let sheet = Sheet { depot: &depot, file: &name, leads, rows };
     let text = html::page(&sheet);
@@ -57,6 +52,25 @@ pub fn page(context: &Context<'_>, file: &str) -> Answered<Reply> {
         }
     }
     Ok(reply)
+}
+
+/// The reply where there is no page.
+fn unmade_page(file: &str, (depot, book): (&Depot, &Compiled), hexadecimal: bool, unmade: Unmade) -> Box<Reply> {
+    let refusal = match unmade {
+        Unmade::Refused(refusal) => refusal,
+        Unmade::Differ { person, attribute, value } => {
+            let (who, what) = (depot.person(person), depot.value(attribute, value));
+            let text = format!("the library's page and its plan differ on {who} and {what}: do not rely on either");
+            return refused(file, Fault::of_file(text));
+        }
+    };
+    let mut fault = hex::explain_page(&book.characters, &refusal);
+    if let (false, Some(line)) = (hexadecimal, depot.not_line()) {
+        fault.text = format!("a depot with a `not` (line {line}) has no page");
+    }
+    fault.line = refusal.line().and_then(|line| book.lines.get(line.wrapping_sub(1))).copied().unwrap_or(0);
+    fault.column = 0;
+    refused(file, fault)
 }
 
 /// Keys of the counts.

@@ -5,6 +5,19 @@
 use std::fs;
 use std::path::PathBuf;
 
+/// The pilot depot, as it is stored.
+pub const PILOT: &str = include_str!("../../../../examples/depots/pilot.depot");
+
+/// Its book, by hand from docs/BOOK.md.
+pub const PILOT_BOOK: &[&str] = &[
+    "01 01 01 02 02 01",
+    "04 02 00 00 00",
+    "03 05 00 00 00 00",
+    "03 01 01 00 01 01 02 00 00",
+    "03 01 02 01 00 01 01 00 01",
+    "05 01 00 0007 01 01 0001",
+];
+
 /// A value of JSON, as it was read.
 #[derive(Clone, Debug, PartialEq)]
 pub enum Json {
