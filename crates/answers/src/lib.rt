@@ -1,5 +1,7 @@
 // How the planner's answer is written, in the book's hexadecimal: one line, and below it a plan.
 
+#![tactic(auto)]
+
 ghost use Rattle.std.specs.Prelude.{◌≡◌, [], ◌∷◌, ◌+◌, ◌*◌, ◌/◌, ◌%◌, ◌≤◌, length};
 ghost use Rattle.lines.specs.Inner.Tables.{Encodings};
 ghost use Rattle.replay.specs.Chains.{fives};

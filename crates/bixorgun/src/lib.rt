@@ -1,4 +1,7 @@
 // The six operations for programs in C and Rust: numbers and byte slices alone. An answer is one number.
+
+#![tactic(auto)]
+
 ghost use Rattle.std.specs.Prelude.{◌≡◌, ◌++◌, ◌+◌, ◌≤◌, length, drop};
 ghost use Rattle.ledger.specs.Ledger.{refusal_number, denial_told, told, refusal, said, open_reply, request_reply};
 ghost use Rattle.ledger.specs.Show.{show_view};

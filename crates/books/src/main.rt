@@ -1,5 +1,8 @@
 // Answers each of the books that the arguments name, a line each. One whose name ends in `.book` is planned: the answer's first line, what replay
 // says of the plan, the name. Any other is only judged: the line that answers it, the name.
+
+#![tactic(auto)]
+
 ghost use Rattle.std.specs.Prelude.{◌≤◌, length};
 
 use libc::STDOUT_FILENO;

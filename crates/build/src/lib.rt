@@ -1,4 +1,7 @@
 // A subject's flags made and changed: a fact put in, all built from its facts, and sets of facts compared.
+
+#![tactic(auto)]
+
 ghost use Rattle.std.specs.Prelude.{◌≡◌, not, ◌&&◌, ◌||◌, ◌≤◌, ◌<◌, length};
 ghost use Rattle.shown.specs.Inner.Shown.{touches_fact, More, row_flags, Put, Whole};
 ghost use Rattle.build.specs.Inner.Build.{Blank, Built, Stripped, Copied, Lacks};

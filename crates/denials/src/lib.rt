@@ -1,4 +1,7 @@
 // Why no rule permits a request: no rule has its op, role, a and v, or the first that has them has an unmet term.
+
+#![tactic(auto)]
+
 ghost use Rattle.std.specs.Prelude.{◌≡◌, ◌≤◌, length};
 ghost use Rattle.facts.specs.Facts.{holds};
 ghost use Rattle.frames.specs.Book.{listed};
@@ -10,7 +13,7 @@ use frames::{Rule, Rules};
 use requests::Request;
 
 // Unmet: the rule's place among all the book's rules and the term's place in that rule, both counted from 1.
-#[derive(Drop)]
+#[derive(Clone, Copy)]
 pub enum Denial {
     NoRule,
     Unmet(u16, u8),

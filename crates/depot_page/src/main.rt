@@ -1,4 +1,7 @@
 // Reads a book on standard input, and writes its page: a line for each of 64 persons, eight sets of two bytes; or the refusal.
+
+#![tactic(auto)]
+
 ghost use Rattle.std.specs.Prelude.{◌≤◌, ◌≡◌, length, take};
 ghost use Rattle.lines.specs.Inner.Tables.{Encodings};
 ghost use Rattle.answers.specs.Inner.Written.{Written};

@@ -1,4 +1,7 @@
 // Drafts of plans: their requests carried out on a ledger, and copied from one buffer to another.
+
+#![tactic(auto)]
+
 ghost use Rattle.std.specs.Prelude.{◌≡◌, ◌++◌, map, ◌+◌, ◌*◌, ◌≤◌, length, take, drop};
 ghost use Rattle.reach.specs.Inner.Tracked.{bytes_of};
 ghost use Rattle.level.specs.Inner.Notes.{asks};

@@ -1,25 +1,27 @@
 // The facts of a ledger: what they are about, where each has its place, how one is looked up and put.
 
+#![tactic(auto)]
+
 ghost use Rattle.std.specs.Prelude.{◌≡◌, ◌*◌};
 ghost use Rattle.quantifiers.specs.Quantifiers.{any_from};
 ghost use Rattle.facts.specs.Facts.{fits, set_at, set_width, member_of, holds, put_fact};
 ghost use Rattle.facts.specs.Inner.Numbered.{numbered};
 
 // A person, a crew, an attribute and a role, each by its number: the disjoint sets U, UG, UA and AR of GURA_G.
-#[derive(Drop)]
+#[derive(Clone, Copy)]
 pub struct Person(pub u8);
 
-#[derive(Drop)]
+#[derive(Clone, Copy)]
 pub struct Crew(pub u8);
 
-#[derive(Drop)]
+#[derive(Clone, Copy)]
 pub struct Attr(pub u8);
 
-#[derive(Drop)]
+#[derive(Clone, Copy)]
 pub struct Role(pub u8);
 
 // A person directly holds a value of an attribute; a crew does; a person is directly in a crew.
-#[derive(Drop)]
+#[derive(Clone, Copy)]
 pub enum Fact {
     Holds(Person, Attr, u8),
     CrewHolds(Crew, Attr, u8),
@@ -34,7 +36,7 @@ pub const CREWS_AT: usize = 1024;
 pub const MEMBERS_AT: usize = 1536;
 
 // The place of a fact: the number v of the set of w bytes at a byte of the ledger.
-#[derive(Drop)]
+#[derive(Clone, Copy)]
 struct Place {
     at: usize,
     w: usize,

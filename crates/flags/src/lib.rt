@@ -1,6 +1,9 @@
 // Flags of the planner: what a level starts with and what the query forbids there, what its subject inherits, and the rows of the
 // crews. A level has 160 flags: value v of attribute a at 16·a + v, membership in crew c at 128 + c. Level k is crew k, the level
 // above all crews the query's person. Row c of `rows`, at 160·c, is what crew c effectively holds, and which crews it reaches.
+
+#![tactic(auto)]
+
 ghost use Rattle.std.specs.Prelude.{◌≡◌, false, ◌+◌, ◌*◌, ◌≤◌, ◌<◌, length, get_or};
 ghost use Rattle.sets.specs.Sets.{member, member_at};
 ghost use Rattle.flags.specs.Inner.Flags.{FlagsWritten, start_flag, added_flag, CrewTable, PersonTable, row_flag, FirstRows, SmallWants, bad_flag};

@@ -1,4 +1,7 @@
 // The reader: from a book's characters to the accepted book, or to the one refusal 1-9, 16 or 17 with its line.
+
+#![tactic(auto)]
+
 ghost use Rattle.std.specs.Prelude.{◌≡◌, true, not, cond, ◌&&◌, ◌||◌, ◌+◌, ◌-◌, ◌*◌, ◌<◌, ◌≤◌, length, eqb, ltb};
 ghost use Rattle.quantifiers.specs.Quantifiers.{all};
 ghost use Rattle.lines.specs.Digits.{byte_at};
@@ -10,7 +13,7 @@ ghost use Rattle.frames.specs.Limits.{is_not, plain, growing, same_key, twice};
 use facts::{Attr, Crew, Fact, LEDGER_SIZE, Person, Role};
 
 // One condition of a rule: kind, a, v as written.
-#[derive(Drop)]
+#[derive(Clone, Copy)]
 pub struct Term {
     pub kind: u8,
     pub a: u8,
@@ -18,7 +21,7 @@ pub struct Term {
 }
 
 // A rule as written; a is the attribute, in ops 05 and 06 the crew. The first n terms count.
-#[derive(Drop)]
+#[derive(Clone, Copy)]
 pub struct Rule {
     pub op: u8,
     pub role: Role,
@@ -29,21 +32,21 @@ pub struct Rule {
 }
 
 // The rules in the book's order: the first `count`.
-#[derive(Drop)]
+#[derive(Clone, Copy)]
 pub struct Rules {
     pub count: usize,
     pub rules: [Rule; 512],
 }
 
 // A named attribute of the query with its set of values.
-#[derive(Drop)]
+#[derive(Clone, Copy)]
 pub struct Want {
     pub attr: Attr,
     pub set: u32,
 }
 
 // The query; the first q wants count. The crews are those of modes 02 and 03, none in mode 01.
-#[derive(Drop)]
+#[derive(Clone, Copy)]
 pub struct Query {
     pub mode: u8,
     pub person: Person,
@@ -54,7 +57,7 @@ pub struct Query {
 }
 
 // An accepted book. Of crew s, juniors[s] is the set of its direct juniors; facts is the ledger of starting facts.
-#[derive(Drop)]
+#[derive(Clone, Copy)]
 pub struct Book {
     pub sizes: sizes::Sizes,
     pub juniors: [u32; 32],
@@ -64,20 +67,20 @@ pub struct Book {
 }
 
 // The refusals 1-9, 16 and 17.
-#[derive(Drop)]
+#[derive(Clone, Copy)]
 pub enum Refusal {
     TooLong,
     BadLine(gate::Fault, usize),
 }
 
-#[derive(Drop)]
+#[derive(Clone, Copy)]
 pub enum Outcome {
     Accepted,
     Refused(Refusal),
 }
 
 // What reading gives. The book counts only where the outcome is Accepted.
-#[derive(Drop)]
+#[derive(Clone, Copy)]
 pub struct Reading {
     pub outcome: Outcome,
     pub book: Book,

@@ -1,4 +1,7 @@
 // The refusals 3-9 of one line's frame, given what the lines above it tell.
+
+#![tactic(auto)]
+
 ghost use Rattle.std.specs.Prelude.{◌≡◌, ◌&&◌, ◌+◌, ◌-◌, ◌*◌, ◌<◌};
 ghost use Rattle.gate.specs.Gate.{fault_number, pair_at, quad_at, misplaced};
 ghost use Rattle.gate.specs.Gate.{mislengthed, sizes_verdict, edge_verdict, head_good, asks_value, asks_crew, term_good, term_good_at, rule_good, value_term_at, foreign};
@@ -10,7 +13,7 @@ ghost use Rattle.gate.specs.Inner.Long.{due_length, long_fault};
 use sizes::Sizes;
 
 // What the lines so far tell: whether the sizes stand, whether the query stands, the sizes, and how many rules.
-#[derive(Drop)]
+#[derive(Clone, Copy)]
 pub struct Known {
     pub headed: bool,
     pub asked: bool,
@@ -19,7 +22,7 @@ pub struct Known {
 }
 
 // What is wrong with a line, the refusals 2-9, or with the book whose lines are all good, 16 and 17; in the table's order.
-#[derive(Drop)]
+#[derive(Clone, Copy)]
 pub enum Fault {
     Malformed,
     Misplaced,
@@ -33,7 +36,7 @@ pub enum Fault {
     WrongMode,
 }
 
-#[derive(Drop)]
+#[derive(Clone, Copy)]
 pub enum Verdict {
     Good,
     Bad(Fault),

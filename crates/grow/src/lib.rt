@@ -1,6 +1,9 @@
 // The planner of books that only grow, for the facts of one person: which facts are needed, and in which order they can be added. A rule adds the fact
 // `f` where `us[f]`, and asks what the eight terms `ts[8 * f..]` say: below 160 that this fact is there, below 320 that the fact 160 lower is lacking,
 // else nothing.
+
+#![tactic(auto)]
+
 ghost use Rattle.std.specs.Prelude.{◌≡◌, ◌+◌, ◌*◌, ◌<◌, length};
 ghost use Rattle.widths.specs.Inner.Widths.{level_size, terms_size};
 ghost use Rattle.quantifiers.specs.Quantifiers.{any_below};
@@ -160,7 +163,7 @@ fn add_all(us: &[bool], ts: &[u16], d: &[bool], x: &mut [bool], order: &mut [u8]
 // ---------------------------------------------------------------- the answer
 
 // Whether there is a way, and how many facts it adds.
-#[derive(Drop)]
+#[derive(Clone, Copy)]
 pub struct Found {
     pub found: bool,
     pub n: usize,

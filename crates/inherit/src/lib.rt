@@ -1,5 +1,7 @@
 // Inheritance: what a crew and a person effectively hold, and in which crews a person effectively is.
 
+#![tactic(auto)]
+
 ghost use Rattle.std.specs.Prelude.{◌≡◌, ◌<◌, length};
 ghost use Rattle.facts.specs.Facts.{holds};
 ghost use Rattle.quantifiers.specs.Quantifiers.{any_from};
@@ -9,7 +11,7 @@ ghost use Rattle.inherit.specs.Inner.Search.{sought, junior_passes, Tried};
 use facts::{Attr, Crew, Fact, Person};
 
 // What is looked for at a crew and below it: a value that it directly holds, that value or a higher one, or the crew named.
-#[derive(Drop)]
+#[derive(Clone, Copy)]
 pub enum Sought {
     Value(Attr, u8),
     AtLeast(Attr, u8),
@@ -17,7 +19,7 @@ pub enum Sought {
 }
 
 // Whether it was found, and the set of crews already tried: neither they nor crews below them are what is looked for.
-#[derive(Drop)]
+#[derive(Clone, Copy)]
 pub struct Found {
     pub holds: bool,
     pub seen: u32,

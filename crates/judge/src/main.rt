@@ -1,4 +1,7 @@
 // Reads a book on standard input, and writes the line that answers it.
+
+#![tactic(auto)]
+
 ghost use Rattle.std.specs.Prelude.{◌≡◌, ◌≤◌, length, take};
 ghost use Rattle.frames.specs.Book.{book_of};
 ghost use Rattle.answers.specs.Answers.{answer_line};

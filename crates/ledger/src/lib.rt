@@ -1,4 +1,7 @@
 // The ledger's operations on a book's characters: open, request, show.
+
+#![tactic(auto)]
+
 ghost use Rattle.std.specs.Prelude.{◌≡◌, ◌≤◌, ◌<◌, length};
 ghost use Rattle.facts.specs.Facts.{ledger_size, holds, put_fact};
 ghost use Rattle.requests.specs.Requests.{adds};
@@ -15,7 +18,7 @@ use facts::{Attr, Crew, LEDGER_SIZE, Person};
 use frames::Book;
 
 // The refusals 1-9, 11-13 and 15.
-#[derive(Drop)]
+#[derive(Clone, Copy)]
 pub enum Refusal {
     BadBook(frames::Refusal),
     BadLedger,
@@ -23,14 +26,14 @@ pub enum Refusal {
     NotPermitted(Denial),
 }
 
-#[derive(Drop)]
+#[derive(Clone, Copy)]
 pub enum Outcome {
     Done,
     Refused(Refusal),
 }
 
 // What show gives. Beside a refusal the sets and the crews are 0.
-#[derive(Drop)]
+#[derive(Clone, Copy)]
 pub struct Shown {
     pub outcome: Outcome,
     pub sets: [u32; 8],

@@ -1,4 +1,7 @@
 // One level of the planner: the facts of one crew, or of the query's person, the moves that rules permit on them, and the rounds that settle the level.
+
+#![tactic(auto)]
+
 ghost use Rattle.std.specs.Prelude.{◌≡◌, ◌+◌, ◌*◌, ◌≤◌, ◌<◌, length};
 ghost use Rattle.level.specs.Inner.Moves.{flags_met, flags_with, place_of, Fine, Sound, ask_of, move_from, move_at, moves_in};
 ghost use Rattle.level.specs.Inner.Chosen.{chosen_in, Numbers, MovePut};
@@ -13,7 +16,7 @@ use frames::Rule;
 use widths::{HIGHER_AT, LEVEL_SIZE, MOVE_SIZE};
 
 // A rule as a move: the fact that it adds or deletes, the bytes of its request, and the places of its terms.
-#[derive(Drop)]
+#[derive(Clone, Copy)]
 pub struct Move {
     pub fact: usize,
     pub n: usize,
@@ -236,7 +239,7 @@ pub fn next(i: usize, n: usize) -> usize
 }
 
 // Where a sweep stands: how many of the names it has tried, the move that is next, and how many before that move are quiet.
-#[derive(Drop)]
+#[derive(Clone, Copy)]
 pub struct Turn {
     pub tried: usize,
     pub i: usize,
@@ -397,7 +400,7 @@ pub fn back(
 // ---------------------------------------------------------------- the rounds
 
 // How many requests a round added, and where its deletions begin.
-#[derive(Drop)]
+#[derive(Clone, Copy)]
 pub struct Ends {
     pub ups: usize,
     pub at: usize,
@@ -437,7 +440,7 @@ pub fn round(
 }
 
 // What a level comes to: whether it is settled, how many requests were added, and where the deletions begin.
-#[derive(Drop)]
+#[derive(Clone, Copy)]
 pub struct LevelOutcome {
     pub found: bool,
     pub ups: usize,

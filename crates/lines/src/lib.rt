@@ -1,4 +1,7 @@
 // A book's characters: the digits of Base 16, the bytes of a frame, and where a line ends.
+
+#![tactic(auto)]
+
 ghost use Rattle.std.specs.Prelude.{◌≡◌, ◌+◌, ◌<◌, ◌≤◌, length, drop};
 ghost use Rattle.lines.specs.Digits.{digit, byte_at};
 ghost use Rattle.lines.specs.Lines.{to_end};
@@ -6,7 +9,7 @@ ghost use Rattle.lines.specs.Inner.Tables.{Tabled, Encodings};
 ghost use Rattle.lines.specs.Inner.Cursors.{opening, following, is_end};
 
 // A place in a book: the character at which a line starts, and the line's number.
-#[derive(Drop)]
+#[derive(Clone, Copy)]
 pub struct Cursor {
     pub at: usize,
     pub line: usize,

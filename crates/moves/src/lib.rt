@@ -1,4 +1,7 @@
 // The moves of one side of a level, out of the accepted rules as a lent slice.
+
+#![tactic(auto)]
+
 ghost use Rattle.std.specs.Prelude.{◌≡◌, true, ◌<◌, length};
 ghost use Rattle.level.specs.Inner.Terms.{GoodRule};
 ghost use Rattle.level.specs.Inner.Chosen.{chosen_in, GoodRules};
@@ -36,7 +39,7 @@ fn moves_of(rules: &[Rule], one: u8, two: u8, roles: u32, from: usize, ms: &mut 
 
 // How many moves there are at the end of each side, one side behind the other: additions and deletions, of the crews (`gains`,
 // `losses`) and of the query's person (`adds`, `dels`).
-#[derive(Drop)]
+#[derive(Clone, Copy)]
 pub struct Counts {
     pub gains: usize,
     pub losses: usize,

@@ -1,5 +1,8 @@
 // Books that only grow, between a book's moves and the planner of one person's facts: the moves as tables, the wanted facts, and the requests of the
 // facts that a way adds.
+
+#![tactic(auto)]
+
 ghost use Rattle.std.specs.Prelude.{◌≡◌, ◌*◌, ◌<◌, length, take};
 ghost use Rattle.widths.specs.Inner.Widths.{level_size, terms_size, draft_size};
 ghost use Rattle.frames.specs.Book.{contents_of};

@@ -1,5 +1,8 @@
 // The page: a table with a bit for each person and value, set where a plan reaches it. What the crews can come to is worked out once; then all
 // persons have their levels above them, at once. No request of any plan is given.
+
+#![tactic(auto)]
+
 ghost use Rattle.std.specs.Prelude.{◌≡◌, true, length};
 ghost use Rattle.frames.specs.Book.{contents_of};
 ghost use Rattle.frames.specs.Limits.{all_plain};
@@ -17,14 +20,14 @@ use widths::{DRAFT_SIZE, FLAGS_SIZE, MOVE_SIZE, MOVES_SIZE, ROWS_SIZE, TABLE_SIZ
 pub const PAGE_SIZE: usize = 1024;
 
 // What page answers.
-#[derive(Drop)]
+#[derive(Clone, Copy)]
 pub enum Paged {
     Filled,
     Refused(Refusal),
 }
 
 // The book's refusals, and 10.
-#[derive(Drop)]
+#[derive(Clone, Copy)]
 pub enum Refusal {
     BadBook(frames::Refusal),
     BadTable,

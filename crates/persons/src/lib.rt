@@ -1,5 +1,8 @@
 // The levels of all persons at once, above crews that are settled: what each person can come to hold, where nothing is forbidden. The flags stand in
 // words, with a bit for each person, so that one look at a move serves all persons.
+
+#![tactic(auto)]
+
 ghost use Rattle.std.specs.Prelude.{◌≡◌, ◌+◌, ◌≤◌, ◌<◌, length};
 ghost use Rattle.level.specs.Inner.Moves.{Fine, Sound, move_from, move_at, moves_in};
 ghost use Rattle.widths.specs.Inner.Widths.{flags_size, table_size, move_size};

@@ -2,6 +2,9 @@
 //
 // Clearing buffers that serve every book would be most of what a short book costs, so the sizes in the book's first line choose smaller
 // ones. No answer rests on that choice: what finds its buffer too short is read on, or planned again, in the largest.
+
+#![tactic(auto)]
+
 ghost use Rattle.std.specs.Prelude.{◌+◌, ◌*◌, ◌≤◌, ◌<◌, ◌≡◌, length, take};
 ghost use Rattle.planner.specs.Answer.{said};
 ghost use Rattle.answers.specs.Inner.Written.{Written};

@@ -1,4 +1,7 @@
 // The planner: what can be reached, level by level or in a book that only grows, and a plan out of the requests written on the way.
+
+#![tactic(auto)]
+
 ghost use Rattle.std.specs.Prelude.{◌≡◌, ◌+◌, ◌-◌, ◌*◌, ◌≤◌, ◌<◌, length, drop, ◌++◌};
 ghost use Rattle.frames.specs.Book.{contents_of};
 ghost use Rattle.frames.specs.Inner.Fits.{Admitted};
@@ -16,7 +19,7 @@ use level::LevelOutcome;
 use widths::{DEPOT_SIZE, DRAFT_SIZE};
 
 // What the planner answers: no way, the count of the plan's requests, or a refusal.
-#[derive(Drop)]
+#[derive(Clone, Copy)]
 pub enum Planned {
     NoWay,
     Plan(usize),
@@ -24,7 +27,7 @@ pub enum Planned {
 }
 
 // The book's refusals, and 10.
-#[derive(Drop)]
+#[derive(Clone, Copy)]
 pub enum Refusal {
     BadBook(frames::Refusal),
     ShortBuffer,

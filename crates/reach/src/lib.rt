@@ -1,1 +1,3 @@
 // The depot as a world of the theory: see specs/ and proofs/.
+
+#![tactic(auto)]

@@ -1,4 +1,7 @@
 // The frame reader: a book with its current position, and the frame that the line there writes.
+
+#![tactic(auto)]
+
 ghost use Rattle.std.specs.Prelude.{◌≡◌, ◌+◌, ◌*◌, ◌<◌, ◌≤◌, length};
 ghost use Rattle.quantifiers.specs.Quantifiers.{all};
 ghost use Rattle.lines.specs.Digits.{is_digit};
@@ -10,7 +13,7 @@ ghost use Rattle.reader.specs.Inner.Reading.{LineRead, FrameRead};
 use lines::Cursor;
 
 // What an ended line writes: nothing, by refusal 2; a frame of so many bytes; or one of over 64, of which only the first 64 are kept.
-#[derive(Drop)]
+#[derive(Clone, Copy)]
 pub enum Frame {
     Malformed,
     Bytes(usize),
@@ -126,14 +129,14 @@ fn decode_front(x: &[u8], digits: &[u8], frame: &mut [u8]) -> usize
 }
 
 // What a line gives: its frame, and the place of its end.
-#[derive(Drop)]
+#[derive(Clone, Copy)]
 pub struct Line {
     pub frame: Frame,
     pub end: usize,
 }
 
 // What is read at a cursor: the frame of the line there, and the cursor of the line behind it.
-#[derive(Drop)]
+#[derive(Clone, Copy)]
 pub struct Read {
     pub frame: Frame,
     pub next: Cursor,
@@ -186,7 +189,7 @@ fn read_of(line: Line, next: Cursor) -> Read
 }
 
 // A book with the place at which a line of it starts, and that line's number.
-#[derive(Drop)]
+#[derive(Clone, Copy)]
 pub struct Reader<'a> {
     pub book: &'a [u8],
     pub at: usize,

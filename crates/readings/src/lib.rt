@@ -1,5 +1,7 @@
 // How a book that is only judged is answered, in the book's hexadecimal: one line.
 
+#![tactic(auto)]
+
 ghost use Rattle.std.specs.Prelude.{◌≡◌, ◌+◌, ◌≤◌, length};
 ghost use Rattle.lines.specs.Inner.Tables.{Encodings};
 ghost use Rattle.frames.specs.Book.{contents_of, told_by};

@@ -1,4 +1,7 @@
 // Replay: what a list of requests does from a book's starting facts, and whether it reaches the query.
+
+#![tactic(auto)]
+
 ghost use Rattle.std.specs.Prelude.{◌≡◌, cond, ◌&&◌, ◌||◌, ◌+◌, ◌*◌, ◌/◌, ◌≤◌, eqb, ltb, length};
 ghost use Rattle.facts.specs.Facts.{holds};
 ghost use Rattle.frames.specs.Book.{listed, contents_of};
@@ -22,7 +25,7 @@ use requests::Request;
 use sizes::Sizes;
 
 // What a list of requests comes to. Stops names the first request that does not go, counted from 1.
-#[derive(Drop)]
+#[derive(Clone, Copy)]
 pub enum Judgement {
     Reaches,
     Stops(usize),
@@ -30,27 +33,27 @@ pub enum Judgement {
 }
 
 // The refusals 1-9 and 14.
-#[derive(Drop)]
+#[derive(Clone, Copy)]
 pub enum Refusal {
     BadBook(frames::Refusal),
     BadLength,
 }
 
-#[derive(Drop)]
+#[derive(Clone, Copy)]
 pub enum Replayed {
     Judged(Judgement),
     Refused(Refusal),
 }
 
 // A row of a person's direct facts: the crews, or the values of an attribute.
-#[derive(Drop)]
+#[derive(Clone, Copy)]
 enum Direct {
     Crews,
     Values(Attr),
 }
 
 // How far the requests went: to the end, or up to the one that stopped them.
-#[derive(Drop)]
+#[derive(Clone, Copy)]
 enum Course {
     Ended,
     Stopped(usize),

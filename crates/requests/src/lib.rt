@@ -1,5 +1,7 @@
 // What a request says, whether it is well formed (refusal 12), and whether a ledger suits the book's sizes (refusal 11).
 
+#![tactic(auto)]
+
 ghost use Rattle.std.specs.Prelude.{◌≡◌, ◌+◌, ◌*◌, ◌<◌, ◌≤◌, length, get_or};
 ghost use Rattle.facts.specs.Facts.{ledger_size};
 ghost use Rattle.quantifiers.specs.Quantifiers.{all_below};
@@ -9,7 +11,7 @@ ghost use Rattle.requests.specs.Suitable.{room_of, value_set_good, member_set_go
 use facts::{Attr, CREWS_AT, Crew, Fact, LEDGER_SIZE, MEMBERS_AT, Person, Role};
 
 // A request: its op, the administrator's role, and the fact that it sets or clears.
-#[derive(Drop)]
+#[derive(Clone, Copy)]
 pub struct Request {
     pub op: u8,
     pub role: Role,

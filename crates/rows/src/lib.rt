@@ -1,4 +1,7 @@
 // The table of all persons' values, 64 rows of sixteen bytes: each row is what the person's flags show.
+
+#![tactic(auto)]
+
 ghost use Rattle.std.specs.Prelude.{◌≡◌, ◌≤◌, ◌<◌, length};
 ghost use Rattle.widths.specs.Inner.Widths.{flags_size};
 ghost use Rattle.words.specs.Inner.Words.{column};

@@ -1,4 +1,7 @@
 // The accepted rules as a lent slice of records, out of which one rule is taken by value.
+
+#![tactic(auto)]
+
 ghost use Rattle.std.specs.Prelude.{◌≡◌, ◌<◌, length, get_or};
 ghost use Rattle.frames.specs.Book.{no_rule};
 

@@ -1,4 +1,7 @@
 // Terms, rules, and the trial of a request: whether some rule permits it in a ledger.
+
+#![tactic(auto)]
+
 ghost use Rattle.std.specs.Prelude.{◌≡◌, ◌≤◌, ◌<◌, length, get_or};
 ghost use Rattle.facts.specs.Facts.{holds};
 ghost use Rattle.frames.specs.Book.{listed, no_term};
@@ -12,7 +15,7 @@ use frames::{Rule, Rules, Term};
 use requests::Request;
 
 // Who is acted on: a user (U of GURA_G) or a user group (UG).
-#[derive(Drop)]
+#[derive(Clone, Copy)]
 pub enum Subject {
     User(Person),
     Group(Crew),

@@ -1,5 +1,8 @@
 // The search over the levels: what each crew in rising number, and then the query's person, can come to, and the requests of the best plan.
 // What the crews come to is the same for every person, and is promised for all of them at once.
+
+#![tactic(auto)]
+
 ghost use Rattle.std.specs.Prelude.{◌≡◌, true, false, ◌+◌, ◌*◌, ◌<◌, length};
 ghost use Rattle.frames.specs.Book.{contents_of};
 ghost use Rattle.reach.specs.Inner.Leveled.{Leveled};

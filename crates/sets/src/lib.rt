@@ -1,5 +1,7 @@
 // Sets of small numbers: as one number, and as big-endian bytes of a slice.
 
+#![tactic(auto)]
+
 ghost use Rattle.std.specs.Prelude.{◌≡◌, ◌+◌, ◌*◌, ◌≤◌, ◌<◌, length, get_or};
 ghost use Rattle.quantifiers.specs.Quantifiers.{any_from};
 ghost use Rattle.sets.specs.Sets.{member, put, within, subset, byte_of, member_at, put_at, number_at};

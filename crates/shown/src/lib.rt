@@ -1,4 +1,7 @@
 // What one subject, a crew or the query's person, shows to a rule's terms: its flags, and what one fact more adds to them.
+
+#![tactic(auto)]
+
 ghost use Rattle.std.specs.Prelude.{◌≡◌, false, ◌||◌, ◌+◌, ◌<◌, length, get_or};
 ghost use Rattle.shown.specs.Inner.Shown.{touches, Extended, ExtendedAt, Falls, Raised};
 ghost use Rattle.widths.specs.Inner.Widths.{level_size, higher_at, flags_size, table_size};

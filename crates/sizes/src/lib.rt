@@ -1,11 +1,14 @@
 // What a book's first line says: how many persons, crews and attributes there are, and how many values each attribute has.
+
+#![tactic(auto)]
+
 ghost use Rattle.std.specs.Prelude.{◌≡◌, ◌<◌};
 ghost use Rattle.quantifiers.specs.Quantifiers.{all_below};
 ghost use Rattle.sizes.specs.Sizes.{between, values_of, is_value, is_crew_field, count_at, count_good_at, sizes_good, counts_of, sizes_of, value_count, fact_count};
 ghost use Rattle.sizes.specs.Inner.Ranges.{InRange};
 
 // The counts of values are in the attributes' order, 0 for an attribute that the book has not.
-#[derive(Drop)]
+#[derive(Clone, Copy)]
 pub struct Sizes {
     pub persons: u8,
     pub crews: u8,

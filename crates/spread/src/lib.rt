@@ -1,4 +1,7 @@
 // A fact put in for some persons at once, in words: the fact itself, and all that follows from it.
+
+#![tactic(auto)]
+
 ghost use Rattle.std.specs.Prelude.{◌≡◌, false, ◌&&◌, ◌+◌, ◌-◌, ◌*◌, ◌<◌, leb, ltb, length, get_or};
 ghost use Rattle.shown.specs.Inner.Shown.{touches, not_higher};
 ghost use Rattle.widths.specs.Inner.Widths.{level_size, higher_at, flags_size, table_size};

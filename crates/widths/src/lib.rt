@@ -1,5 +1,7 @@
 // The sizes of the planner's levels, tables and buffers, each named once.
 
+#![tactic(auto)]
+
 // The facts of a level, those of one crew or of the query's person: 8 attributes of 16 values, and 32 crews.
 pub const LEVEL_SIZE: usize = 160;
 

@@ -1,4 +1,7 @@
 // The flags of up to 64 persons at once: a word for each flag, and in each word a bit for each person.
+
+#![tactic(auto)]
+
 ghost use Rattle.std.specs.Prelude.{◌≡◌, false, cond, ◌<◌, eqb, length, get_or};
 ghost use Rattle.widths.specs.Inner.Widths.{flags_size};
 ghost use Rattle.words.specs.Inner.Words.{column, Lit, ColumnClear, ColumnPut};
