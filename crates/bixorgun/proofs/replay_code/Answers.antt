@@ -1,0 +1,11 @@
+-- `bixorgun::replay_code` meets its contract. Assumes nothing.
+use mathlib.Core.Path.{refl, ◌∙◌}
+use Rattle.bixorgun.proofs.replay_code.Goals as goal
+
+pub returns-in-Judged : goal.returns-in-Judged
+returns-in-Judged c = rw c.a-1.given.1 c.judgement_code.ensures
+
+pub returns-in-Refused : goal.returns-in-Refused
+returns-in-Refused c =
+    rw c.a-in-Refused-1.given.1
+    (c.code_of.ensures ∙ rw (c.refusal_number.ensures, c.refusal_line.ensures) refl)

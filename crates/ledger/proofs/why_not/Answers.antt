@@ -1,0 +1,10 @@
+-- `ledger::why_not` meets its contract: what the book's rules and hierarchy say of the request in the ledger. Assumes nothing.
+use Rattle.frames.specs.Book.{contents_of}
+use borrow.Author.Rules.{rules}
+use Rattle.ledger.proofs.why_not.Goals as goal
+
+pub why_not-requires : goal.why_not-requires
+unfolding contents_of
+why_not-requires c =
+    let book = c.requires in
+    ((book.rules_few, book.rules_short), book.edge_room)

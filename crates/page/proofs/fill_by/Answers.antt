@@ -1,0 +1,51 @@
+-- `page::fill_by` meets its contract: the crews are settled for every person, above them the levels of all persons are settled at once, and the rows
+-- that their flags show are right (`persons_right`). Assumes nothing.
+use mathlib.Core.Path.{◌≡◌, refl, sym}
+use mathlib.Core.Logic.{dite}
+use mathlib.Core.Bool.{false}
+use Prim.Native.Nat.{ℕ, ◌<◌}
+use native.Mathlib.Decide.{dec_lt}
+use native.Mathlib.Omega.{arith}
+use lib.ListN.{get_or, replicate, get_or-replicate, get_or-eq_default}
+use Rattle.frames.specs.Book.{contents_of}
+use Rattle.page.proofs.PersonLaws.{persons_right}
+use Rattle.page.proofs.fill_by.Goals as goal
+
+-- Every word is 0 before the persons' levels.
+words_clear : (k : ℕ) → ◌≡◌ {A = ℕ} (get_or (replicate 448 0) k 0) 0
+words_clear k = dite (dec_lt k 448)
+    (λ (l : k < 448). get_or-replicate 448 k 0 0 l)
+    (λ (l : k < 448 → ⊥). get_or-eq_default (replicate 448 0) 0 {n = k} (omega arith))
+
+pub crews_table-requires : goal.crews_table-requires
+crews_table-requires c =
+    let pre = c.requires in
+    (pre.0, (pre.1.0.0, record { size = refl; blank = λ j h. get_or-replicate 5280 j false false (omega arith) }))
+
+pub slice_bounds-settle-end : goal.slice_bounds-settle-end
+unfolding contents_of
+slice_bounds-settle-end c =
+    sym c.requires.0.0.book.facts_room
+
+pub slice_bounds-settle-end-3 : goal.slice_bounds-settle-end-3
+slice_bounds-settle-end-3 c = refl
+
+pub settle-requires : goal.settle-requires
+unfolding contents_of
+settle-requires c =
+    let pre = c.requires in (
+      (pre.0.0.book.sized.persons_most, pre.1.0.1.sides.sound_adds),
+      (c.crews_table.ensures.made.size, record { size = refl; none = words_clear }),
+    )
+
+pub put_rows-requires : goal.put_rows-requires
+unfolding contents_of
+put_rows-requires c =
+    let pre = c.requires in
+    ((pre.0.0.book.sized.persons_most, c.settle.ensures.size), c.clear.ensures)
+
+pub returns : goal.returns
+unfolding contents_of
+returns c =
+    let pre = c.requires in
+    persons_right c.args.b pre.0.0 pre.0.1 pre.1.0.1 c.crews_table.ensures c.settle.ensures c.put_rows.ensures

@@ -1,0 +1,27 @@
+-- `page::page` meets its contract: a refused book is refused with its number and line, of an accepted one the page is given. Assumes nothing.
+use Rattle.frames.proofs.BookLaws.{page_read_refused, page_read_accepted, page_read_sound, page_read_plain}
+use Rattle.page.proofs.RowLaws.{promise_refused, promise_accepted}
+use Rattle.page.proofs.page.Goals as goal
+
+pub returns-in-Refused : goal.returns-in-Refused
+returns-in-Refused c =
+    promise_refused c.args.book.now _
+    (page_read_refused c.args.book.now c.read_for_page-reading.result c.read_for_page-reading.ensures
+    c.outcome-1.given.0.0 c.outcome-1.given.1)
+
+pub page_in-requires : goal.page_in-requires
+page_in-requires c =
+    let book = c.args.book.now in
+    let result = c.read_for_page-reading.result in
+    let reads = c.read_for_page-reading.ensures in
+    let accepted = c.enum_told-1.given.1 in
+    (page_read_sound book result reads accepted, page_read_plain book result reads accepted)
+
+pub shape_of-out : goal.shape_of-out
+shape_of-out c = c.out-1.given
+
+pub returns : goal.returns
+returns c =
+    promise_accepted c.args.book.now _ _ _
+    (page_read_accepted c.args.book.now c.read_for_page-reading.result
+    c.read_for_page-reading.ensures c.enum_told-1.given.1) c.page_in.ensures

@@ -1,0 +1,99 @@
+-- `persons::close` meets its contract: the invariant says that additions lead each person from what the person began with (`Growing`), and that the last
+-- `quiet` moves before i fire for nobody. The measure counts the facts that the 64 persons lack, and the moves that are not quiet. Assumes nothing.
+use mathlib.Core.Path.{◌≡◌, refl, sym, ◌∙◌}
+use Prim.Native.Nat.{◌+◌, ◌*◌, ◌-◌, ◌≤◌, ◌<◌}
+use native.Mathlib.Omega.{arith}
+use lib.ListN.{length}
+use Rattle.level.specs.Inner.Moves.{moves_in, move_at}
+use Rattle.level.specs.Inner.Sweep.{TurnAt}
+use Rattle.level.proofs.MoveLaws.{listed_room, listed_stands, fact_fits}
+use Rattle.level.proofs.TurnLaws.{sweeping_anew, sweeping-quiet, sweeping_ended, turn_stays, fired_less, quiet_less}
+use Rattle.persons.proofs.EndLaws.{growing-first, growing-more, growing_ended, nobody_fires, fact_read, all_facts_lem, fewer-left}
+use Rattle.persons.proofs.close.Goals as goal
+use Rattle.persons.proofs.close.Goals.{After-fires-who, After-put_whole}
+
+-- The sweep looks at a move of the list, whose numbers stand there.
+listed : (c : After-fires-who) → c.loop-quiet.i < (moves_in c.args.adds.now).count
+listed c = c.loop-quiet.invariant.1.within (omega (arith, c.loop-quiet-test.true))
+
+move_fits : (c : After-fires-who) → 14 * c.loop-quiet.i + 14 ≤ length c.args.adds.now
+move_fits c = listed_room c.requires.0 (listed c)
+
+-- No names are tried: the sweep goes on where it stands.
+still : (c : After-fires-who)
+    → TurnAt (moves_in c.args.adds.now).count 160 c.loop-quiet.i c.loop-quiet.quiet 160 c.loop-quiet.i
+    c.loop-quiet.quiet
+still c = turn_stays c.loop-quiet.quiet (listed c) (omega arith) (omega arith)
+
+-- The fact that is put in is the move's.
+read_fact : (c : After-put_whole)
+    → c.wide-f.result ≡ (move_at (moves_in c.args.adds.now) c.loop-quiet.i).fact
+read_fact c =
+    fact_read c.args.adds.now c.loop-quiet.i c.wide-f.ensures
+
+pub loop-quiet-init : goal.loop-quiet-init
+loop-quiet-init c =
+    (
+      growing-first (moves_in c.args.adds.now) c.requires.1,
+      sweeping_anew _ refl (omega arith) (λ h. h),
+    )
+
+pub fires-who-requires : goal.fires-who-requires
+fires-who-requires c =
+    (c.requires.0, (c.loop-quiet.invariant.1.within (omega (arith, c.loop-quiet-test.true)), c.loop-quiet.invariant.0.size))
+
+pub overflow_add-quiet : goal.overflow_add-quiet
+overflow_add-quiet c = omega (arith, c.requires.0.few, c.loop-quiet-test.true)
+
+pub next-i-requires : goal.next-i-requires
+next-i-requires c = listed (goal.at.next-i-requires c).After-fires-who
+
+pub loop-quiet-smaller-then-who-eq0 : goal.loop-quiet-smaller-then-who-eq0
+loop-quiet-smaller-then-who-eq0 c =
+    quiet_less (10240 - all_facts_lem c.loop-quiet.held) (still (goal.at.loop-quiet-smaller-then-who-eq0 c).After-fires-who) c.loop-quiet-test.true
+
+pub loop-quiet-preserved-then-who-eq0 : goal.loop-quiet-preserved-then-who-eq0
+loop-quiet-preserved-then-who-eq0 c =
+    let none = nobody_fires (moves_in c.args.adds.now) c.loop-quiet.i c.fires-who.ensures c.if-who-eq0.true in (
+      c.loop-quiet.inv.0,
+      sweeping-quiet c.loop-quiet.inv.1 (still (goal.at.loop-quiet-preserved-then-who-eq0 c).After-fires-who) (sym none) refl c.next-i.ensures,
+    )
+
+pub overflow_mul-i : goal.overflow_mul-i
+overflow_mul-i c = omega (arith, move_fits (goal.at.overflow_mul-i c).After-fires-who)
+
+pub offset_bounds-adds-i : goal.offset_bounds-adds-i
+offset_bounds-adds-i c = omega (arith, move_fits (goal.at.offset_bounds-adds-i c).After-fires-who)
+
+pub bounds-adds-i : goal.bounds-adds-i
+bounds-adds-i c = omega (arith, move_fits (goal.at.bounds-adds-i c).After-fires-who)
+
+pub put_whole-requires : goal.put_whole-requires
+put_whole-requires c =
+    (
+      fact_fits c.args.adds.now (14 * c.loop-quiet.i) (listed_stands c.requires.0 (listed (goal.at.put_whole-requires c).After-fires-who)) c.wide-f.ensures,
+      (c.requires.1.rows, c.loop-quiet.inv.0.size),
+    )
+
+pub next-i-requires-else-who-eq0 : goal.next-i-requires-else-who-eq0
+next-i-requires-else-who-eq0 c = listed (goal.at.next-i-requires-else-who-eq0 c).After-fires-who
+
+pub loop-quiet-smaller : goal.loop-quiet-smaller
+loop-quiet-smaller c =
+    fired_less (moves_in c.args.adds.now).count c.loop-quiet.quiet 160 160
+    (fewer-left c.requires.0 c.loop-quiet.inv.0 (listed (goal.at.loop-quiet-smaller c).After-fires-who) c.fires-who.ensures (read_fact (goal.at.loop-quiet-smaller c).After-put_whole) c.put_whole.ensures c.fits.all.fits
+    c.if-who-eq0.false)
+
+pub loop-quiet-preserved : goal.loop-quiet-preserved
+loop-quiet-preserved c =
+    (
+      growing-more c.requires.0 c.loop-quiet.inv.0 (listed (goal.at.loop-quiet-preserved c).After-fires-who) c.fires-who.ensures (read_fact (goal.at.loop-quiet-preserved c).After-put_whole) c.put_whole.ensures,
+      sweeping_anew _ refl (omega arith) (λ h. c.next-i-else-who-eq0.ensures.fits),
+    )
+
+pub shape_of-held : goal.shape_of-held
+shape_of-held c = c.loop-quiet.invariant.0.size ∙ sym c.requires.1.size
+
+pub returns : goal.returns
+returns c =
+    growing_ended c.requires.0 c.loop-quiet.invariant.0 c.fits.all.fits (sweeping_ended c.loop-quiet.invariant.1 c.loop-quiet-test.false)

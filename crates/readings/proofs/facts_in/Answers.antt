@@ -1,0 +1,25 @@
+-- `readings::facts_in` meets its contract. The invariant: n and what the bytes from i on have are the whole. The measure is the bytes left.
+-- Assumes nothing.
+use mathlib.Core.Path.{◌≡◌}
+use Prim.Native.Nat.{◌-◌}
+use native.Mathlib.Omega.{arith}
+use lib.ListN.{length}
+use Rattle.answers.specs.Answers.{total}
+use Rattle.answers.proofs.AnswerLaws.{total-step, total_end}
+use Rattle.readings.proofs.facts_in.Goals as goal
+
+pub loop-i-init : goal.loop-i-init
+loop-i-init c = (omega arith, (omega arith, omega arith))
+
+pub loop-i-preserved : goal.loop-i-preserved
+loop-i-preserved c =
+    let xs = c.args.t1 in
+    let whole : length xs ≡ 1792 = c.well_formed.0.1.0.1 in
+    let step = total-step 8 xs c.loop-i.i (omega arith) in
+    (omega arith, (omega arith, omega (arith, c.byte_size-n.ensures.0)))
+
+pub returns : goal.returns
+returns c =
+    let xs = c.args.t1 in
+    let whole : length xs ≡ 1792 = c.well_formed.0.1.0.1 in
+    omega (arith, total_end 8 xs c.loop-i.i (omega arith))

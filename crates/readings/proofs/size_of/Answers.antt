@@ -1,0 +1,29 @@
+-- `readings::size_of` meets its contract. The invariant: n is how many numbers below v are members, at most v. The measure is
+-- what is left of the numbers below w. Assumes nothing.
+use mathlib.Core.Path.{◌≡◌, refl, ap, sym, ◌∙◌}
+use mathlib.Core.Logic.{⊎_elim}
+use Prim.Native.Nat.{◌-◌}
+use native.Mathlib.Omega.{arith}
+use Rattle.answers.specs.Answers.{size}
+use Rattle.answers.proofs.AnswerLaws.{size_in, size_out}
+use Rattle.readings.proofs.size_of.Goals as goal
+
+pub loop-v-init : goal.loop-v-init
+unfolding size
+loop-v-init c = (omega arith, (refl, omega arith))
+
+pub loop-v-preserved : goal.loop-v-preserved
+loop-v-preserved c =
+    let x = c.args.x in
+    let v = c.loop-v.v in
+    let is = sym c.has.ensures in
+    ⊎_elim
+    (λ w. let more = size_in x v (is ∙ w.0.taken) in (omega arith, (omega arith, omega arith)))
+    (λ w. let same = size_out x v (is ∙ w.0.left) in (omega arith, (omega arith, omega arith)))
+    c.if-has.branch
+
+pub returns : goal.returns
+returns c =
+    let args = c.args in
+    let e : c.loop-v.v ≡ args.w = omega arith in
+    (c.loop-v.invariant.1.0 ∙ ap (size args.x) e, omega arith)

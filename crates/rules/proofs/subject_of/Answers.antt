@@ -1,0 +1,16 @@
+-- `rules::subject_of` meets its contract: each arm is the definition at its variant. Assumes nothing.
+use mathlib.Core.Path.{sym, ap}
+use Rattle.rules.specs.Rules.{subject_of}
+use Rattle.rules.proofs.subject_of.Goals as goal
+
+pub returns-in-Holds : goal.returns-in-Holds
+unfolding subject_of
+returns-in-Holds c = sym (ap subject_of c.f-1.given.1)
+
+pub returns-in-CrewHolds : goal.returns-in-CrewHolds
+unfolding subject_of
+returns-in-CrewHolds c = sym (ap subject_of c.f-in-CrewHolds-1.given.1)
+
+pub returns-in-Member : goal.returns-in-Member
+unfolding subject_of
+returns-in-Member c = sym (ap subject_of c.f-in-Member-1.given.1)

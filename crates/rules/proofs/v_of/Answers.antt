@@ -1,0 +1,16 @@
+-- `rules::v_of` meets its contract: each arm is the definition at its variant. Assumes nothing.
+use mathlib.Core.Path.{sym, ap}
+use Rattle.rules.specs.Rules.{v_of}
+use Rattle.rules.proofs.v_of.Goals as goal
+
+pub returns-in-Holds : goal.returns-in-Holds
+unfolding v_of
+returns-in-Holds c = sym (ap v_of c.f-1.given.1)
+
+pub returns-in-CrewHolds : goal.returns-in-CrewHolds
+unfolding v_of
+returns-in-CrewHolds c = sym (ap v_of c.f-in-CrewHolds-1.given.1)
+
+pub returns-in-Member : goal.returns-in-Member
+unfolding v_of
+returns-in-Member c = sym (ap v_of c.enum_told-1.given.1)

@@ -1,0 +1,128 @@
+-- `search::crew_levels` meets its contract: crew after crew, until one is stuck; what is settled serves every person. The names that the crews
+-- hand on stay 160. Assumes nothing.
+use mathlib.Core.Path.{◌≡◌, sym, subst, ◌∙◌}
+use mathlib.Core.Bool.{Bool, true, false, true≢false}
+use mathlib.Core.List.{List}
+use Prim.Native.Nat.{ℕ, ◌+◌, ◌-◌, ◌*◌, ◌≤◌, ◌<◌}
+use Rattle.frames.specs.Book.{Contents, contents_of}
+use Rattle.search.specs.Inner.Drive.{Driving}
+use Rattle.search.specs.Inner.Scan.{Serves, Scanned}
+use Rattle.search.proofs.PersonLaws.{serves_own}
+use Rattle.search.proofs.StepLaws.{no_found, was_found}
+use Rattle.search.proofs.PartLaws.{crews_few, own_drive}
+use native.Mathlib.Omega.{arith}
+use Rattle.search.proofs.crew_levels.Goals as goal
+use Rattle.search.proofs.crew_levels.Goals.{At-loop-k, Start}
+
+few : {n k crews : ℕ} → n ≤ 160 * (k + 1) → k < crews → crews ≤ 32 → n < 18446744073709551616
+few a h b = omega arith
+
+small : {k crews : ℕ} → k < crews → crews ≤ 32 → k + 1 < 256
+small h b = omega arith
+
+-- After the last crew.
+scanned : {b : Contents} {k n : ℕ} {rows : List Bool} {ups at : ℕ} {up down : List ℕ} → Serves b k rows ups up at down → k ≡ n
+    → Scanned b n rows up down true ups at
+scanned {b} {k} {n} {rows} {ups} {at} {up} {down} d e =
+    record { settled = λ f. subst (λ (i : ℕ). Serves b i rows ups up at down) e d; stuck = λ f. absurd (true≢false f) }
+
+-- Where one is stuck, so is the whole.
+stopped : {b : Contents} {k n : ℕ} {rows : List Bool} {up down : List ℕ} {found : Bool} {ups at ups' at' : ℕ} → Scanned b k rows up down found ups at
+    → found ≡ false → Scanned b n rows up down false ups' at'
+stopped s e = record { settled = λ f. absurd (true≢false (sym f)); stuck = λ f. s.stuck e }
+
+-- The lengths of what is lent, by what is settled for the query's own person: at the start of the loop, and at its head.
+settled_at_first : (c : Start)
+    → Driving (contents_of c.requires.0.parts.book) 0 c.args.rows.now 0 c.args.up.now 5280 c.args.down.now
+settled_at_first c = own_drive c.requires.0.parts c.requires.1.1
+
+settled_so_far : (c : At-loop-k) → Driving (contents_of c.requires.0.parts.book) c.loop-k.k c.loop-k.rows
+    c.loop-k.ups c.loop-k.up c.loop-k.at c.loop-k.down
+settled_so_far c = own_drive c.requires.0.parts c.loop-k.invariant.1.1
+
+pub loop-k-init : goal.loop-k-init
+loop-k-init c = (omega arith, c.requires.1)
+
+pub crew_level-r-requires : goal.crew_level-r-requires
+crew_level-r-requires c = ((c.requires.0, c.loop-k-test.true), c.loop-k.invariant.1)
+
+pub shape_of-added-then-not-r : goal.shape_of-added-then-not-r
+shape_of-added-then-not-r c =
+    c.added-1.given ∙
+    (c.loop-k.inv.1.0.0.room_added ∙ sym c.requires.1.0.0.room_added)
+
+pub shape_of-deleted-then-not-r : goal.shape_of-deleted-then-not-r
+shape_of-deleted-then-not-r c =
+    c.deleted-1.given ∙
+    (c.loop-k.inv.1.0.0.room_deleted ∙ sym c.requires.1.0.0.room_deleted)
+
+pub shape_of-rows-then-not-r : goal.shape_of-rows-then-not-r
+shape_of-rows-then-not-r c =
+    c.rows-1.given ∙
+    ((settled_so_far (goal.at.shape_of-rows-then-not-r c).At-loop-k).rows_right.size ∙ sym (settled_at_first (goal.at.shape_of-rows-then-not-r c).Start).rows_right.size)
+
+pub shape_of-table-then-not-r : goal.shape_of-table-then-not-r
+shape_of-table-then-not-r c =
+    c.table-1.given ∙
+    (c.loop-k.inv.1.0.1.size ∙ sym c.requires.1.0.1.size)
+
+pub shape_of-up-then-not-r : goal.shape_of-up-then-not-r
+shape_of-up-then-not-r c =
+    c.up-1.given ∙
+    ((settled_so_far (goal.at.shape_of-up-then-not-r c).At-loop-k).size_up ∙ sym (settled_at_first (goal.at.shape_of-up-then-not-r c).Start).size_up)
+
+pub shape_of-down-then-not-r : goal.shape_of-down-then-not-r
+shape_of-down-then-not-r c =
+    c.down-1.given ∙
+    ((settled_so_far (goal.at.shape_of-down-then-not-r c).At-loop-k).size_down ∙ sym (settled_at_first (goal.at.shape_of-down-then-not-r c).Start).size_down)
+
+pub returns-then-not-r : goal.returns-then-not-r
+returns-then-not-r c =
+    record { each = λ g. stopped (c.crew_level-r.ensures.0.each g) (no_found _ c.if-not-r.true) }
+
+pub overflow_add-ups : goal.overflow_add-ups
+overflow_add-ups c =
+    let parts = c.requires.0.parts in
+    let settled = (c.crew_level-r.ensures.0.each parts).settled (was_found _ c.if-not-r.false) in
+    omega (arith, few (serves_own parts.accepted settled).few_up c.loop-k-test.taken (crews_few parts))
+
+pub overflow_add-k : goal.overflow_add-k
+overflow_add-k c =
+    omega (arith, small c.loop-k-test.taken (crews_few c.requires.0.parts))
+
+pub loop-k-preserved : goal.loop-k-preserved
+loop-k-preserved c =
+    let names = c.loop-k.inv.1.0.0 in (
+      omega (arith, c.loop-k-test.taken),
+      (
+        (
+          record {
+            room_added = c.added-1.given ∙ names.room_added;
+            room_deleted = c.deleted-1.given ∙ names.room_deleted;
+          },
+          c.crew_level-r.ensures.1,
+        ),
+        record { each = λ g. (c.crew_level-r.ensures.0.each g).settled (was_found _ c.if-not-r.false) },
+      ),
+    )
+
+pub shape_of-added : goal.shape_of-added
+shape_of-added c = c.loop-k.invariant.1.0.0.room_added ∙ sym c.requires.1.0.0.room_added
+
+pub shape_of-deleted : goal.shape_of-deleted
+shape_of-deleted c = c.loop-k.invariant.1.0.0.room_deleted ∙ sym c.requires.1.0.0.room_deleted
+
+pub shape_of-rows : goal.shape_of-rows
+shape_of-rows c = (settled_so_far (goal.at.shape_of-rows c).At-loop-k).rows_right.size ∙ sym (settled_at_first (goal.at.shape_of-rows c).Start).rows_right.size
+
+pub shape_of-table : goal.shape_of-table
+shape_of-table c = c.loop-k.invariant.1.0.1.size ∙ sym c.requires.1.0.1.size
+
+pub shape_of-up : goal.shape_of-up
+shape_of-up c = (settled_so_far (goal.at.shape_of-up c).At-loop-k).size_up ∙ sym (settled_at_first (goal.at.shape_of-up c).Start).size_up
+
+pub shape_of-down : goal.shape_of-down
+shape_of-down c = (settled_so_far (goal.at.shape_of-down c).At-loop-k).size_down ∙ sym (settled_at_first (goal.at.shape_of-down c).Start).size_down
+
+pub returns : goal.returns
+returns c = record { each = λ g. scanned (c.loop-k.invariant.1.1.each g) (omega (arith, c.loop-k.invariant.0, c.loop-k-test.false)) }

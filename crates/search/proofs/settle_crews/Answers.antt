@@ -1,0 +1,37 @@
+-- `search::settle_crews` meets its contract: nothing is settled at first, for any book of these parts and any person (`parts_first`), and the crews'
+-- levels carry it on. Assumes nothing.
+use mathlib.Core.Path.{refl, sym}
+use Rattle.search.proofs.PartLaws.{juniors_room, parts_first}
+use Rattle.search.proofs.settle_crews.Goals as goal
+
+pub slice_bounds-fill_reach-end : goal.slice_bounds-fill_reach-end
+slice_bounds-fill_reach-end c = refl
+
+pub fill_reach-requires : goal.fill_reach-requires
+fill_reach-requires c = (juniors_room c.requires.0, refl)
+
+pub first_rows-requires : goal.first_rows-requires
+first_rows-requires c = c.requires.1.0.0
+
+pub slice_bounds-crew_levels-end : goal.slice_bounds-crew_levels-end
+slice_bounds-crew_levels-end c = refl
+
+pub slice_bounds-crew_levels-end-2 : goal.slice_bounds-crew_levels-end-2
+slice_bounds-crew_levels-end-2 c = refl
+
+pub slice_bounds-crew_levels-end-3 : goal.slice_bounds-crew_levels-end-3
+slice_bounds-crew_levels-end-3 c = sym c.fill_reach.ensures.0
+
+pub crew_levels-requires : goal.crew_levels-requires
+crew_levels-requires c =
+    let pre = c.requires in
+    let reached = c.fill_reach.ensures in (
+      record { parts = pre.0; reach_size = reached.0; reaching = reached.1 },
+      (
+        (record { room_added = refl; room_deleted = refl }, pre.1.0.1),
+        parts_first c.first_rows.ensures pre.1.1.0 pre.1.1.1,
+      ),
+    )
+
+pub returns : goal.returns
+returns c = c.crew_levels.ensures
