@@ -11,7 +11,6 @@ use Rattle.facts.specs.Facts.{holds}
 use Rattle.frames.specs.declared.Rule.{Rule}
 use Rattle.frames.specs.Book.{listed, no_rule}
 use Rattle.frames.specs.Inner.Fits.{Short}
-use Rattle.rule_list.proofs.ByValue as list
 use Rattle.rules.proofs.TrialLaws.{at_place}
 use Rattle.denials.proofs.DenialLaws.{listed_at, unmet-at-most, why_unmet, why_none}
 use Rattle.denials.proofs.why_not.Goals as goal
