@@ -43,10 +43,10 @@ loop-j-preserved c =
     ⊎_elim
     (λ w.
     rw w.1 (term-unmet at.juniors.now S at.q at.r c.requires.0 c.loop-j.j c.loop-j.found
-    c.loop-j.invariant c.loop-j-test.true (sym term ∙ not-true _ w.0.taken)))
+    c.loop-j.invariant c.loop-j-test.true (sym term ∙ not-true _ w.0.true)))
     (λ w.
     rw w.1 (term-met at.juniors.now S at.q at.r c.requires.0 c.loop-j.j c.loop-j.found
-    c.loop-j.invariant c.loop-j-test.true (sym term ∙ not-false _ w.0.left)))
+    c.loop-j.invariant c.loop-j-test.true (sym term ∙ not-false _ w.0.false)))
     c.if-not-meets_term.branch
 
 pub returns : goal.returns

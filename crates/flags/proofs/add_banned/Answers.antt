@@ -21,7 +21,7 @@ unfolding want_of
 loop-j-preserved c =
     (
       omega arith,
-      banned_more c.args.t1 c.loop-j.j c.loop-j.inv.1
+      banned_more c.args.t1 c.loop-j.j c.loop-j.invariant.1
           c.add_want.ensures,
     )
 

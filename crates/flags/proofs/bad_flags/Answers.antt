@@ -40,7 +40,7 @@ pub returns-then-k-crews : goal.returns-then-k-crews
 returns-then-k-crews c =
     bad_person c.args.q c.args.crews c.args.k c.args.below
     c.clear_flags.ensures c.if-q-eq1.false
-    c.if-k-crews.taken c.add_banned.ensures c.add_lacking.ensures
+    c.if-k-crews.true c.add_banned.ensures c.add_lacking.ensures
 
 pub shape_of-bad-then-not-below : goal.shape_of-bad-then-not-below
 shape_of-bad-then-not-below c = c.clear_flags.ensures.size
