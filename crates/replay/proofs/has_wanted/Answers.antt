@@ -20,7 +20,7 @@ abbrev none : Want
 none = record { attr = record { 0 = 0 }; set = 0 }
 
 -- The test under the arguments of the function.
-abbrev tested : Start→ Want → Bool
+abbrev tested : Start → Want → Bool
 tested start = test start.args.exactly start.args.directly start.args.ledger.now start.args.b.sizes start.args.b.juniors start.args.b.query
 
 pub loop-j-init : goal.loop-j-init
