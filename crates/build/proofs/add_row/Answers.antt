@@ -1,6 +1,5 @@
 -- A crew's row is added to the effective flags: after `k` places the first `k` are done. The measure is the places left. Assumes nothing.
 use native.Mathlib.Omega.{arith}
-use Prim.Native.Nat.{◌-◌}
 use Rattle.shown.proofs.ShownLaws.{row-none, row_more, row-all}
 use Rattle.build.proofs.add_row.Goals as goal
 

@@ -1,6 +1,5 @@
 -- Flags built fact by fact: after `f` facts those below `f` are put in. The measure is the facts left. Assumes nothing.
 use mathlib.Core.Path.{sym, ◌∙◌}
-use Prim.Native.Nat.{◌-◌}
 use Rattle.build.proofs.BuildLaws.{build_first, build_put, build_skip, build_all}
 use Rattle.build.proofs.build.Goals as goal
 

@@ -1,6 +1,5 @@
 -- The first fact that is lacking: none of those before `k` is. The measure is the facts left. Assumes nothing.
 use mathlib.Core.Path.{sym, ◌∙◌}
-use Prim.Native.Nat.{◌-◌}
 use Rattle.build.proofs.BuildLaws.{none_first, none_more, none_found, none_left}
 use Rattle.build.proofs.lacks.Goals as goal
 

@@ -1,10 +1,9 @@
 -- `frames::are_growing` meets its contract: the rules from i on decide, by the laws of the first rules of a list; the measure is what is
 -- left of them. Assumes nothing.
 use mathlib.Core.Path.{refl, sym, ◌∙◌}
-use Prim.Native.Nat.{◌-◌, ◌≤◌}
+use Prim.Native.Nat.{◌≤◌}
 use native.Mathlib.Omega.{arith}
 use lib.ListN.{length}
-use borrow.Author.Rules.{rules}
 use Rattle.quantifiers.proofs.ListLaws.{all_out, all_pass, all_fail}
 use Rattle.frames.specs.Limits.{growing}
 use Rattle.frames.specs.Book.{listed}

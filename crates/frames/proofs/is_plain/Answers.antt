@@ -2,12 +2,12 @@
 -- whatever n is; the measure is what is left of them. Assumes nothing.
 use mathlib.Core.Path.{◌≡◌, refl, sym, ap, ◌∙◌}
 use mathlib.Core.Bool.{Bool, not, ◌&&◌}
-use Prim.Native.Nat.{◌+◌, ◌-◌, ◌<◌}
+use Prim.Native.Nat.{◌+◌, ◌<◌}
 use native.Mathlib.Omega.{arith}
 use lib.ListN.{length, take, drop}
 use Rattle.quantifiers.specs.Quantifiers.{all}
 use Rattle.quantifiers.proofs.BoolLaws.{two_below}
-use Rattle.frames.specs.Limits.{is_not, plain}
+use Rattle.frames.specs.Limits.{plain}
 use Rattle.frames.specs.Book.{no_term}
 use Rattle.quantifiers.proofs.ListLaws.{front_more, front_out}
 use Rattle.frames.proofs.is_plain.Goals as goal

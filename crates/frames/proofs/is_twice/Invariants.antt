@@ -4,7 +4,6 @@ use mathlib.Core.Path.{◌≡◌}
 use mathlib.Core.List.{[]}
 use Prim.Native.Nat.{◌+◌, ◌-◌, ◌*◌, ◌<◌, ◌≤◌}
 use lib.ListN.{take}
-use borrow.Author.Rules.{rules}
 use Rattle.frames.specs.declared.Rule.{Rule}
 use Rattle.frames.specs.Limits.{twice}
 use Rattle.frames.specs.Book.{listed}

@@ -4,7 +4,6 @@ use mathlib.Core.Path.{refl, sym, ap, ◌∙◌}
 use mathlib.Core.Bool.{Bool, ◌&&◌}
 use mathlib.Core.Logic.{inl, inr}
 use borrow.Author.Tests.{not-true, not-false}
-use borrow.Author.Rules.{rules}
 use Prim.Native.Nat.{ℕ, ◌-◌, ◌<◌}
 use native.Mathlib.Omega.{arith}
 use lib.ListN.{length, set, take}
@@ -165,8 +164,9 @@ kept_at : (c : Joined-not-unmarked) → let at = c.loop-cursor in
 unfolding listed
 kept_at c =
     elim c.if-not-unmarked.branch [
-      then-not-unmarked+else-is_beyond looked ↦ inr (looked.if-not-unmarked.true, sym looked.is_beyond.ensures ∙ looked.if-is_beyond.false)
-    | else-not-unmarked none ↦ inl none.if-not-unmarked.false ]
+      | then-not-unmarked+else-is_beyond looked ↦ inr (looked.if-not-unmarked.true, sym looked.is_beyond.ensures ∙ looked.if-is_beyond.false)
+      | else-not-unmarked none ↦ inl none.if-not-unmarked.false
+    ]
 
 pub returns-then-not-known : goal.returns-then-not-known
 returns-then-not-known c =

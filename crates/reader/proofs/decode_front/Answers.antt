@@ -1,7 +1,6 @@
 -- `reader::decode_front` meets its contract. The invariant `Begun` says that k bytes of the first line are written; two digits more
 -- are a byte more (`front_more`). The measure is how many of the most that are looked at are left. Assumes nothing.
 use native.Mathlib.Omega.{arith}
-use Prim.Native.Nat.{◌-◌}
 use Rattle.reader.proofs.DecodingLaws.{begun_none, front_more}
 use Rattle.reader.proofs.decode_front.Goals as goal
 

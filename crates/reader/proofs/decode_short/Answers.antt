@@ -1,7 +1,6 @@
 -- `reader::decode_short` meets its contract. The invariant `Decoding` says that k bytes of the frame are written and that the characters
 -- from 2 × k on decide the rest; the measure is what is left of the line. Assumes nothing.
 use mathlib.Core.Path.{refl, sym}
-use Prim.Native.Nat.{◌-◌}
 use native.Mathlib.Omega.{arith}
 use Rattle.lines.proofs.DigitLaws.{malformed_empty, malformed_odd}
 use Rattle.reader.proofs.DecodingLaws.{decode_none, decode-high, decode-low, decode-more, decode_all}

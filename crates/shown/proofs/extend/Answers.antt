@@ -1,6 +1,5 @@
 -- The flags from place 320 on: after `a` attributes those of the first `a` are written. The measure is the attributes left. Assumes nothing.
 use mathlib.Core.Path.{◌∙◌}
-use Prim.Native.Nat.{◌-◌}
 use Rattle.shown.proofs.HigherLaws.{extended_none, extended_more, extended-all}
 use Rattle.shown.proofs.extend.Goals as goal
 
