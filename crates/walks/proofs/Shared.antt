@@ -26,7 +26,7 @@ use denote.RattleType.{RattleType}
 use denote.Shadow.{pure_l, pure_i}
 use denote.Memory.{shares, part_of}
 use denote.Ref.{as_bor}
-use denote.Slice.{slice_val, MutSlice, ShrSlice, heres, Room, shr_slice_at, mut_slice_at, coded_holeys}
+use denote.Slice.{slice_val, MutSlice, ShrSlice, heres, Room, mut_slice_at, coded_holeys}
 use denote.Lend.{Held, lends_shr_slice}
 use denote.Shares.{Shares}
 use denote.Index.{opens_slice, closes_slice}
