@@ -22,7 +22,7 @@ returns-then-w-a c =
     c.args.v) _ c.loop-j.j
     (value_test c.args.t1 c.args.a
     c.args.v c.loop-j.j c.has.ensures c.if-w-a.true)
-    c.loop-j-test.taken)
+    c.loop-j-test.true)
 
 pub loop-j-preserved : goal.loop-j-preserved
 unfolding want_of
@@ -30,7 +30,7 @@ loop-j-preserved c =
     (
       omega arith,
       any_next (has_value c.args.t1 c.args.a
-          c.args.v) c.loop-j.j c.loop-j.inv.1
+          c.args.v) c.loop-j.j c.loop-j.invariant.1
           (value_test c.args.t1 c.args.a
           c.args.v c.loop-j.j c.has.ensures c.if-w-a.false),
     )

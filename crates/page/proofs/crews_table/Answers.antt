@@ -8,7 +8,11 @@ use Rattle.page.proofs.crews_table.Goals as goal
 pub settle_crews-requires : goal.settle_crews-requires
 settle_crews-requires c =
     let pre = c.requires in
-    (parts_of c.args.b pre.0.0 pre.1.0, ((refl, pre.1.1), (refl, refl)))
+    record {
+      crew_parts = parts_of c.args.b pre.0.0 pre.1.0;
+      rows_len = (refl, pre.1.1);
+      up_len = (refl, refl);
+    }
 
 pub returns : goal.returns
 unfolding contents_of

@@ -11,7 +11,7 @@ use Rattle.page.proofs.fill.Goals as goal
 pub moves_listed-n-requires : goal.moves_listed-n-requires
 moves_listed-n-requires c =
     (
-  book_good c.args.b c.requires.0.0.book
+  book_good c.args.b c.requires.leveled.0.book
       (simp length-map at c.well_formed.0.1.1.1.1.0.1.1.1.0.1.0.1),
   refl,
 )
@@ -26,10 +26,9 @@ fill_by-requires c =
     let sides = c.moves_listed-n.ensures in
     let pre = c.requires in
     let room = simp length-map at c.good.0.1.1.1.1.0.1.1.1.0.1.0.1 in
-    let good = book_good c.args.b pre.0.0.book room in (
-      pre.0,
-      (
-        (side_moves good room sides.crew_more sides.crew_less, record { dels = _; sides = side_moves good room sides.more sides.less }),
-        pre.1,
-      ),
-    )
+    let good = book_good c.args.b pre.0.0.book room in
+    record {
+      leveled = pre.0;
+      side_moves = (side_moves good room sides.crew_more sides.crew_less, record { dels = _; sides = side_moves good room sides.more sides.less });
+      out_len = pre.1;
+    }

@@ -17,7 +17,7 @@ few c = few_terms (reading c)
 
 fits : (c : After-wide-k) → c.wide-k.result < 448
 fits c =
-    term_fits (reading c) c.loop-j.j c.loop-j-test.taken c.wide-k.ensures
+    term_fits (reading c) c.loop-j.j c.loop-j-test.true c.wide-k.ensures
 
 pub loop-j-init : goal.loop-j-init
 loop-j-init c =
@@ -44,7 +44,7 @@ bounds-held-k c = omega (arith, fits (goal.at.bounds-held-k c).After-wide-k, c.r
 
 pub loop-j-preserved : goal.loop-j-preserved
 loop-j-preserved c =
-    (omega (arith, c.loop-j-test.taken), meeting_more (reading (goal.at.loop-j-preserved c).After-wide-n) c.loop-j.inv.1 c.loop-j-test.taken c.wide-k.ensures)
+    (omega (arith, c.loop-j-test.true), meeting_more (reading (goal.at.loop-j-preserved c).After-wide-n) c.loop-j.invariant.1 c.loop-j-test.true c.wide-k.ensures)
 
 pub returns : goal.returns
 returns c = meeting_all (reading (goal.at.returns c).After-wide-n) c.loop-j.invariant.1 (omega arith)

@@ -10,7 +10,7 @@ use Rattle.search.proofs.crew_level.Goals as goal
 
 pub do_listed_reach-below-requires : goal.do_listed_reach-below-requires
 do_listed_reach-below-requires c =
-    let pre = c.requires.0 in
+    let pre = c.requires.crews_given in
     (omega (arith, pre.1, crews_few pre.0.parts), pre.0.reach_size)
 
 pub crew_table-requires : goal.crew_table-requires

@@ -11,7 +11,7 @@ use Rattle.search.proofs.search.Goals as goal
 pub moves_listed-n-requires : goal.moves_listed-n-requires
 moves_listed-n-requires c =
     (
-  book_good c.args.b c.requires.0.book (simp length-map at c.well_formed.0.1.1.1.1.0.1.1.1.0.1.0.1),
+  book_good c.args.b c.requires.leveled.book (simp length-map at c.well_formed.0.1.1.1.1.0.1.1.1.0.1.0.1),
   refl,
 )
 
@@ -28,4 +28,7 @@ all_levels-requires c =
     let good = book_good c.args.b pre.0.book room in
     let crews = side_moves good room sides.crew_more sides.crew_less in
     let person = side_moves good room sides.more sides.less in
-    ((pre.0, (crews, person)), (pre.1.0, pre.1.1))
+    record {
+      leveled = (pre.0, (crews, person));
+      up_len = (pre.1.0, pre.1.1);
+    }
