@@ -31,27 +31,9 @@ back-at-requires c =
       deleted_len = c.requires.names_deleted;
     }
 
-pub shape_of-added : goal.shape_of-added
-shape_of-added c = c.added-1.given
-
-pub shape_of-deleted : goal.shape_of-deleted
-shape_of-deleted c = c.deleted-1.given
-
 pub shape_of-x : goal.shape_of-x
 shape_of-x c =
     c.close-n.ensures.whole.size ∙ sym c.requires.lengths.size_x
-
-pub shape_of-y : goal.shape_of-y
-shape_of-y c = c.y-2-1.given ∙ c.y-1.given
-
-pub shape_of-d : goal.shape_of-d
-shape_of-d c = c.d-1.given
-
-pub shape_of-up : goal.shape_of-up
-shape_of-up c = c.up-1.given
-
-pub shape_of-down : goal.shape_of-down
-shape_of-down c = c.down-1.given
 
 pub returns : goal.returns
 returns c =

@@ -32,14 +32,6 @@ lacks-requires c =
     let sizes = c.round-e.ensures.sizes in
     (omega (arith, sizes.size_x), omega (arith, sizes.size_y))
 
-pub shape_of-added-then-lacks-eq-LEVEL_SIZE : goal.shape_of-added-then-lacks-eq-LEVEL_SIZE
-shape_of-added-then-lacks-eq-LEVEL_SIZE c =
-    c.added-1.given ∙ c.loop-e.invariant.1.0 ∙ sym c.requires.names_added
-
-pub shape_of-deleted-then-lacks-eq-LEVEL_SIZE : goal.shape_of-deleted-then-lacks-eq-LEVEL_SIZE
-shape_of-deleted-then-lacks-eq-LEVEL_SIZE c =
-    c.deleted-1.given ∙ c.loop-e.invariant.1.1 ∙ sym c.requires.names_deleted
-
 pub shape_of-u-then-lacks-eq-LEVEL_SIZE : goal.shape_of-u-then-lacks-eq-LEVEL_SIZE
 shape_of-u-then-lacks-eq-LEVEL_SIZE c =
     c.loop-e.invariant.0.sizes.size_u ∙ sym c.requires.lengths.size_u
@@ -72,14 +64,6 @@ pub lacks-requires-in-loop-e : goal.lacks-requires-in-loop-e
 lacks-requires-in-loop-e c =
     let sizes = c.round-e.ensures.sizes in
     (omega (arith, sizes.size_s), omega (arith, sizes.size_y))
-
-pub shape_of-added-then-lacks-lt-LEVEL_SIZE : goal.shape_of-added-then-lacks-lt-LEVEL_SIZE
-shape_of-added-then-lacks-lt-LEVEL_SIZE c =
-    c.added-1.given ∙ c.loop-e.invariant.1.0 ∙ sym c.requires.names_added
-
-pub shape_of-deleted-then-lacks-lt-LEVEL_SIZE : goal.shape_of-deleted-then-lacks-lt-LEVEL_SIZE
-shape_of-deleted-then-lacks-lt-LEVEL_SIZE c =
-    c.deleted-1.given ∙ c.loop-e.invariant.1.1 ∙ sym c.requires.names_deleted
 
 pub shape_of-u-then-lacks-lt-LEVEL_SIZE : goal.shape_of-u-then-lacks-lt-LEVEL_SIZE
 shape_of-u-then-lacks-lt-LEVEL_SIZE c =
