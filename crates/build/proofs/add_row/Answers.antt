@@ -14,7 +14,7 @@ bounds-x-k c =
 
 pub bounds-x-k-in-loop-k : goal.bounds-x-k-in-loop-k
 bounds-x-k-in-loop-k c =
-    omega (arith, c.loop-k.inv.size)
+    omega (arith, c.loop-k.invariant.size)
 
 pub loop-k-preserved : goal.loop-k-preserved
 loop-k-preserved c =

@@ -29,8 +29,8 @@ extend-requires c = c.loop-f.invariant.whole.size
 
 pub shape_of-x : goal.shape_of-x
 shape_of-x c =
-    c.extend.ensures.size ∙ c.loop-f.inv.whole.size ∙ sym c.requires.0
+    c.extend.ensures.size ∙ c.loop-f.invariant.whole.size ∙ sym c.requires.0
 
 pub returns : goal.returns
 returns c =
-    build_all c.loop-f.inv c.loop-f-test.false c.extend.ensures
+    build_all c.loop-f.invariant c.loop-f-test.false c.extend.ensures

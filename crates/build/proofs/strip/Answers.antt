@@ -13,7 +13,7 @@ loop-k-init c =
 
 pub bounds-d-k : goal.bounds-d-k
 bounds-d-k c =
-    omega (arith, c.loop-k.inv.size)
+    omega (arith, c.loop-k.invariant.size)
 
 pub loop-k-preserved : goal.loop-k-preserved
 loop-k-preserved c =

@@ -31,19 +31,19 @@ pub returns-then-not-is_growing : goal.returns-then-not-is_growing
 returns-then-not-is_growing c =
     let rs = c.args.t1 in
     let other = sym c.is_growing.ensures ∙ not-true _ c.if-not-is_growing.true in
-    sym (c.loop-i.inv ∙ all_fail growing rs.rules rs.count (room (goal.at.returns-then-not-is_growing c).Start) _ _ c.loop-i-test.taken other)
+    sym (c.loop-i.invariant ∙ all_fail growing rs.rules rs.count (room (goal.at.returns-then-not-is_growing c).Start) _ _ c.loop-i-test.true other)
 
 pub overflow_add-i : goal.overflow_add-i
-overflow_add-i c = omega (arith, c.loop-i-test.taken, c.requires)
+overflow_add-i c = omega (arith, c.loop-i-test.true, c.requires)
 
 pub loop-i-smaller : goal.loop-i-smaller
-loop-i-smaller c = omega (arith, c.loop-i-test.taken)
+loop-i-smaller c = omega (arith, c.loop-i-test.true)
 
 pub loop-i-preserved : goal.loop-i-preserved
 loop-i-preserved c =
     let rs = c.args.t1 in
     let grows = sym c.is_growing.ensures ∙ not-false _ c.if-not-is_growing.false in
-    c.loop-i.inv ∙ all_pass growing rs.rules rs.count (room (goal.at.loop-i-preserved c).Start) _ _ c.loop-i-test.taken grows
+    c.loop-i.invariant ∙ all_pass growing rs.rules rs.count (room (goal.at.loop-i-preserved c).Start) _ _ c.loop-i-test.true grows
 
 pub returns : goal.returns
 returns c =

@@ -42,7 +42,7 @@ pub loop-j-preserved : goal.loop-j-preserved
 loop-j-preserved c =
     let r = c.args.t1 in
     let at = c.loop-j in
-    at.inv
+    at.invariant
     ∙ front_more unmarked r.terms r.n at.good at.j no_term (placed (goal.at.loop-j-preserved c).In-loop-j).0 (omega (arith, (placed (goal.at.loop-j-preserved c).In-loop-j).1, eight (goal.at.loop-j-preserved c).Start))
     ∙ ap (λ (u : Bool). (at.good && not u) && all unmarked (drop (at.j + 1) (take r.n r.terms))) (sym c.is_not.ensures)
 

@@ -46,7 +46,7 @@ returns-then-is_same_key c =
     let at = c.loop-i in
     let rs = c.args.t1 in
     let same = sym c.is_same_key.ensures ∙ c.if-is_same_key.true in
-    sym (at.inv.1.1 ∙ found rs.rules rs.count (fits_in (goal.at.returns-then-is_same_key c).Start) at.i at.j (both_in (goal.at.returns-then-is_same_key c).Then-j-rs).0 (both_in (goal.at.returns-then-is_same_key c).Then-j-rs).1.0 same)
+    sym (at.invariant.1.1 ∙ found rs.rules rs.count (fits_in (goal.at.returns-then-is_same_key c).Start) at.i at.j (both_in (goal.at.returns-then-is_same_key c).Then-j-rs).0 (both_in (goal.at.returns-then-is_same_key c).Then-j-rs).1.0 same)
 
 pub overflow_add-j : goal.overflow_add-j
 overflow_add-j c = omega (arith, both_in (goal.at.overflow_add-j c).Then-j-rs)
@@ -59,10 +59,10 @@ loop-i-preserved-then-j-rs c =
     let at = c.loop-i in
     let rs = c.args.t1 in
     let other = sym c.is_same_key.ensures ∙ c.if-is_same_key.false in (
-      omega (arith, at.inv.0),
+      omega (arith, at.invariant.0),
       (
         omega (arith, both_in (goal.at.loop-i-preserved-then-j-rs c).Then-j-rs),
-        at.inv.1.1 ∙ onward rs.rules rs.count (fits_in (goal.at.loop-i-preserved-then-j-rs c).Start) at.i at.j (both_in (goal.at.loop-i-preserved-then-j-rs c).Then-j-rs).0 (both_in (goal.at.loop-i-preserved-then-j-rs c).Then-j-rs).1.0 other,
+        at.invariant.1.1 ∙ onward rs.rules rs.count (fits_in (goal.at.loop-i-preserved-then-j-rs c).Start) at.i at.j (both_in (goal.at.loop-i-preserved-then-j-rs c).Then-j-rs).0 (both_in (goal.at.loop-i-preserved-then-j-rs c).Then-j-rs).1.0 other,
       ),
     )
 

@@ -13,7 +13,7 @@ extend_attribute-requires c =
 
 pub loop-a-preserved : goal.loop-a-preserved
 loop-a-preserved c =
-    extended_more c.loop-a.inv c.loop-a-test.taken c.extend_attribute.ensures
+    extended_more c.loop-a.invariant c.loop-a-test.true c.extend_attribute.ensures
 
 pub shape_of-x : goal.shape_of-x
 shape_of-x c = c.loop-a.invariant.size
