@@ -108,5 +108,5 @@ loop-e-preserved c =
     let inv = c.loop-e.invariant in (
       go_on inv.0 c.round-e.ensures c.lacks-in-loop-e.ensures c.if-lacks-lt-LEVEL_SIZE.false
           c.keep.ensures,
-      (c.added-1.given ∙ inv.1.0, c.deleted-1.given ∙ inv.1.1),
+      (omega (arith, inv.1.0), omega (arith, inv.1.1)),
     )

@@ -17,9 +17,6 @@ page_in-requires c =
     let accepted = c.enum_told-1.given.1 in
     (page_read_sound book result reads accepted, page_read_plain book result reads accepted)
 
-pub shape_of-out : goal.shape_of-out
-shape_of-out c = c.out-1.given
-
 pub returns : goal.returns
 returns c =
     promise_accepted c.args.book.now _ _ _

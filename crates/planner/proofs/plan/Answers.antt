@@ -14,9 +14,6 @@ plan_in-requires c =
     read_sound c.args.book.now c.read-reading.result c.read-reading.ensures
     c.enum_told-1.given.1
 
-pub shape_of-out : goal.shape_of-out
-shape_of-out c = c.out-1.given
-
 pub returns : goal.returns
 returns c =
     promise_accepted c.args.book.now _ _ _

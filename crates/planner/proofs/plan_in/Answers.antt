@@ -43,9 +43,6 @@ give-requires c =
       up_len = (omega arith, omega arith);
     }
 
-pub shape_of-out : goal.shape_of-out
-shape_of-out c = c.out-1.given
-
 pub returns : goal.returns
 unfolding contents_of
 returns c =

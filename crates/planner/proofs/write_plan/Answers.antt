@@ -20,9 +20,6 @@ copy_requests-requires-2 c =
 pub overflow_add-result : goal.overflow_add-result
 overflow_add-result c = omega (arith, c.requires.ups_le_depot_size.0)
 
-pub shape_of-out : goal.shape_of-out
-shape_of-out c = c.out-2-1.given ∙ c.out-1.given
-
 pub returns : goal.returns
 returns c =
     (

@@ -46,12 +46,6 @@ settle_crews-r-requires c =
       up_len = pre.1;
     }
 
-pub shape_of-up-then-not-r : goal.shape_of-up-then-not-r
-shape_of-up-then-not-r c = c.up-1.given
-
-pub shape_of-down-then-not-r : goal.shape_of-down-then-not-r
-shape_of-down-then-not-r c = c.down-1.given
-
 pub returns-then-not-r : goal.returns-then-not-r
 returns-then-not-r c =
     let scanned = scanned_of c.args.b c.requires.leveled.0 c.requires.leveled.1.0 c.settle_crews-r.ensures in
@@ -82,12 +76,6 @@ person_level-p-requires c =
       driving = serves_own pre.0.0 (scanned.settled (was_found _ c.if-not-r.false));
     }
 
-pub shape_of-up-then-not-p : goal.shape_of-up-then-not-p
-shape_of-up-then-not-p c = c.up-2-1.given ∙ c.up-1.given
-
-pub shape_of-down-then-not-p : goal.shape_of-down-then-not-p
-shape_of-down-then-not-p c = c.down-2-1.given ∙ c.down-1.given
-
 pub returns-then-not-p : goal.returns-then-not-p
 returns-then-not-p c =
     none_found (no_found _ c.if-not-p.true)
@@ -100,12 +88,6 @@ overflow_add-result c =
       (c.person_level-p.ensures.written
           (was_found _ c.if-not-p.false)).few_up,
     )
-
-pub shape_of-up : goal.shape_of-up
-shape_of-up c = c.up-2-1.given ∙ c.up-1.given
-
-pub shape_of-down : goal.shape_of-down
-shape_of-down c = c.down-2-1.given ∙ c.down-1.given
 
 pub returns : goal.returns
 returns c =

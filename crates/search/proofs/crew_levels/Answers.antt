@@ -46,36 +46,6 @@ loop-k-init c = (omega arith, c.requires.1)
 pub crew_level-r-requires : goal.crew_level-r-requires
 crew_level-r-requires c = ((c.requires.crews_given, c.loop-k-test.true), c.loop-k.invariant.1)
 
-pub shape_of-added-then-not-r : goal.shape_of-added-then-not-r
-shape_of-added-then-not-r c =
-    c.added-1.given ∙
-    (c.loop-k.invariant.1.0.0.room_added ∙ sym c.requires.names.0.room_added)
-
-pub shape_of-deleted-then-not-r : goal.shape_of-deleted-then-not-r
-shape_of-deleted-then-not-r c =
-    c.deleted-1.given ∙
-    (c.loop-k.invariant.1.0.0.room_deleted ∙ sym c.requires.names.0.room_deleted)
-
-pub shape_of-rows-then-not-r : goal.shape_of-rows-then-not-r
-shape_of-rows-then-not-r c =
-    c.rows-1.given ∙
-    ((settled_so_far (goal.at.shape_of-rows-then-not-r c).At-loop-k).rows_right.size ∙ sym (settled_at_first (goal.at.shape_of-rows-then-not-r c).Start).rows_right.size)
-
-pub shape_of-table-then-not-r : goal.shape_of-table-then-not-r
-shape_of-table-then-not-r c =
-    c.table-1.given ∙
-    (c.loop-k.invariant.1.0.1.size ∙ sym c.requires.names.1.size)
-
-pub shape_of-up-then-not-r : goal.shape_of-up-then-not-r
-shape_of-up-then-not-r c =
-    c.up-1.given ∙
-    ((settled_so_far (goal.at.shape_of-up-then-not-r c).At-loop-k).size_up ∙ sym (settled_at_first (goal.at.shape_of-up-then-not-r c).Start).size_up)
-
-pub shape_of-down-then-not-r : goal.shape_of-down-then-not-r
-shape_of-down-then-not-r c =
-    c.down-1.given ∙
-    ((settled_so_far (goal.at.shape_of-down-then-not-r c).At-loop-k).size_down ∙ sym (settled_at_first (goal.at.shape_of-down-then-not-r c).Start).size_down)
-
 pub returns-then-not-r : goal.returns-then-not-r
 returns-then-not-r c =
     record { each = λ g. stopped (c.crew_level-r.ensures.0.each g) (no_found _ c.if-not-r.true) }
