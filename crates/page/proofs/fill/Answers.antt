@@ -26,9 +26,9 @@ fill_by-requires c =
     let sides = c.moves_listed-n.ensures in
     let pre = c.requires in
     let room = simp length-map at c.good.0.1.1.1.1.0.1.1.1.0.1.0.1 in
-    let good = book_good c.args.b pre.0.0.book room in
+    let good = book_good c.args.b pre.leveled.0.book room in
     record {
-      leveled = pre.0;
+      leveled = pre.leveled;
       side_moves = (side_moves good room sides.crew_more sides.crew_less, record { dels = _; sides = side_moves good room sides.more sides.less });
-      out_len = pre.1;
+      out_len = pre.out_len;
     }

@@ -21,8 +21,8 @@ pub crews_table-requires : goal.crews_table-requires
 crews_table-requires c =
     let pre = c.requires in
     record {
-      leveled = pre.0;
-      side_moves = (pre.1.0.0, record { size = refl; blank = λ j h. get_or-replicate 5280 j false false (omega arith) });
+      leveled = pre.leveled;
+      side_moves = (pre.side_moves.0, record { size = refl; blank = λ j h. get_or-replicate 5280 j false false (omega arith) });
     }
 
 pub slice_bounds-settle-end : goal.slice_bounds-settle-end
@@ -37,7 +37,7 @@ pub settle-requires : goal.settle-requires
 unfolding contents_of
 settle-requires c =
     let pre = c.requires in (
-      (pre.0.0.book.sized.persons_most, pre.1.0.1.sides.sound_adds),
+      (pre.leveled.0.book.sized.persons_most, pre.side_moves.1.sides.sound_adds),
       (c.crews_table.ensures.made.size, record { size = refl; none = words_clear }),
     )
 
@@ -46,7 +46,7 @@ unfolding contents_of
 put_rows-requires c =
     let pre = c.requires in
     record {
-      persons_bound = (pre.0.0.book.sized.persons_most, c.settle.ensures.size);
+      persons_bound = (pre.leveled.0.book.sized.persons_most, c.settle.ensures.size);
       cleared = c.clear.ensures;
     }
 
@@ -54,4 +54,4 @@ pub returns : goal.returns
 unfolding contents_of
 returns c =
     let pre = c.requires in
-    persons_right c.args.b pre.0.0 pre.0.1 pre.1.0.1 c.crews_table.ensures c.settle.ensures c.put_rows.ensures
+    persons_right c.args.b pre.leveled.0 pre.leveled.1 pre.side_moves.1 c.crews_table.ensures c.settle.ensures c.put_rows.ensures

@@ -14,7 +14,7 @@ loop-f-init c = (omega arith, row-none _ _ _ c.requires.row_clear)
 pub put_value-requires : goal.put_value-requires
 put_value-requires c =
     let pre = c.requires in
-    ((pre.0.0, c.loop-f-test.true), pre.0.1)
+    ((pre.p_bound.0, c.loop-f-test.true), pre.p_bound.1)
 
 pub loop-f-preserved : goal.loop-f-preserved
 loop-f-preserved c =

@@ -13,7 +13,7 @@ pub put_row-requires : goal.put_row-requires
 put_row-requires c =
     let pre = c.requires in
     record {
-      p_bound = (omega (arith, c.loop-p-test.true, pre.0.0), pre.0.1);
+      p_bound = (omega (arith, c.loop-p-test.true, pre.persons_bound.0), pre.persons_bound.1);
       row_clear = next_clear c.loop-p.invariant.1;
     }
 

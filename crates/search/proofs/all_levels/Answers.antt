@@ -41,9 +41,9 @@ pub settle_crews-r-requires : goal.settle_crews-r-requires
 settle_crews-r-requires c =
     let pre = c.requires in
     record {
-      crew_parts = parts_of c.args.b pre.0.0 pre.0.1.0;
+      crew_parts = parts_of c.args.b pre.leveled.0 pre.leveled.1.0;
       rows_len = (refl, record { size = refl; blank = λ j h. get_or-replicate 5280 j false false (omega arith) });
-      up_len = pre.1;
+      up_len = pre.up_len;
     }
 
 pub returns-then-not-r : goal.returns-then-not-r
@@ -65,15 +65,15 @@ slice_bounds-person_level-end-3 c = sym c.table-2-1.given
 pub person_level-p-requires : goal.person_level-p-requires
 person_level-p-requires c =
     let pre = c.requires in
-    let scanned = scanned_of c.args.b pre.0.0 pre.0.1.0 c.settle_crews-r.ensures in
+    let scanned = scanned_of c.args.b pre.leveled.0 pre.leveled.1.0 c.settle_crews-r.ensures in
     record {
       person_given = record {
-        accepted = pre.0.0;
-        moves = pre.0.1.1;
+        accepted = pre.leveled.0;
+        moves = pre.leveled.1.1;
         rows = c.table-2-1.given;
         same_facts = refl;
       };
-      driving = serves_own pre.0.0 (scanned.settled (was_found _ c.if-not-r.false));
+      driving = serves_own pre.leveled.0 (scanned.settled (was_found _ c.if-not-r.false));
     }
 
 pub returns-then-not-p : goal.returns-then-not-p

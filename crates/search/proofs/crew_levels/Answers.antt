@@ -41,10 +41,15 @@ settled_so_far : (c : At-loop-k) → Driving (contents_of c.requires.crews_given
 settled_so_far c = own_drive c.requires.crews_given.parts c.loop-k.invariant.1.1
 
 pub loop-k-init : goal.loop-k-init
-loop-k-init c = (omega arith, c.requires.1)
+loop-k-init c = (omega arith, (c.requires.names, c.requires.serves_of))
 
 pub crew_level-r-requires : goal.crew_level-r-requires
-crew_level-r-requires c = ((c.requires.crews_given, c.loop-k-test.true), c.loop-k.invariant.1)
+crew_level-r-requires c =
+    record {
+      crews_given = (c.requires.crews_given, c.loop-k-test.true);
+      names = c.loop-k.invariant.1.0;
+      serves_of = c.loop-k.invariant.1.1;
+    }
 
 pub returns-then-not-r : goal.returns-then-not-r
 returns-then-not-r c =

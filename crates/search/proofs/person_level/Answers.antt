@@ -26,8 +26,8 @@ pub settle_level-requires : goal.settle_level-requires
 unfolding contents_of
 settle_level-requires c =
     let pre = c.requires in
-    let given = pre.0 in
-    let drive = pre.1 in
+    let given = pre.person_given in
+    let drive = pre.driving in
     let low = given.accepted.book.sized.crews_most in
     record {
       wants = small_wants given.accepted.book;

@@ -25,10 +25,10 @@ all_levels-requires c =
     let sides = c.moves_listed-n.ensures in
     let pre = c.requires in
     let room = simp length-map at c.good.0.1.1.1.1.0.1.1.1.0.1.0.1 in
-    let good = book_good c.args.b pre.0.book room in
+    let good = book_good c.args.b pre.leveled.book room in
     let crews = side_moves good room sides.crew_more sides.crew_less in
     let person = side_moves good room sides.more sides.less in
     record {
-      leveled = (pre.0, (crews, person));
-      up_len = (pre.1.0, pre.1.1);
+      leveled = (pre.leveled, (crews, person));
+      up_len = (pre.up_len.0, pre.up_len.1);
     }

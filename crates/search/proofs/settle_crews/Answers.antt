@@ -27,9 +27,9 @@ crew_levels-requires c =
     let pre = c.requires in
     let reached = c.fill_reach.ensures in
     record {
-      crews_given = record { parts = pre.0; reach_size = reached.0; reaching = reached.1 };
-      names = (record { room_added = refl; room_deleted = refl }, pre.1.0.1);
-      serves_of = parts_first c.first_rows.ensures pre.1.1.0 pre.1.1.1;
+      crews_given = record { parts = pre.crew_parts; reach_size = reached.0; reaching = reached.1 };
+      names = (record { room_added = refl; room_deleted = refl }, pre.rows_len.1);
+      serves_of = parts_first c.first_rows.ensures pre.up_len.0 pre.up_len.1;
     }
 
 pub returns : goal.returns
