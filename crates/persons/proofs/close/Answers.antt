@@ -81,7 +81,7 @@ next-i-requires-else-who-eq0 c = listed (goal.at.next-i-requires-else-who-eq0 c)
 pub loop-quiet-smaller : goal.loop-quiet-smaller
 loop-quiet-smaller c =
     fired_less (moves_in c.args.adds.now).count c.loop-quiet.quiet 160 160
-    (fewer-left c.requires.0 c.loop-quiet.invariant.0 (listed (goal.at.loop-quiet-smaller c).After-fires-who) c.fires-who.ensures (read_fact (goal.at.loop-quiet-smaller c).After-put_whole) c.put_whole.ensures c.fits.all.fits
+    (fewer-left c.requires.0 c.loop-quiet.invariant.0 (listed (goal.at.loop-quiet-smaller c).After-fires-who) c.fires-who.ensures (read_fact (goal.at.loop-quiet-smaller c).After-put_whole) c.put_whole.ensures c.ranges.all.fits
     c.if-who-eq0.false)
 
 pub loop-quiet-preserved : goal.loop-quiet-preserved
@@ -96,4 +96,4 @@ shape_of-held c = c.loop-quiet.invariant.0.size ∙ sym c.requires.1.size
 
 pub returns : goal.returns
 returns c =
-    growing_ended c.requires.0 c.loop-quiet.invariant.0 c.fits.all.fits (sweeping_ended c.loop-quiet.invariant.1 c.loop-quiet-test.false)
+    growing_ended c.requires.0 c.loop-quiet.invariant.0 c.ranges.all.fits (sweeping_ended c.loop-quiet.invariant.1 c.loop-quiet-test.false)

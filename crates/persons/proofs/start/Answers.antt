@@ -34,7 +34,7 @@ loop-p-preserved c =
         (
           c.s-in-loop-p-1.given,
           begun_more c.loop-p.invariant.1.1.1 (few (goal.at.loop-p-preserved c).After-build)
-              (record { blank = _; first = _; started = c.start_flags.ensures; c = c.build.ensures })
+              (record { blank = _; first = _; started = c.start_flags.ensures; built = c.build.ensures })
               c.put_column.ensures,
         ),
       ),
