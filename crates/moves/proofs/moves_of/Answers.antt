@@ -2,13 +2,10 @@
 -- Assumes nothing.
 use mathlib.Core.Path.{◌≡◌, sym, ◌∙◌, subst}
 use mathlib.Core.Bool.{true}
-use native.Mathlib.Omega.{arith}
-use Prim.Native.Nat.{◌≤◌, ◌<◌}
-use lib.ListN.{length}
 use Rattle.frames.specs.declared.Rule.{Rule}
 use Rattle.level.specs.Inner.Terms.{GoodRule}
-use Rattle.level.specs.Inner.Chosen.{chosen_in, rule_at, GoodRules}
-use Rattle.moves.specs.Inner.Listed.{of_list, RoomFrom, Taken, Gathered}
+use Rattle.level.specs.Inner.Chosen.{chosen_in, rule_at}
+use Rattle.moves.specs.Inner.Listed.{Taken}
 use Rattle.moves.proofs.ListedLaws.{gathered_none, gathered_next, gathered_room, rule_same}
 use Rattle.moves.proofs.moves_of.Goals as goal
 
