@@ -8,7 +8,7 @@
 use mathlib.Core.Path.{◌≡◌, refl, sym, subst}
 use Prim.Native.Nat.{ℕ, ◌<◌, ◌≤◌, ◌^◌}
 use mathlib.Core.List.{List, [], ◌∷◌}
-use lib.Dec.{lit<}
+use lib.Dec.{T as Holds, lit<}
 use lib.ListN.{length, take}
 use lib.Seq.{length-take-le}
 use seplogic.Ra.Ura.{Ura}

@@ -25,7 +25,6 @@ use denote.RattleType.{RowLaws}
 use denote.Plain.{uint_row_laws}
 use denote.Array.{Array-row_laws}
 use denote.Struct.Struct.{Struct-row_laws}
-use denote.Struct.Declared.{shape}
 use borrow.Table.Copies.{parts_laws}
 use denote.Slice.{slice_val, ShrSlice, shr_slice_copy}
 use denote.Steps.{owned, nothing}
@@ -33,7 +32,6 @@ use denote.Triple.Statement.{Contract}
 use denote.Triple.Spec.{triple_of}
 use denote.Triple.Walked.{says}
 use Rattle.frames.specs.declared.Rule.{Rule}
-use Rattle.facts.specs.contracts.Role as Role
 use Rattle.frames.specs.contracts.Term as Term
 use Rattle.frames.specs.contracts.Rule as T
 use Rattle.rule_list.specs.contracts.rule_at as rule_at_lem
@@ -44,7 +42,7 @@ rule_laws =
     parts_laws T.the_type (
       uint_row_laws w8,
       (
-        Struct-row_laws (shape Role.the_type) (uint_row_laws w8, tt),
+        search (uint_row_laws, Struct-row_laws),
         (
           uint_row_laws w8,
           (
