@@ -18,7 +18,7 @@ put_byte-end-requires c =
 
 pub loop-k-preserved : goal.loop-k-preserved
 loop-k-preserved c =
-    digits_more c.loop-k.inv c.loop-k-test.taken c.put_byte-end.ensures
+    digits_more c.loop-k.invariant c.loop-k-test.true c.put_byte-end.ensures
 
 pub shape_of-text : goal.shape_of-text
 shape_of-text c = c.loop-k.invariant.written.size

@@ -37,12 +37,12 @@ put_line-end-requires c =
     )
 
 pub loop-from-smaller : goal.loop-from-smaller
-loop-from-smaller c = omega (arith, c.loop-from-test.taken)
+loop-from-smaller c = omega (arith, c.loop-from-test.true)
 
 pub loop-from-preserved : goal.loop-from-preserved
 loop-from-preserved c =
     let at-loop = c.loop-from in
-    list_more at-loop.inv (at-loop.from + 5 - at-loop.from) (omega (arith, c.loop-from-test.taken)) (omega arith)
+    list_more at-loop.invariant (at-loop.from + 5 - at-loop.from) (omega (arith, c.loop-from-test.true)) (omega arith)
     c.put_line-end.ensures
 
 pub shape_of-text : goal.shape_of-text

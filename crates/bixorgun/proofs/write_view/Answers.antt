@@ -22,8 +22,8 @@ put_two-requires c =
 pub loop-i-preserved : goal.loop-i-preserved
 loop-i-preserved c =
     let eight = c.good.0.1.0.1 in
-    let written = c.loop-i.inv in
-    sets_more eight c.requires written c.loop-i-test.taken c.put_two.ensures
+    let written = c.loop-i.invariant in
+    sets_more eight c.requires written c.loop-i-test.true c.put_two.ensures
 
 pub put_two-requires-2 : goal.put_two-requires-2
 put_two-requires-2 c =

@@ -1,14 +1,12 @@
 -- `denials::first_unmet` meets its contract: the invariant says that nothing is kept and the terms before j hold, or that the first that does
 -- not is kept; the measure is how far j is before what is kept. Assumes nothing.
 use mathlib.Core.Path.{sym, ◌∙◌, subst}
-use mathlib.Core.Logic.{⊎_elim}
 use Prim.Native.Nat.{◌-◌, ◌<◌}
 use native.Mathlib.Omega.{arith}
-use borrow.Author.Tests.{not-true, not-false}
 use Rattle.facts.specs.Facts.{holds}
 use Rattle.denials.proofs.DenialLaws.{SeeksUnmet, terms-start, terms-end, term-inside, term-met, term-unmet}
 use Rattle.denials.proofs.first_unmet.Goals as goal
-use Rattle.denials.proofs.first_unmet.Goals.{In-loop-j}
+use Rattle.denials.proofs.first_unmet.Goals.{In-loop-j, then-not-meets_term, else-not-meets_term}
 
 -- The term of a turn is one of the rule's.
 inside : (c : In-loop-j) → c.loop-j.j < c.args.r.n
@@ -30,24 +28,24 @@ overflow_add-j c = record { fits = omega (arith, inside (goal.at.overflow_add-j 
 
 pub loop-j-smaller : goal.loop-j-smaller
 loop-j-smaller c =
-    ⊎_elim
-    (λ w. omega (arith, c.loop-j-test.true, w.1))
-    (λ w. omega (arith, c.loop-j-test.true, w.1))
-    c.if-not-meets_term.branch
+    elim c.if-not-meets_term.branch [
+      then-not-meets_term w ↦ omega (arith, w.found-is)
+    | else-not-meets_term w ↦ omega (arith, w.found-is)
+    ]
 
 pub loop-j-preserved : goal.loop-j-preserved
 loop-j-preserved c =
     let at = c.args in
     let S = holds at.ledger.now in
     let term = c.meets_term.ensures in
-    ⊎_elim
-    (λ w.
-    rw w.1 (term-unmet at.juniors.now S at.q at.r c.requires.0 c.loop-j.j c.loop-j.found
-    c.loop-j.invariant c.loop-j-test.true (sym term ∙ not-true _ w.0.taken)))
-    (λ w.
-    rw w.1 (term-met at.juniors.now S at.q at.r c.requires.0 c.loop-j.j c.loop-j.found
-    c.loop-j.invariant c.loop-j-test.true (sym term ∙ not-false _ w.0.left)))
-    c.if-not-meets_term.branch
+    elim c.if-not-meets_term.branch [
+      then-not-meets_term w ↦
+        rw w.found-is (term-unmet at.juniors.now S at.q at.r c.requires.0 c.loop-j.j c.loop-j.found
+        c.loop-j.invariant c.loop-j-test.true (sym term ∙ w.if-not-meets_term.true))
+    | else-not-meets_term w ↦
+        rw w.found-is (term-met at.juniors.now S at.q at.r c.requires.0 c.loop-j.j c.loop-j.found
+        c.loop-j.invariant c.loop-j-test.true (sym term ∙ w.if-not-meets_term.false))
+    ]
 
 pub returns : goal.returns
 returns c =

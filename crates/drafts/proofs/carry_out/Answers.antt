@@ -20,10 +20,10 @@ loop-i-preserved c =
     let from = c.args.from in
     let taken = 5 * (from + i) + 5 - 5 * (from + i) in
     let five : taken ≡ 5 = omega arith in (
-      omega (arith, c.loop-i-test.taken),
+      omega (arith, c.loop-i-test.true),
       carry_more c.args.ledger.now c.loop-i.ledger _ c.args.draft.now from i taken _ _
-          (omega (arith, c.loop-i-test.taken, c.requires)) five c.request_of-request.ensures
-          c.is_adding-on.ensures c.put_fact.ensures c.loop-i.inv.1,
+          (omega (arith, c.loop-i-test.true, c.requires)) five c.request_of-request.ensures
+          c.is_adding-on.ensures c.put_fact.ensures c.loop-i.invariant.1,
     )
 
 pub shape_of-ledger : goal.shape_of-ledger

@@ -21,7 +21,7 @@ unfolding want_of
 loop-j-preserved c =
     (
       omega arith,
-      banned_more c.args.t1 c.loop-j.j c.loop-j.inv.1
+      banned_more c.args.q c.loop-j.j c.loop-j.invariant.1
           c.add_want.ensures,
     )
 
@@ -30,7 +30,7 @@ shape_of-bad c = c.loop-j.invariant.1.size
 
 pub returns : goal.returns
 returns c =
-    let last : c.loop-j.j ≡ c.args.t1.q = omega (
+    let last : c.loop-j.j ≡ c.args.q.q = omega (
       arith,
       c.loop-j.invariant.0,
       c.loop-j-test.false,

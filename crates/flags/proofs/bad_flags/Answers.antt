@@ -1,7 +1,6 @@
 -- `flags::bad_flags` meets its contract: mode 01, the person, a crew that is not below a listed one, a crew that is. Assumes nothing.
 use mathlib.Core.Path.{◌∙◌}
 use native.Mathlib.Omega.{arith}
-use borrow.Author.Tests.{not-true, not-false}
 use Rattle.flags.proofs.BadLaws.{bad-none, bad_apart, bad_crew, bad_person}
 use Rattle.flags.proofs.bad_flags.Goals as goal
 
@@ -40,7 +39,7 @@ pub returns-then-k-crews : goal.returns-then-k-crews
 returns-then-k-crews c =
     bad_person c.args.q c.args.crews c.args.k c.args.below
     c.clear_flags.ensures c.if-q-eq1.false
-    c.if-k-crews.taken c.add_banned.ensures c.add_lacking.ensures
+    c.if-k-crews.true c.add_banned.ensures c.add_lacking.ensures
 
 pub shape_of-bad-then-not-below : goal.shape_of-bad-then-not-below
 shape_of-bad-then-not-below c = c.clear_flags.ensures.size
@@ -48,7 +47,7 @@ shape_of-bad-then-not-below c = c.clear_flags.ensures.size
 pub returns-then-not-below : goal.returns-then-not-below
 returns-then-not-below c =
     bad_apart c.args.q c.args.crews c.args.k c.args.below
-    c.clear_flags.ensures c.if-k-crews.false (not-true c.args.below c.if-not-below.true)
+    c.clear_flags.ensures c.if-k-crews.false c.if-not-below.true
 
 pub add_banned-requires-2 : goal.add_banned-requires-2
 add_banned-requires-2 c =
@@ -61,4 +60,4 @@ pub returns : goal.returns
 returns c =
     bad_crew c.args.q c.args.crews c.args.k c.args.below
     c.clear_flags.ensures c.if-q-eq1.false c.if-k-crews.false
-    (not-false c.args.below c.if-not-below.false) c.add_banned-2.ensures
+    c.if-not-below.false c.add_banned-2.ensures

@@ -20,7 +20,7 @@ add_last-requires c =
       omega (arith, c.loop-j-test.true, c.requires.0),
       (
         c.requires.1.1.0,
-        c.loop-j.inv.1.size ∙ c.clear_flags.ensures.size ∙ c.requires.1.1.1,
+        c.loop-j.invariant.1.size ∙ c.clear_flags.ensures.size ∙ c.requires.1.1.1,
       ),
     )
 
@@ -28,9 +28,9 @@ pub loop-j-preserved-then-has : goal.loop-j-preserved-then-has
 loop-j-preserved-then-has c =
     let start = c.args in
     let j = c.loop-j.j in
-    let is_junior_lem = junior_member start.juniors.now start.k j ∙ sym c.has.ensures ∙ c.if-has.taken in (
+    let is_junior_lem = junior_member start.juniors.now start.k j ∙ sym c.has.ensures ∙ c.if-has.true in (
       omega arith,
-      juniors_add start.juniors.now start.k start.rows.now j is_junior_lem c.loop-j.inv.1
+      juniors_add start.juniors.now start.k start.rows.now j is_junior_lem c.loop-j.invariant.1
           c.add_last.ensures,
     )
 

@@ -22,7 +22,7 @@ loop-d-preserved c =
     let start = c.args in (
       omega arith,
       any_next (listed_reaches start.listed start.rows.now start.c) c.loop-d.d
-          c.loop-d.inv.1 (rw (← c.has-named.ensures) c.if-named-reached.false),
+          c.loop-d.invariant.1 (rw (← c.has-named.ensures) c.if-named-reached.false),
     )
 
 pub returns : goal.returns

@@ -25,7 +25,7 @@ loop-m-preserved c =
     (
       omega arith,
       set_more c.args.facts.now c.args.place c.args.at c.loop-m.m
-          c.args.w c.loop-m-test.taken c.loop-m.inv.1
+          c.args.w c.loop-m-test.true c.loop-m.invariant.1
           (rw c.byte_at-byte.ensures at c.write_bits.ensures),
     )
 

@@ -28,7 +28,7 @@ loop-a-preserved c =
     (
       omega arith,
       values_more c.args.facts.now c.args.place
-          c.loop-a.a c.loop-a.inv.1 c.write_set.ensures,
+          c.loop-a.a c.loop-a.invariant.1 c.write_set.ensures,
     )
 
 pub shape_of-s : goal.shape_of-s

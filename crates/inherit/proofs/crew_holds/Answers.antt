@@ -8,7 +8,7 @@ use Rattle.inherit.proofs.crew_holds.Goals as goal
 
 pub crew_tried-f-requires : goal.crew_tried-f-requires
 crew_tried-f-requires c =
-    (c.requires, tried_none c.args.juniors.now (sought (holds c.args.ledger.now) (Value c.args.a c.args.v)))
+    record { c_bound = c.requires; tried = tried_none c.args.juniors.now (sought (holds c.args.ledger.now) (Value c.args.a c.args.v)) }
 
 pub returns : goal.returns
 unfolding crew_holds sought

@@ -14,14 +14,14 @@ asked start w = sought (holds start.args.ledger.now) w start.args.c
 
 pub returns-in-Value : goal.returns-in-Value
 unfolding sought
-returns-in-Value c = c.fact_holds.ensures ∙ sym (ap (asked (goal.at.returns-in-Value c).Start) c.w-1.given.1)
+returns-in-Value c = c.fact_holds.ensures ∙ sym (ap (asked (goal.at.returns-in-Value c).Start) c.in-Value.is)
 
 pub returns-in-AtLeast : goal.returns-in-AtLeast
 unfolding sought
 returns-in-AtLeast c =
     let at = c.args in
-    c.holds_from.ensures ∙ crew_from at.ledger.now _ _ _ ∙ sym (ap (asked (goal.at.returns-in-AtLeast c).Start) c.w-in-AtLeast-1.given.1)
+    c.holds_from.ensures ∙ crew_from at.ledger.now _ _ _ ∙ sym (ap (asked (goal.at.returns-in-AtLeast c).Start) c.in-AtLeast.is)
 
 pub returns-in-Named : goal.returns-in-Named
 unfolding sought
-returns-in-Named c = sym (ap (asked (goal.at.returns-in-Named c).Start) c.w-in-Named-1.given.1)
+returns-in-Named c = sym (ap (asked (goal.at.returns-in-Named c).Start) c.in-Named.is)

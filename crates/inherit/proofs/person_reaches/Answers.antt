@@ -1,10 +1,7 @@
 -- `inherit::person_reaches` meets its contract. The loop's invariant: no crew below `d` that the person is directly in passes downwards,
 -- and the crews of `seen` were tried. The measure is the crews left. Assumes nothing.
-use Prim.Native.Nat.{◌-◌}
-use native.Mathlib.Omega.{arith}
-use mathlib.Core.Path.{◌≡◌, ap, sym, ◌∙◌}
-use mathlib.Core.Bool.{true, false, and-false}
-use mathlib.Core.Logic.{⊎_elim}
+use Rattle.std.proofs.Common.{arith, ◌≡◌, ap, sym, ◌∙◌, true, false}
+use mathlib.Core.Bool.{and-false}
 use Rattle.facts.specs.Facts.{holds}
 use Rattle.facts.specs.declared.Fact.TheVariants.{Member}
 use Rattle.inherit.specs.Inheritance.{downward}
@@ -13,6 +10,7 @@ use Rattle.inherit.specs.Inner.Search.{sought}
 use Rattle.inherit.proofs.InheritanceLaws.{tried_none}
 use Rattle.quantifiers.proofs.BelowLaws.{any-zero, any_next, any_from_lem}
 use Rattle.inherit.proofs.person_reaches.Goals as goal
+use Rattle.inherit.proofs.person_reaches.Goals.{then-fact_holds+else-f, else-fact_holds}
 use Rattle.inherit.proofs.person_reaches.Invariants.{enters}
 
 pub loop-d-init : goal.loop-d-init
@@ -20,9 +18,6 @@ loop-d-init c =
     let at = c.args in
     let P = sought (holds at.ledger.now) at.w in
     (omega arith, (any-zero (enters at.ledger.now at.juniors.now at.p at.w), tried_none at.juniors.now P))
-
-pub crew_tried-f-requires : goal.crew_tried-f-requires
-crew_tried-f-requires c = (omega arith, c.loop-d.invariant.1.1)
 
 pub returns-then-f : goal.returns-then-f
 returns-then-f c =
@@ -43,15 +38,14 @@ loop-d-preserved c =
     let through = enters at.ledger.now at.juniors.now at.p at.w in
     let turn = c.loop-d in
     let is-in = S (Member at.p (record { 0 = turn.d })) in
-    let more = c.loop-d-test.true in
-    ⊎_elim
-    (λ w.
-    let below : downward at.juniors.now P turn.d ≡ false = sym w.1.ensures.0 ∙ w.2.left in
-    (omega (arith, more), (any_next through turn.d turn.invariant.1.0 (rw below (and-false is-in)), rw w.3 w.1.ensures.1)))
-    (λ w.
-    let direct : is-in ≡ false = sym c.fact_holds.ensures ∙ w.0.left in
-    (omega (arith, more), (any_next through turn.d turn.invariant.1.0 (rw direct), rw w.1 turn.invariant.1.1)))
-    c.if-fact_holds.branch
+    elim c.if-fact_holds.branch [
+      then-fact_holds+else-f w ↦
+        let below : downward at.juniors.now P turn.d ≡ false = sym w.crew_tried-f.ensures.0 ∙ w.if-f.false in
+        (omega arith, (any_next through turn.d turn.invariant.1.0 (rw below (and-false is-in)), rw w.seen-is w.crew_tried-f.ensures.1))
+    | else-fact_holds w ↦
+        let direct : is-in ≡ false = sym c.fact_holds.ensures ∙ w.if-fact_holds.false in
+        (omega arith, (any_next through turn.d turn.invariant.1.0 (rw direct), rw w.seen-is turn.invariant.1.1))
+    ]
 
 pub returns : goal.returns
 returns c =

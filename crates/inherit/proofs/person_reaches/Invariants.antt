@@ -13,8 +13,8 @@ use Rattle.inherit.specs.Inner.Search.{sought, Tried}
 use Rattle.inherit.specs.declared.Sought.{Sought}
 use Rattle.inherit.proofs.person_reaches.Given as goal
 
-pub -- The person is directly in crew d, and d passes downwards.
-abbrev enters : List ℕ → List ℕ → Person → Sought → ℕ → Bool
+-- The person is directly in crew d, and d passes downwards.
+abbrev pub enters : List ℕ → List ℕ → Person → Sought → ℕ → Bool
 enters ledger juniors p w d = holds ledger (Member p (record { 0 = d })) && downward juniors (sought (holds ledger) w) d
 
 abbrev pub invariant-loop-d : goal.invariant-loop-d

@@ -16,7 +16,7 @@ pub loop-i-preserved : goal.loop-i-preserved
 loop-i-preserved c =
     let turn = c.loop-i in
     let long = turn.invariant.1.0 in
-    let eq = copied_more 0 turn.ledger c.args.t1 turn.i (omega (arith, long)) (omega (arith, c.well_formed.0.1.0.1))
+    let eq = copied_more 0 turn.ledger c.args.facts turn.i (omega (arith, long)) (omega arith)
     turn.invariant.1.1 in
     (omega arith, (simp length-set long, eq))
 
@@ -26,5 +26,5 @@ shape_of-ledger c = c.loop-i.invariant.1.0 ∙ sym c.requires
 pub returns : goal.returns
 returns c =
     let turn = c.loop-i in
-    copied_all turn.ledger c.args.t1 turn.i (omega (arith, turn.invariant.1.0, c.loop-i-test.false))
-    (omega (arith, c.well_formed.0.1.0.1, c.loop-i-test.false)) turn.invariant.1.1
+    copied_all turn.ledger c.args.facts turn.i (omega (arith, turn.invariant.1.0, c.loop-i-test.false))
+    (omega (arith, c.loop-i-test.false)) turn.invariant.1.1

@@ -13,7 +13,7 @@ pub first_listed-requires : goal.first_listed-requires
 unfolding contents_of
 first_listed-requires c =
     let book = c.requires in
-    ((book.rules_few, book.rules_short), book.edge_room)
+    record { count_bound = (book.rules_few, book.rules_short); juniors_len = book.edge_room }
 
 pub returns : goal.returns
 unfolding allowed permitted contents_of

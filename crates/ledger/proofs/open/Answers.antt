@@ -7,10 +7,10 @@ pub returns-in-Refused : goal.returns-in-Refused
 unfolding open_reply
 returns-in-Refused c =
     rw (read_refused c.args.book.now c.read-reading.result
-    c.read-reading.ensures c.outcome-1.given.0.0 c.outcome-1.given.1)
+    c.read-reading.ensures c.in-Refused.r c.in-Refused.is)
 
 pub returns : goal.returns
 unfolding open_reply
 returns c =
     rw (read_accepted c.args.book.now c.read-reading.result c.read-reading.ensures
-    c.enum_told-1.given.1) c.open_in.ensures
+    c.in_default.is) c.open_in.ensures

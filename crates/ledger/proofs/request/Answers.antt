@@ -7,15 +7,15 @@ pub returns-in-Refused : goal.returns-in-Refused
 unfolding request_reply
 returns-in-Refused c =
     rw (read_refused c.args.book.now c.read-reading.result
-    c.read-reading.ensures c.outcome-1.given.0.0 c.outcome-1.given.1)
+    c.read-reading.ensures c.in-Refused.r c.in-Refused.is)
 
 pub request_in-requires : goal.request_in-requires
 request_in-requires c =
     read_sound c.args.book.now c.read-reading.result c.read-reading.ensures
-    c.enum_told-1.given.1
+    c.in_default.is
 
 pub returns : goal.returns
 unfolding request_reply
 returns c =
     rw (read_accepted c.args.book.now c.read-reading.result c.read-reading.ensures
-    c.enum_told-1.given.1) c.request_in.ensures
+    c.in_default.is) c.request_in.ensures

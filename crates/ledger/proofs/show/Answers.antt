@@ -8,15 +8,15 @@ pub returns-in-Refused : goal.returns-in-Refused
 unfolding show_view
 returns-in-Refused c =
     c.not_shown.ensures ∙ sym (rw (read_refused c.args.book.now c.read-reading.result
-    c.read-reading.ensures c.outcome-1.given.0.0 c.outcome-1.given.1) refl)
+    c.read-reading.ensures c.in-Refused.r c.in-Refused.is) refl)
 
 pub show_in-requires : goal.show_in-requires
 show_in-requires c =
     read_sound c.args.book.now c.read-reading.result c.read-reading.ensures
-    c.enum_told-1.given.1
+    c.in_default.is
 
 pub returns : goal.returns
 unfolding show_view
 returns c =
     rw (read_accepted c.args.book.now c.read-reading.result c.read-reading.ensures
-    c.enum_told-1.given.1) c.show_in.ensures
+    c.in_default.is) c.show_in.ensures

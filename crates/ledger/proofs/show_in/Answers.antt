@@ -1,19 +1,19 @@
 -- `ledger::show_in` meets its contract: 11, then 12, else the effective sets and crews. Assumes nothing.
 use mathlib.Core.Path.{refl, sym, ◌∙◌}
-use borrow.Author.Tests.{not-true, not-false, le-ltb, lt-ltb}
+use borrow.Author.Tests.{le-ltb, lt-ltb}
 use Rattle.frames.specs.Book.{contents_of}
 use Rattle.ledger.specs.Show.{show_in, crew_set, view_of}
 use Rattle.ledger.proofs.show_in.Goals as goal
 
 pub returns-then-not-is_suitable : goal.returns-then-not-is_suitable
 unfolding show_in contents_of
-returns-then-not-is_suitable c = c.not_shown.ensures ∙ sym (rw (sym c.is_suitable.ensures ∙ not-true _ c.if-not-is_suitable.true) refl)
+returns-then-not-is_suitable c = c.not_shown.ensures ∙ sym (rw (sym c.is_suitable.ensures ∙ c.if-not-is_suitable.true) refl)
 
 pub returns-then-z-p : goal.returns-then-z-p
 unfolding show_in contents_of
 returns-then-z-p c =
     c.not_shown-then-z-p.ensures ∙ sym (rw (
-      sym c.is_suitable.ensures ∙ not-false _ c.if-not-is_suitable.false,
+      sym c.is_suitable.ensures ∙ c.if-not-is_suitable.false,
       le-ltb _ _ c.if-z-p.true,
     ) refl)
 
@@ -30,7 +30,7 @@ pub returns : goal.returns
 unfolding show_in contents_of crew_set view_of
 returns c =
     rw (
-      sym c.is_suitable.ensures ∙ not-false _ c.if-not-is_suitable.false,
+      sym c.is_suitable.ensures ∙ c.if-not-is_suitable.false,
       lt-ltb _ _ c.if-z-p.false,
       ← c.value_sets-sets.ensures,
       ← c.crews_below-crews.ensures,

@@ -7,4 +7,4 @@ pub why_not-requires : goal.why_not-requires
 unfolding contents_of
 why_not-requires c =
     let book = c.requires in
-    ((book.rules_few, book.rules_short), book.edge_room)
+    record { count_bound = (book.rules_few, book.rules_short); juniors_len = book.edge_room }

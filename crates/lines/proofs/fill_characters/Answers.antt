@@ -1,7 +1,7 @@
 -- `lines::fill_characters` meets its contract: the values whose characters stand before c have their entries; the measure is how many
 -- characters are left up to the last digit. Assumes nothing.
 use native.Mathlib.Omega.{arith}
-use Prim.Native.Nat.{◌-◌, ◌≤◌}
+use Prim.Native.Nat.{◌≤◌}
 use Rattle.lines.proofs.FillLaws.{encode_none, encode_digit, encode_other, encode_all}
 use Rattle.lines.proofs.fill_characters.Goals as goal
 use Rattle.lines.proofs.fill_characters.Goals.{then-v-lt16, else-v-lt16}
@@ -17,8 +17,9 @@ loop-c-preserved c =
     let last : c.loop-c.c ≤ 70 = omega (arith, c.loop-c-test.true) in
     let is = c.digit_of-v.ensures in
     elim c.if-v-lt16.branch [
-      then-v-lt16 w ↦ rw w.table-is (encode_digit _ _ c.loop-c.invariant last _ is w.if-v-lt16.true)
-    | else-v-lt16 w ↦ rw w.table-is (encode_other _ _ c.loop-c.invariant last _ is w.if-v-lt16.false) ]
+      | then-v-lt16 w ↦ rw w.table-is (encode_digit _ _ c.loop-c.invariant last _ is w.if-v-lt16.true)
+      | else-v-lt16 w ↦ rw w.table-is (encode_other _ _ c.loop-c.invariant last _ is w.if-v-lt16.false)
+    ]
 
 pub returns : goal.returns
 returns c = encode_all _ _ c.loop-c.invariant (omega (arith, c.loop-c-test.false))

@@ -3,4 +3,4 @@ use mathlib.Core.Path.{refl}
 use Rattle.plan.proofs.is_short.Goals as goal
 
 pub returns-in-Refused : goal.returns-in-Refused
-returns-in-Refused c = rw (c.answer-1.given.1, ← c.refusal_number.ensures) refl
+returns-in-Refused c = rw (c.in-Refused.is, ← c.refusal_number.ensures) refl

@@ -18,8 +18,8 @@ loop-v-preserved c =
     let v = c.loop-v.v in
     let is = sym c.has.ensures in
     ⊎_elim
-    (λ w. let more = size_in x v (is ∙ w.0.taken) in (omega arith, (omega arith, omega arith)))
-    (λ w. let same = size_out x v (is ∙ w.0.left) in (omega arith, (omega arith, omega arith)))
+    (λ w. let more = size_in x v (is ∙ w.0.true) in (omega arith, (omega arith, omega arith)))
+    (λ w. let same = size_out x v (is ∙ w.0.false) in (omega arith, (omega arith, omega arith)))
     c.if-has.branch
 
 pub returns : goal.returns

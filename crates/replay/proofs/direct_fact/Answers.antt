@@ -11,7 +11,7 @@ abbrev fact : Start → Direct → Fact
 fact start of = direct_fact of start.args.p start.args.i
 
 pub returns-in-Crews : goal.returns-in-Crews
-returns-in-Crews c = sym (ap (fact (goal.at.returns-in-Crews c).Start) c.enum_told-1.given.1)
+returns-in-Crews c = sym (ap (fact (goal.at.returns-in-Crews c).Start) c.in-Crews.is)
 
 pub returns-in-Values : goal.returns-in-Values
-returns-in-Values c = sym (ap (fact (goal.at.returns-in-Values c).Start) c.of-1.given.1)
+returns-in-Values c = sym (ap (fact (goal.at.returns-in-Values c).Start) c.in-Values.is)

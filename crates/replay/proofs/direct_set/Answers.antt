@@ -20,7 +20,7 @@ loop-i-preserved c =
     let at-loop = c.loop-i in (
       omega arith,
       set_more (λ (d : ℕ). holds c.args.ledger.now (direct_fact c.args.of c.args.p d))
-          at-loop.i _ _ _ at-loop.inv.1 (c.fact_holds-on.ensures ∙ ap (holds c.args.ledger.now) c.direct_fact.ensures) c.with-set.ensures,
+          at-loop.i _ _ _ at-loop.invariant.1 (c.fact_holds-on.ensures ∙ ap (holds c.args.ledger.now) c.direct_fact.ensures) c.with-set.ensures,
     )
 
 pub returns : goal.returns

@@ -4,7 +4,6 @@ use mathlib.Core.Path.{◌≡◌, refl, sym, ◌∙◌}
 use mathlib.Core.Bool.{Bool, true, false}
 use Prim.Native.Nat.{◌≤◌, ◌-◌}
 use lib.ListN.{length, get_or}
-use borrow.Author.Tests.{not-true, not-false}
 use Rattle.frames.specs.declared.Want.{Want}
 use Rattle.frames.specs.Book.{contents_of}
 use Rattle.quantifiers.specs.Quantifiers.{all}
@@ -21,7 +20,7 @@ abbrev none : Want
 none = record { attr = record { 0 = 0 }; set = 0 }
 
 -- The test under the arguments of the function.
-abbrev tested : Start→ Want → Bool
+abbrev tested : Start → Want → Bool
 tested start = test start.args.exactly start.args.directly start.args.ledger.now start.args.b.sizes start.args.b.juniors start.args.b.query
 
 pub loop-j-init : goal.loop-j-init
@@ -49,7 +48,7 @@ returns-then-not-is_wanted c =
     let j = c.loop-j.j in
     let inv = c.loop-j.invariant.1 in
     let room : n ≤ length b.query.wants = omega (arith, c.requires.query_in.few, c.requires.query_in.room) in
-    let wrong = sym c.is_wanted.ensures ∙ not-true _ c.if-not-is_wanted.true in
+    let wrong = sym c.is_wanted.ensures ∙ c.if-not-is_wanted.true in
     let failed : P (get_or b.query.wants j none) ≡ false = rw (← c.held_set-held.ensures) wrong in
     sym (inv ∙ all_fail P b.query.wants n room j none c.loop-j-test.true failed)
 
@@ -62,7 +61,7 @@ loop-j-preserved c =
     let j = c.loop-j.j in
     let inv = c.loop-j.invariant.1 in
     let room : n ≤ length b.query.wants = omega (arith, c.requires.query_in.few, c.requires.query_in.room) in
-    let right = sym c.is_wanted.ensures ∙ not-false _ c.if-not-is_wanted.false in
+    let right = sym c.is_wanted.ensures ∙ c.if-not-is_wanted.false in
     let passed : P (get_or b.query.wants j none) ≡ true = rw (← c.held_set-held.ensures) right in
     let more = c.loop-j-test.true in
     (omega (arith, more), inv ∙ all_pass P b.query.wants n room j none more passed)

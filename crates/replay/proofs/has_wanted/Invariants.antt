@@ -17,8 +17,8 @@ use Rattle.replay.specs.Met.{wants}
 use Rattle.replay.specs.Inner.Direct.{wanted}
 use Rattle.replay.proofs.has_wanted.Given as goal
 
-pub -- The test of one named set.
-abbrev test : Bool → Bool → List ℕ → Sizes → List ℕ → Query → Want → Bool
+-- The test of one named set.
+abbrev pub test : Bool → Bool → List ℕ → Sizes → List ℕ → Query → Want → Bool
 test exactly directly ledger z juniors query w =
     wanted exactly w.set
     (cond directly (set_below (λ v. holds ledger (Holds query.person w.attr v)) (values_of z w.attr.0))

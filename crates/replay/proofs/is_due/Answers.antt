@@ -3,7 +3,6 @@ use mathlib.Core.Path.{◌≡◌, sym, ap, ◌∙◌}
 use mathlib.Core.List.{List}
 use Prim.Native.Nat.{ℕ, ◌+◌, ◌*◌, ◌-◌}
 use lib.ListN.{take, drop}
-use borrow.Author.Tests.{not-true, not-false}
 use Rattle.sets.specs.Sets.{member}
 use Rattle.requests.specs.declared.Request.{Request}
 use Rattle.requests.specs.Requests.{request_of, well_formed}
@@ -22,7 +21,7 @@ pub returns-then-not-is_request : goal.returns-then-not-is_request
 returns-then-not-is_request c =
     let args = c.args in
     let told = c.is_request.ensures ∙ ap (well_formed args.z) (cut args.plan.now args.i) in
-    sym (due-not args.z args.roles (five_at args.plan.now args.i) (sym told ∙ not-true _ c.if-not-is_request.true))
+    sym (due-not args.z args.roles (five_at args.plan.now args.i) (sym told ∙ c.if-not-is_request.true))
 
 pub returns : goal.returns
 returns c =
@@ -30,6 +29,6 @@ returns c =
     let five = cut args.plan.now args.i in
     let told = c.is_request.ensures ∙ ap (well_formed args.z) five in
     let made = c.request_of-request.ensures ∙ ap request_of five in
-    let formed = sym told ∙ not-false _ c.if-not-is_request.false in
+    let formed = sym told ∙ c.if-not-is_request.false in
     c.has.ensures ∙ ap (λ (r : Request). member args.roles r.role.0) made
     ∙ sym (due_by_role args.z args.roles (five_at args.plan.now args.i) formed)

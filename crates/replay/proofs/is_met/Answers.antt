@@ -5,7 +5,7 @@ use mathlib.Core.List.{List}
 use Prim.Native.Nat.{ℕ}
 use native.Mathlib.Omega.{arith}
 use lib.Dec.{eqb}
-use borrow.Author.Tests.{not-true, not-false, eqb-true, ne_eqb}
+use borrow.Author.Tests.{eqb-true, ne_eqb}
 use Rattle.sets.specs.Sets.{subset}
 use Rattle.facts.specs.Facts.{holds}
 use Rattle.facts.specs.declared.Fact.{Fact}
@@ -61,7 +61,7 @@ returns-then-not-is_listed c =
     let crews = direct_crews b S in
     unlisted (one b) (two b) (eqb crews b.query.crews) (subset b.query.crews crews) (met_at_least b S)
     (all (λ w. eqb (held b S false w) w.set) (wants b)) (all (λ w. subset w.set (held b S true w)) (wants b))
-    (sym c.is_listed.ensures ∙ not-true _ c.if-not-is_listed.true)
+    (sym c.is_listed.ensures ∙ c.if-not-is_listed.true)
 
 pub returns : goal.returns
 unfolding met met_at_least met_exactly met_directly direct_crews contents_of
@@ -70,4 +70,4 @@ returns c =
     let S = holds c.args.ledger.now in
     let crews = direct_crews b S in
     c.has_wanted.ensures ∙ by_mode (one b) (two b) (eqb crews b.query.crews) (subset b.query.crews crews) (one_not-two b.query.mode)
-    (held b S) (wants b) (sym c.is_listed.ensures ∙ not-false _ c.if-not-is_listed.false)
+    (held b S) (wants b) (sym c.is_listed.ensures ∙ c.if-not-is_listed.false)

@@ -8,15 +8,15 @@ pub returns-in-Refused : goal.returns-in-Refused
 unfolding replayed
 returns-in-Refused c =
     rw (read_refused c.args.book.now c.read-reading.result
-    c.read-reading.ensures c.outcome-1.given.0.0 c.outcome-1.given.1)
+    c.read-reading.ensures c.in-Refused.r c.in-Refused.is)
 
 pub replay_in-requires : goal.replay_in-requires
 replay_in-requires c =
     read_sound c.args.book.now c.read-reading.result c.read-reading.ensures
-    c.enum_told-1.given.1
+    c.in_default.is
 
 pub returns : goal.returns
 unfolding replayed
 returns c =
     rw (read_accepted c.args.book.now c.read-reading.result c.read-reading.ensures
-    c.enum_told-1.given.1) c.replay_in.ensures
+    c.in_default.is) c.replay_in.ensures

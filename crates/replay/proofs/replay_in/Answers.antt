@@ -15,15 +15,14 @@ pub returns-in-Stopped : goal.returns-in-Stopped
 unfolding contents_of
 returns-in-Stopped c =
     let args = c.args in
-    let at_one = c.course-1.given in
-    let led = stopped _ _ _ _ c.run_in-course.ensures at_one.1 in
-    sym (replay_stops (contents_of args.b) args.plan.now c.if-plan-ne0.false at_one.0.0 led)
+    let led = stopped _ _ _ _ c.run_in-course.ensures c.in-Stopped.is in
+    sym (replay_stops (contents_of args.b) args.plan.now c.if-plan-ne0.false c.in-Stopped.k led)
 
 pub returns-then-is_met : goal.returns-then-is_met
 unfolding contents_of
 returns-then-is_met c =
     let args = c.args in
-    let led = ended _ _ _ c.run_in-course.ensures c.enum_told-1.given.1 in
+    let led = ended _ _ _ c.run_in-course.ensures c.in_default.is in
     let is-met = sym c.is_met.ensures ∙ c.if-is_met.true in
     sym (replay_reaches (contents_of args.b) args.plan.now c.if-plan-ne0.false _ (record { led = led }) is-met)
 
@@ -31,6 +30,6 @@ pub returns : goal.returns
 unfolding contents_of
 returns c =
     let args = c.args in
-    let led = ended _ _ _ c.run_in-course.ensures c.enum_told-1.given.1 in
+    let led = ended _ _ _ c.run_in-course.ensures c.in_default.is in
     let unmet = sym c.is_met.ensures ∙ c.if-is_met.false in
     sym (replay_ends_short (contents_of args.b) args.plan.now c.if-plan-ne0.false _ (record { led = led }) unmet)

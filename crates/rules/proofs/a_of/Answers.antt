@@ -5,12 +5,12 @@ use Rattle.rules.proofs.a_of.Goals as goal
 
 pub returns-in-Holds : goal.returns-in-Holds
 unfolding a_of
-returns-in-Holds c = sym (ap a_of c.f-1.given.1)
+returns-in-Holds c = sym (ap a_of c.in-Holds.is)
 
 pub returns-in-CrewHolds : goal.returns-in-CrewHolds
 unfolding a_of
-returns-in-CrewHolds c = sym (ap a_of c.f-in-CrewHolds-1.given.1)
+returns-in-CrewHolds c = sym (ap a_of c.in-CrewHolds.is)
 
 pub returns-in-Member : goal.returns-in-Member
 unfolding a_of
-returns-in-Member c = sym (ap a_of c.f-in-Member-1.given.1)
+returns-in-Member c = sym (ap a_of c.in-Member.is)

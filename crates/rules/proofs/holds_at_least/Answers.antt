@@ -13,7 +13,7 @@ asked start s = at_least start.args.juniors.now (holds start.args.ledger.now) s 
 
 pub returns-in-User : goal.returns-in-User
 unfolding at_least effectively
-returns-in-User c = c.person_holds_at_least.ensures ∙ sym (ap (asked (goal.at.returns-in-User c).Start) c.s-1.given.1)
+returns-in-User c = c.person_holds_at_least.ensures ∙ sym (ap (asked (goal.at.returns-in-User c).Start) c.in-User.is)
 
 pub returns-in-Group : goal.returns-in-Group
-returns-in-Group c = c.group_holds_at_least.ensures ∙ sym (ap (asked (goal.at.returns-in-Group c).Start) c.s-in-Group-1.given.1)
+returns-in-Group c = c.group_holds_at_least.ensures ∙ sym (ap (asked (goal.at.returns-in-Group c).Start) c.in-Group.is)

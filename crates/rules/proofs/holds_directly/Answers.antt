@@ -13,8 +13,8 @@ asked start s = directly (holds start.args.ledger.now) s start.args.a start.args
 
 pub returns-in-User : goal.returns-in-User
 unfolding directly
-returns-in-User c = c.fact_holds.ensures ∙ sym (ap (asked (goal.at.returns-in-User c).Start) c.s-1.given.1)
+returns-in-User c = c.fact_holds.ensures ∙ sym (ap (asked (goal.at.returns-in-User c).Start) c.in-User.is)
 
 pub returns-in-Group : goal.returns-in-Group
 unfolding directly
-returns-in-Group c = c.fact_holds-in-Group.ensures ∙ sym (ap (asked (goal.at.returns-in-Group c).Start) c.s-in-Group-1.given.1)
+returns-in-Group c = c.fact_holds-in-Group.ensures ∙ sym (ap (asked (goal.at.returns-in-Group c).Start) c.in-Group.is)

@@ -13,8 +13,8 @@ asked start s = effectively start.args.juniors.now (holds start.args.ledger.now)
 
 pub returns-in-User : goal.returns-in-User
 unfolding effectively
-returns-in-User c = c.person_holds.ensures ∙ sym (ap (asked (goal.at.returns-in-User c).Start) c.s-1.given.1)
+returns-in-User c = c.person_holds.ensures ∙ sym (ap (asked (goal.at.returns-in-User c).Start) c.in-User.is)
 
 pub returns-in-Group : goal.returns-in-Group
 unfolding effectively
-returns-in-Group c = c.group_holds.ensures ∙ sym (ap (asked (goal.at.returns-in-Group c).Start) c.s-in-Group-1.given.1)
+returns-in-Group c = c.group_holds.ensures ∙ sym (ap (asked (goal.at.returns-in-Group c).Start) c.in-Group.is)

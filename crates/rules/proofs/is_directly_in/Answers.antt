@@ -13,8 +13,8 @@ asked start s = in_directly (holds start.args.ledger.now) s start.args.c
 
 pub returns-in-User : goal.returns-in-User
 unfolding in_directly
-returns-in-User c = c.fact_holds.ensures ∙ sym (ap (asked (goal.at.returns-in-User c).Start) c.s-1.given.1)
+returns-in-User c = c.fact_holds.ensures ∙ sym (ap (asked (goal.at.returns-in-User c).Start) c.in-User.is)
 
 pub returns-in-Group : goal.returns-in-Group
 unfolding in_directly
-returns-in-Group c = sym (ap (asked (goal.at.returns-in-Group c).Start) c.enum_told-1.given.1)
+returns-in-Group c = sym (ap (asked (goal.at.returns-in-Group c).Start) c.in-Group.is)

@@ -13,8 +13,8 @@ asked start s = in_effectively start.args.juniors.now (holds start.args.ledger.n
 
 pub returns-in-User : goal.returns-in-User
 unfolding in_effectively
-returns-in-User c = c.person_in.ensures ∙ sym (ap (asked (goal.at.returns-in-User c).Start) c.s-1.given.1)
+returns-in-User c = c.person_in.ensures ∙ sym (ap (asked (goal.at.returns-in-User c).Start) c.in-User.is)
 
 pub returns-in-Group : goal.returns-in-Group
 unfolding in_effectively
-returns-in-Group c = sym (ap (asked (goal.at.returns-in-Group c).Start) c.enum_told-1.given.1)
+returns-in-Group c = sym (ap (asked (goal.at.returns-in-Group c).Start) c.in-Group.is)
