@@ -36,10 +36,11 @@ slice_bounds-settle-end-3 c = refl
 pub settle-requires : goal.settle-requires
 unfolding contents_of
 settle-requires c =
-    let pre = c.requires in (
-      (pre.leveled.0.book.sized.persons_most, pre.side_moves.1.sides.sound_adds),
-      (c.crews_table.ensures.made.size, record { size = refl; none = words_clear }),
-    )
+    let pre = c.requires in
+    record {
+      persons_bound = (pre.leveled.0.book.sized.persons_most, pre.side_moves.1.sides.sound_adds);
+      table_len = (c.crews_table.ensures.made.size, record { size = refl; none = words_clear });
+    }
 
 pub put_rows-requires : goal.put_rows-requires
 unfolding contents_of
