@@ -1,7 +1,6 @@
 -- `ledger::copy_facts` meets its contract: the invariant says that the first i bytes are copied; the measure is how many are left. Assumes nothing.
 use mathlib.Core.Path.{refl, sym, ◌∙◌}
-use Prim.Native.Nat.{◌-◌}
-use lib.ListN.{length, length-set}
+use lib.ListN.{length-set}
 use Rattle.quantifiers.proofs.ListLaws.{copied_more, copied_all}
 use native.Mathlib.Omega.{arith}
 use Rattle.ledger.proofs.copy_facts.Goals as goal

@@ -6,7 +6,6 @@ use Rattle.rules.specs.Rules.{permits, permitted}
 use Rattle.quantifiers.proofs.FirstLaws.{any-first}
 use Rattle.frames.specs.Book.{contents_of, listed}
 use Rattle.ledger.specs.Ledger.{allowed}
-use borrow.Author.Rules.{rules}
 use Rattle.ledger.proofs.is_allowed.Goals as goal
 
 pub first_listed-requires : goal.first_listed-requires

@@ -1,6 +1,5 @@
 -- `ledger::why_not` meets its contract: what the book's rules and hierarchy say of the request in the ledger. Assumes nothing.
 use Rattle.frames.specs.Book.{contents_of}
-use borrow.Author.Rules.{rules}
 use Rattle.ledger.proofs.why_not.Goals as goal
 
 pub why_not-requires : goal.why_not-requires
