@@ -1,4 +1,4 @@
-//! Links `libbixorgun.a`, from the directory that `BIXORGUN_LIB_DIR` names or else from the repository's `target/staticlib`. The
+//! Links `libbixorgun.a`, from the directory that `BIXORGUN_LIB_DIR` names or else from the repository's `crates/bixorgun/out`. The
 //! archive's path is `BIXORGUN_ARCHIVE` for the tests.
 
 use std::env;
@@ -25,7 +25,7 @@ fn link() -> Result<(), String> {
     let crate_dir = env::var_os("CARGO_MANIFEST_DIR").map(PathBuf::from).ok_or("CARGO_MANIFEST_DIR is not set")?;
     let (dir, whence) = match env::var_os(VARIABLE) {
         Some(dir) => (crate_dir.join(dir), format!("the directory of {VARIABLE}")),
-        None => (crate_dir.join("../../target/staticlib"), format!("the place without {VARIABLE}")),
+        None => (crate_dir.join("../../crates/bixorgun/out"), format!("the place without {VARIABLE}")),
     };
     let dir = dir.canonicalize().unwrap_or(dir);
     let archive = dir.join(ARCHIVE);
@@ -42,7 +42,7 @@ fn link() -> Result<(), String> {
 fn missing(archive: &Path, whence: &str) -> String {
     format!(
         "{} is not there ({whence}).\n\
-         Make it with `rt staticlib bixorgun` in the repository's root, which writes target/staticlib/{ARCHIVE},\n\
+         Make it with `rt lib bixorgun` in the repository's root, which writes crates/bixorgun/out/{ARCHIVE},\n\
          or name the directory that has it: {VARIABLE}=DIRECTORY cargo build",
         archive.display()
     )

@@ -3,79 +3,82 @@
 
 #![tactic(auto)]
 
-ghost use Rattle.std.specs.Prelude.{◌≤◌, length};
+ghost use Rattle.std.specs.Prelude.{◌≡◌, ◌≤◌, length, IfOk, IfSome, OnErr};
 
-use libc::STDOUT_FILENO;
+use std::env::{Env, FillError};
+use std::fs::Files;
+use std::io::{Eprint, Write};
+use std::{fs, io, str};
 
 // Where the requests of a plan lead, by replay.
-fn write_judgement(j: replay::Judgement) {
+fn write_judgement<W: Write>(writer: &mut W, j: replay::Judgement) -> io::Result<()> {
     match j {
-        replay::Judgement::Reaches => {
-            io::write_all(STDOUT_FILENO, b" reaches ");
-        }
-        replay::Judgement::Stops(k) => {
-            io::write_all(STDOUT_FILENO, b" stops ");
-        }
-        replay::Judgement::EndsShort => {
-            io::write_all(STDOUT_FILENO, b" short ");
-        }
+        replay::Judgement::Reaches => writer.write_all(b" reaches "),
+        replay::Judgement::Stops(_) => writer.write_all(b" stops "),
+        replay::Judgement::EndsShort => writer.write_all(b" short "),
     }
 }
 
-fn write_replayed(r: replay::Replayed) {
+fn write_replayed<W: Write>(writer: &mut W, r: replay::Replayed) -> io::Result<()> {
     match r {
-        replay::Replayed::Judged(j) => {
-            write_judgement(j);
-        }
-        replay::Replayed::Refused(f) => {
-            io::write_all(STDOUT_FILENO, b" refused ");
-        }
+        replay::Replayed::Judged(j) => write_judgement(writer, j),
+        replay::Replayed::Refused(_) => writer.write_all(b" refused "),
     }
 }
 
 // The plan's buffer is long enough for every book, and the text's for every answer.
-fn plan(book: &[u8]) {
+fn plan<W: Write>(writer: &mut W, book: &[u8]) -> io::Result<()> {
     let mut out = [0u8; 42560];
     let answer = planner::plan(book, &mut out);
     let mut text = [0u8; 93639];
     answers::put_answer(answer, &out, &mut text);
     let end = lines::line_end(&text, 0);
-    io::write_all(STDOUT_FILENO, &text[..end]);
+    writer.write_all(&text[..end])?;
     match answer {
-        planner::Planned::NoWay => {
-            io::write_all(STDOUT_FILENO, b" - ");
-        }
+        planner::Planned::NoWay => writer.write_all(b" - "),
         planner::Planned::Plan(count) => {
             let requests = 5 * count;
             let r = replay::replay(book, &out[..requests]);
-            write_replayed(r);
+            write_replayed(writer, r)
         }
-        planner::Planned::Refused(r) => {
-            io::write_all(STDOUT_FILENO, b" - ");
-        }
+        planner::Planned::Refused(_) => writer.write_all(b" - "),
     }
 }
 
-fn judge(book: &[u8]) {
+fn judge<W: Write>(writer: &mut W, book: &[u8]) -> io::Result<()> {
     let mut text = [0u8; 64];
     readings::put_reading(frames::read(book), &mut text);
     let end = lines::line_end(&text, 0);
-    io::write_all(STDOUT_FILENO, &text[..end]);
-    io::write_all(STDOUT_FILENO, b" ");
+    writer.write_all(&text[..end])?;
+    writer.write_all(b" ")
 }
 
-// The file of that name, as far as the buffer goes; nothing where there is none, which is told on standard error.
-fn read_named(name: &[u8], book: &mut [u8]) -> usize
-    ensures { result ≤ length book.new }
+// The file at that path, as far as the buffer goes; nothing where there is none, which is told on standard error.
+fn read_at<R: Files + Eprint>(rt: &R, path: &str, book: &mut [u8]) -> io::Result<usize>
+    ensures ok { IfOk result (λ n. n ≤ length book.new) }
+    ensures err { OnErr result (length book.new ≡ length book.old) }
 {
-    let fd = os::open_read(name);
-    if fd < 0 {
-        os::fail(name);
-        return 0;
+    match fs::open(rt, path) {
+        Ok(mut file) => streams::read_full(&mut file, book),
+        Err(e) => {
+            eprintln!(rt; "{path}: {e}")?;
+            Ok(0)
+        }
     }
-    let n = io::read_full(fd, book);
-    libc::close(fd);
-    n
+}
+
+// The same of a name in bytes: one that is no text names no file.
+fn read_named<R: Files + Eprint>(rt: &R, name: &[u8], book: &mut [u8]) -> io::Result<usize>
+    ensures ok { IfOk result (λ n. n ≤ length book.new) }
+    ensures err { OnErr result (length book.new ≡ length book.old) }
+{
+    match str::from_utf8(name) {
+        Ok(path) => read_at(rt, path, book),
+        Err(_) => {
+            eprintln!(rt; "a name that is no text")?;
+            Ok(0)
+        }
+    }
 }
 
 // Whether a name ends in a dot and four characters.
@@ -88,29 +91,37 @@ fn is_planned(name: &[u8]) -> bool {
 }
 
 // The buffer holds one character more than a book may have, so that refusal 1 shows.
-fn answer(name: &[u8]) {
+fn answer<R: Files + Eprint, W: Write>(rt: &R, writer: &mut W, name: &[u8]) -> io::Result<()> {
     let mut book = [0u8; 65537];
-    let n = read_named(name, &mut book);
+    let n = read_named(rt, name, &mut book)?;
     if is_planned(name) {
-        plan(&book[..n]);
+        plan(writer, &book[..n])?;
     } else {
-        judge(&book[..n]);
+        judge(writer, &book[..n])?;
     }
-    io::write_all(STDOUT_FILENO, name);
-    io::write_all(STDOUT_FILENO, b"\n");
+    writer.write_all(name)?;
+    writer.write_all(b"\n")
 }
 
-fn answer_argument(k: usize) {
-    let mut name = io::buffer();
-    let n = os::arg(k, &mut name);
-    answer(&name[..n]);
+// The argument at a place, in the front of a buffer: how many bytes it has, none where it is longer than the buffer. `None` behind the last.
+fn argument<R: Env>(rt: &R, k: usize, name: &mut [u8]) -> Option<usize>
+    ensures { IfSome result (λ n. n ≤ length name.new) }
+{
+    match rt.arg(k, name) {
+        Ok(n) => Some(n),
+        Err(FillError::TooLong) => Some(0),
+        Err(FillError::NotPresent) => None,
+    }
 }
 
-fn main() {
-    let count = os::arg_count();
-    let mut k: usize = 1;
-    while k < count {
-        answer_argument(k);
-        k += 1;
+fn main(rt: HostRuntime) -> io::Result<()> {
+    let mut output = rt.stdout();
+    for k in 1..usize::MAX {
+        let mut name = [0u8; 4096];
+        match argument(&rt, k, &mut name) {
+            Some(n) => answer(&rt, &mut output, &name[..n])?,
+            None => break,
+        }
     }
+    Ok(())
 }

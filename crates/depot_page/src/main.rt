@@ -7,7 +7,8 @@ ghost use Rattle.lines.specs.Inner.Tables.{Encodings};
 ghost use Rattle.answers.specs.Inner.Written.{Written};
 ghost use Rattle.depot_page.specs.Printed.{person_lines, Printed};
 
-use libc::{STDIN_FILENO, STDOUT_FILENO};
+use std::io;
+use std::io::Write;
 
 // The table in the front of a lent text, sixteen bytes a line. Returns the place behind what it wrote.
 fn put_table(table: &[u8], characters: &[u8; 16], text: &mut [u8]) -> usize
@@ -45,9 +46,9 @@ fn answer(text: &mut [u8], n: usize) -> usize
 }
 
 // The buffer holds one character more than a book may have, so that refusal 1 shows.
-fn main() {
+fn main(rt: HostRuntime) -> io::Result<()> {
     let mut text = [0u8; 65537];
-    let n = io::read_full(STDIN_FILENO, &mut text);
+    let n = streams::read_full(&mut rt.stdin(), &mut text)?;
     let end = answer(&mut text, n);
-    io::write_all(STDOUT_FILENO, &text[..end]);
+    rt.stdout().write_all(&text[..end])
 }

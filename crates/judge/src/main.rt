@@ -6,7 +6,8 @@ ghost use Rattle.std.specs.Prelude.{◌≡◌, ◌≤◌, length, take};
 ghost use Rattle.frames.specs.Book.{book_of};
 ghost use Rattle.answers.specs.Answers.{answer_line};
 
-use libc::{STDIN_FILENO, STDOUT_FILENO};
+use std::io;
+use std::io::Write;
 
 // Reads the book in the first n bytes of `text`, and puts all that the program prints in its place: the first bytes, as many as returned.
 fn answer(text: &mut [u8], n: usize) -> usize
@@ -18,9 +19,9 @@ fn answer(text: &mut [u8], n: usize) -> usize
 }
 
 // The buffer holds one character more than a book may have, so that refusal 1 shows.
-fn main() {
+fn main(rt: HostRuntime) -> io::Result<()> {
     let mut text = [0u8; 65537];
-    let n = io::read_full(STDIN_FILENO, &mut text);
+    let n = streams::read_full(&mut rt.stdin(), &mut text)?;
     let end = answer(&mut text, n);
-    io::write_all(STDOUT_FILENO, &text[..end]);
+    rt.stdout().write_all(&text[..end])
 }

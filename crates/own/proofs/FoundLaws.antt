@@ -33,7 +33,7 @@ use Rattle.own.specs.Inner.Entered.{Fresh, Entered}
 use Rattle.own.specs.Inner.Requests.{request_of, requests_of, Ready}
 use Rattle.own.specs.Inner.Own.{own, wanted_by, RulesOf}
 use Rattle.own.specs.Inner.Found.{OwnMoves, OwnFound}
-use Rattle.own.proofs.TableLaws.{start_own, wanted-own, rules_in, request-bytes}
+use Rattle.own.proofs.TableLaws.{start_own, wanted-own, rules_in_lem, request-bytes}
 use Rattle.own.proofs.ChainLaws.{own-none}
 use Rattle.own.proofs.WayLaws.{own_way}
 
@@ -70,7 +70,7 @@ module _ (bk : Book) (ok : Growing (contents_of bk)) {adds : Moves} (given : Own
     {order : List ℕ} {found : Bool} {n : ℕ} (answer : Answer us ts x w order found n) where
   rules : RulesOf (contents_of bk) (rules_in us ts)
   unfolding contents_of
-  rules = rules_in (contents_of bk) bk.rules refl ok.book.rules_few given.room given.moves entered
+  rules = rules_in_lem (contents_of bk) bk.rules refl ok.book.rules_few given.room given.moves entered
 
   from_start : direct x ≡ own (contents_of bk) (track (contents_of bk) (holds (contents_of bk).facts))
   unfolding contents_of

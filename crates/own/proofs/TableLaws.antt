@@ -104,8 +104,8 @@ module _ (b : Contents) (rs : Rules) (same-rules : b.rules ≡ listed rs) (few :
         }
 
     -- The tables have the rules of the book.
-    pub rules_in : RulesOf b (rules_in us ts)
-    rules_in =
+    pub rules_in_lem : RulesOf b (rules_in us ts)
+    rules_in_lem =
         record {
           rule = λ f u.
               let at = entered.each f u.0 u.1 in
@@ -124,8 +124,8 @@ module _ (b : Contents) (rs : Rules) (same-rules : b.rules ≡ listed rs) (few :
 
     -- The request of a fact by its rule has the bytes of its move's.
     pub request-bytes : (ok : Growing b) (f : ℕ) (u : (rules_in us ts).usable f)
-        → bytes_of (ruleAsk b ok rules_in f u) ≡ bytes_of (request_of ms by b.query.person.0 f)
-    unfolding rules_in
+        → bytes_of (ruleAsk b ok rules_in_lem f u) ≡ bytes_of (request_of ms by b.query.person.0 f)
+    unfolding rules_in_lem
     request-bytes ok f u =
         let at = entered.each f u.0 u.1 in
         let from = moves.each (get_or by f 0) at.known in

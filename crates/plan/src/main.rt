@@ -5,14 +5,16 @@
 
 #![tactic(auto)]
 
-ghost use Rattle.std.specs.Prelude.{◌+◌, ◌*◌, ◌≤◌, ◌<◌, ◌≡◌, length, take};
+ghost use Rattle.std.specs.Prelude.{◌+◌, ◌*◌, ◌≤◌, ◌<◌, ◌≡◌, length, take, IfOk, OnErr};
 ghost use Rattle.planner.specs.Answer.{said};
 ghost use Rattle.answers.specs.Inner.Written.{Written};
 ghost use Rattle.plan.specs.Printed.{Printed};
 ghost use Rattle.plan.specs.Inner.Front.{Begins};
 ghost use Rattle.plan.specs.Inner.Tried.{is_short, PrintedIfRoom};
 
-use libc::{STDIN_FILENO, STDOUT_FILENO};
+use std::io;
+use std::io::{Read, Write};
+
 
 // Plans the book in the first n bytes of `text`, and puts all that the program prints in its place: the first bytes, as many as returned.
 // The buffer of the plan is long enough for every book.
@@ -139,49 +141,51 @@ fn put_front(front: &[u8], text: &mut [u8])
 
 // Puts what was read, `front`, in the front of the text, and reads on behind it. Returns how many characters there are. What was read fills
 // its buffer, of 64 characters or 292 times as many, unless the input has ended.
-fn read_on(front: &[u8], text: &mut [u8]) -> usize
+fn read_on<R: Read>(reader: &mut R, front: &[u8], text: &mut [u8]) -> io::Result<usize>
     requires { length front.now ≤ length text.old }
-    ensures { Begins front.now result text.new }
+    ensures ok { IfOk result (λ n. Begins front.now n text.new) }
+    ensures err { OnErr result (length text.new ≡ length text.old) }
 {
     put_front(front, text);
     let k = front.len();
     if k % 64 != 0 {
-        return k;
+        return Ok(k);
     }
-    let n = io::read_full(STDIN_FILENO, &mut text[k..]);
-    k + n
+    let n = streams::read_full(reader, &mut text[k..])?;
+    Ok(k + n)
 }
 
 // The text holds more characters than a book may have, so that refusal 1 shows, and the longest answer: 7 characters, and 11 for each of
 // 8,512 requests.
-fn print_large(front: &[u8])
+fn print_large<R: Read, W: Write>(reader: &mut R, writer: &mut W, front: &[u8]) -> io::Result<()>
     requires { length front.now ≤ 18688 }
 {
     let mut text = [0u8; 93639];
-    let n = read_on(front, &mut text);
+    let n = read_on(reader, front, &mut text)?;
     let end = answer(&mut text, n);
-    io::write_all(STDOUT_FILENO, &text[..end]);
+    writer.write_all(&text[..end])
 }
 
-fn print_small(front: &[u8])
+fn print_small<R: Read, W: Write>(reader: &mut R, writer: &mut W, front: &[u8]) -> io::Result<()>
     requires { length front.now ≤ 64 }
 {
     let mut text = [0u8; 18688];
-    let n = read_on(front, &mut text);
+    let n = read_on(reader, front, &mut text)?;
     let end = answer_small(&mut text, n);
     if end == 0 {
-        print_large(&text[..n]);
-        return;
+        return print_large(reader, writer, &text[..n]);
     }
-    io::write_all(STDOUT_FILENO, &text[..end]);
+    writer.write_all(&text[..end])
 }
 
-fn main() {
+fn main(rt: HostRuntime) -> io::Result<()> {
+    let mut input = rt.stdin();
+    let mut output = rt.stdout();
     let mut front = [0u8; 64];
-    let n = io::read_full(STDIN_FILENO, &mut front);
+    let n = streams::read_full(&mut input, &mut front)?;
     if facts_asked(&front[..n]) <= 849 {
-        print_small(&front[..n]);
+        print_small(&mut input, &mut output, &front[..n])
     } else {
-        print_large(&front[..n]);
+        print_large(&mut input, &mut output, &front[..n])
     }
 }

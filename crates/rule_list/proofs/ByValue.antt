@@ -20,7 +20,6 @@ use denote.Memory.{pointee}
 use denote.Array.{Array, Array-Lawful}
 use denote.Slice.{slice_ty, Room}
 use denote.Struct.Laws as LL
-use Rattle.walks.proofs.Fields.{array_of_field}
 use Rattle.frames.specs.declared.Rule.{Rule}
 use Rattle.frames.specs.declared.Rules.{Rules}
 use Rattle.frames.specs.Book.{listed}
@@ -53,7 +52,7 @@ module _ (rs : Rules) where
   IsList = Is L.the_row rs (LL.vals L.the_type L'.the_laws rs)
 
   pub is_array : IsList → Is (Array T.the_row 512) rs.rules (array ∷ [])
-  is_array is = array_of_field T.the_type 512 rs.rules (array ∷ []) (LL.owed L.the_type L'.the_laws rs _ is).1.0
+  is_array is = (LL.owed L.the_type L'.the_laws rs _ is).1.0
 
   pub counted : IsList → rs.count < 2 ^ 64
   counted is = (LL.owed L.the_type L'.the_laws rs _ is).0.1

@@ -8,7 +8,7 @@ use Prim.Native.Nat.{ℕ, ◌<◌, ◌^◌}
 use mathlib.Core.List.{List, [], ◌∷◌}
 use lib.ListN.{length}
 use seplogic.Ra.Ura.{Ura}
-use mir.Syntax.{named, w64}
+use mir.Syntax.{named, w8, w64}
 use mir.Val.{Val, vint}
 use base.Logic.{SProp, ent, sep}
 use base.Fml.{Lft, Share, Fml, ftrue, flft}
@@ -21,14 +21,43 @@ use denote.Laws.{Is}
 use denote.Plain.{uint_Makes}
 use denote.Builtin.{usize}
 use denote.Ref.{Bor}
+use denote.RattleType.{RowLaws}
+use denote.Plain.{uint_row_laws}
+use denote.Array.{Array-row_laws}
+use denote.Struct.Struct.{Struct-row_laws}
+use borrow.Table.Copies.{parts_laws}
 use denote.Slice.{slice_val, ShrSlice, shr_slice_copy}
 use denote.Steps.{owned, nothing}
 use denote.Triple.Statement.{Contract}
 use denote.Triple.Spec.{triple_of}
 use denote.Triple.Walked.{says}
 use Rattle.frames.specs.declared.Rule.{Rule}
+use Rattle.frames.specs.contracts.Term as Term
 use Rattle.frames.specs.contracts.Rule as T
 use Rattle.rule_list.specs.contracts.rule_at as rule_at_lem
+
+-- A rule's row meets the laws of one that is lent.
+rule_laws : RowLaws T.the_row
+rule_laws =
+    parts_laws T.the_type (
+      uint_row_laws w8,
+      (
+        search (uint_row_laws, Struct-row_laws),
+        (
+          uint_row_laws w8,
+          (
+            uint_row_laws w8,
+            (
+              uint_row_laws w8,
+              (
+                Array-row_laws Term.the_row (parts_laws Term.the_type (uint_row_laws w8, (uint_row_laws w8, (uint_row_laws w8, tt)))) 8,
+                tt,
+              ),
+            ),
+          ),
+        ),
+      ),
+    )
 
 module _ {M : Type 1} {𝓤 : Ura M} (𝓛 : Logic 𝓤) (mem : Memory → SProp 𝓤) (run : Routine → Fun 𝓤) where
   abbrev pub RuleAt : Contract 𝓤
@@ -54,5 +83,5 @@ module _ {M : Type 1} {𝓤 : Ura M} (𝓛 : Logic 𝓤) (mem : Memory → SProp
 
     pub goes_at : (i : ℕ) → i < 2 ^ 64 → i < length s.now → ent 𝓤 (⋆ 𝓛 (Tok ∷ ‵ Own ∷ [])) (sep 𝓤 (RuleAt.pre (to_at i)) (sem 𝓛 Own))
     goes_at i gi l =
-        qed 𝓛 (Tok ∷ ‵ Own ∷ []) ∵ move ! (1 ∷ []) $ use1 𝓛 (‵ Own ⊛ ‵ Own) ((shr_slice_copy 𝓛 (named 0) κ T.the_row).twice s (v ∷ [])) $ split ! $
+        qed 𝓛 (Tok ∷ ‵ Own ∷ []) ∵ move ! (1 ∷ []) $ use1 𝓛 (‵ Own ⊛ ‵ Own) ((shr_slice_copy 𝓛 (named 0) κ T.the_row rule_laws).twice s (v ∷ [])) $ split ! $
         move ! (2 ∷ 0 ∷ []) $ use2 𝓛 (raw (RuleAt.pre (to_at i))) (asked-at i gi l) $ frame ! $ done !

@@ -1,5 +1,7 @@
--- An array of records that is a field of a record: the field's relation is over the records' tuples, and is the array's own
--- relation over the records. So what a function copies out of the field it can use as any array. It says nothing of any crate.
+-- An array of records that is a field of a record by `denote.Struct.Field`'s `array_field`, as one that names a lifetime is: the
+-- field's relation is over the records' tuples, and is the array's own relation over the records. So what a function copies out of
+-- the field it can use as any array. By `row_field`, as any other array is, the field is at the array's own row already.
+-- It says nothing of any crate.
 --     array_of_field       from the field's relation (one of `denote.Struct.Laws`'s `owed`) to that of `[T; n]`
 -- Assumes nothing.
 use mathlib.Core.Path.{sym, ◌∙◌}
@@ -15,7 +17,7 @@ use denote.Struct.Declared.{Declared, shape, row}
 
 module _ (T : Declared) where
   eachs : (xs : List T.D) (us : List Val)
-      → shadow (each (Struct (shape T)).Denot (Struct (shape T)).own_val (map T.to xs) us) → shadow (each T.D (row T).own xs us)
+      → shadow (each (Struct (shape T)).Denot (Struct (shape T)).own_val (map T.to xs) us) → shadow (each T.D (row T).own_val xs us)
   eachs [] [] e = e
   eachs [] (u ∷ us) e = e
   eachs (x ∷ xs) [] e = e

@@ -1,4 +1,4 @@
-//! The programs `plan`, `depot_page` and `judge` as `rt check` builds them, run on the stored books and on books around
+//! The programs `plan`, `depot_page` and `judge` as `rt run` builds them, run on the stored books and on books around
 //! the lengths of their buffers. What they print is proved but for the few lines that read and write; these lines are what is tried here.
 
 use std::fs;
@@ -19,12 +19,12 @@ fn repository() -> PathBuf {
 
 /// Runs a program, its input handed over in the parts given with a pause between them; what it prints.
 fn output(program: &str, parts: &[&[u8]]) -> String {
-    let path = repository().join("target/bin").join(program);
+    let path = repository().join("crates").join(program).join("out").join(program);
     let mut child = Command::new(&path)
         .stdin(Stdio::piped())
         .stdout(Stdio::piped())
         .spawn()
-        .unwrap_or_else(|error| panic!("{}: {error}; `rt check {program}` builds it", path.display()));
+        .unwrap_or_else(|error| panic!("{}: {error}; `rt run {program}` builds it", path.display()));
     let mut input = child.stdin.take().expect("a pipe");
     for (k, part) in parts.iter().enumerate() {
         if k > 0 {

@@ -1,6 +1,5 @@
 -- A crew's row is added to the effective flags: after `k` places the first `k` are done. The measure is the places left. Assumes nothing.
 use native.Mathlib.Omega.{arith}
-use Prim.Native.Nat.{◌-◌}
 use Rattle.shown.proofs.ShownLaws.{row-none, row_more, row-all}
 use Rattle.build.proofs.add_row.Goals as goal
 
@@ -14,7 +13,7 @@ bounds-x-k c =
 
 pub bounds-x-k-in-loop-k : goal.bounds-x-k-in-loop-k
 bounds-x-k-in-loop-k c =
-    omega (arith, c.loop-k.inv.size)
+    omega (arith, c.loop-k.invariant.size)
 
 pub loop-k-preserved : goal.loop-k-preserved
 loop-k-preserved c =

@@ -1,7 +1,6 @@
 -- Flags with no direct fact: after `k` places the first `k` are blank. The measure is the places left. Assumes nothing.
 use native.Mathlib.Omega.{arith}
 use mathlib.Core.Path.{refl, sym, ◌∙◌}
-use Prim.Native.Nat.{◌-◌}
 use lib.ListN.{length-set}
 use Rattle.build.proofs.BuildLaws.{blank_first, blank_more, blank_all}
 use Rattle.build.proofs.blank.Goals as goal

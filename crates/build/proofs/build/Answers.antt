@@ -1,6 +1,5 @@
 -- Flags built fact by fact: after `f` facts those below `f` are put in. The measure is the facts left. Assumes nothing.
 use mathlib.Core.Path.{sym, ◌∙◌}
-use Prim.Native.Nat.{◌-◌}
 use Rattle.build.proofs.BuildLaws.{build_first, build_put, build_skip, build_all}
 use Rattle.build.proofs.build.Goals as goal
 
@@ -29,8 +28,8 @@ extend-requires c = c.loop-f.invariant.whole.size
 
 pub shape_of-x : goal.shape_of-x
 shape_of-x c =
-    c.extend.ensures.size ∙ c.loop-f.inv.whole.size ∙ sym c.requires.0
+    c.extend.ensures.size ∙ c.loop-f.invariant.whole.size ∙ sym c.requires.0
 
 pub returns : goal.returns
 returns c =
-    build_all c.loop-f.inv c.loop-f-test.false c.extend.ensures
+    build_all c.loop-f.invariant c.loop-f-test.false c.extend.ensures

@@ -1,8 +1,7 @@
 -- All flags copied: after `k` places the first `k` are. The measure is the places left. Assumes nothing.
 use mathlib.Core.Path.{refl, sym, ◌∙◌}
 use mathlib.Core.Bool.{false}
-use Prim.Native.Nat.{◌-◌}
-use lib.ListN.{length, length-set}
+use lib.ListN.{length-set}
 use native.Mathlib.Omega.{arith}
 use Rattle.quantifiers.proofs.ListLaws.{copied_more, copied_all}
 use Rattle.build.proofs.copy_whole.Goals as goal

@@ -2,7 +2,6 @@
 use native.Mathlib.Omega.{arith}
 use mathlib.Core.Path.{refl, sym, ◌∙◌}
 use mathlib.Core.Bool.{false}
-use Prim.Native.Nat.{◌-◌}
 use lib.ListN.{get_or}
 use Rattle.build.proofs.BuildLaws.{so_far_first, so_far_more, copy_all}
 use Rattle.build.proofs.keep.Goals as goal

@@ -8,7 +8,7 @@ raise-requires c =
 
 pub returns-then-f-lt128 : goal.returns-then-f-lt128
 returns-then-f-lt128 c =
-    put_raised c.requires.1 c.put.ensures c.if-f-lt128.taken c.raise.ensures
+    put_raised c.requires.1 c.put.ensures c.if-f-lt128.true c.raise.ensures
 
 pub returns : goal.returns
 returns c =

@@ -2,7 +2,6 @@
 use native.Mathlib.Omega.{arith}
 use mathlib.Core.Path.{sym, ◌∙◌}
 use mathlib.Core.Bool.{false, not, ◌&&◌}
-use Prim.Native.Nat.{◌-◌}
 use lib.ListN.{get_or}
 use Rattle.build.proofs.BuildLaws.{so_far_first, so_far_more, strip_all}
 use Rattle.build.proofs.strip.Goals as goal
@@ -13,7 +12,7 @@ loop-k-init c =
 
 pub bounds-d-k : goal.bounds-d-k
 bounds-d-k c =
-    omega (arith, c.loop-k.inv.size)
+    omega (arith, c.loop-k.invariant.size)
 
 pub loop-k-preserved : goal.loop-k-preserved
 loop-k-preserved c =

@@ -1,7 +1,7 @@
 -- `denials::first_unmet` meets its contract: the invariant says that nothing is kept and the terms before j hold, or that the first that does
 -- not is kept; the measure is how far j is before what is kept. Assumes nothing.
 use mathlib.Core.Path.{sym, ◌∙◌, subst}
-use Prim.Native.Nat.{◌-◌, ◌<◌}
+use Prim.Native.Nat.{◌<◌}
 use native.Mathlib.Omega.{arith}
 use Rattle.facts.specs.Facts.{holds}
 use Rattle.denials.proofs.DenialLaws.{SeeksUnmet, terms-start, terms-end, term-inside, term-met, term-unmet}
@@ -29,8 +29,8 @@ overflow_add-j c = record { fits = omega (arith, inside (goal.at.overflow_add-j 
 pub loop-j-smaller : goal.loop-j-smaller
 loop-j-smaller c =
     elim c.if-not-meets_term.branch [
-      then-not-meets_term w ↦ omega (arith, w.found-is)
-    | else-not-meets_term w ↦ omega (arith, w.found-is)
+      | then-not-meets_term w ↦ omega (arith, w.found-is)
+      | else-not-meets_term w ↦ omega (arith, w.found-is)
     ]
 
 pub loop-j-preserved : goal.loop-j-preserved
@@ -39,12 +39,12 @@ loop-j-preserved c =
     let S = holds at.ledger.now in
     let term = c.meets_term.ensures in
     elim c.if-not-meets_term.branch [
-      then-not-meets_term w ↦
-        rw w.found-is (term-unmet at.juniors.now S at.q at.r c.requires.0 c.loop-j.j c.loop-j.found
-        c.loop-j.invariant c.loop-j-test.true (sym term ∙ w.if-not-meets_term.true))
-    | else-not-meets_term w ↦
-        rw w.found-is (term-met at.juniors.now S at.q at.r c.requires.0 c.loop-j.j c.loop-j.found
-        c.loop-j.invariant c.loop-j-test.true (sym term ∙ w.if-not-meets_term.false))
+      | then-not-meets_term w ↦
+          rw w.found-is (term-unmet at.juniors.now S at.q at.r c.requires.0 c.loop-j.j c.loop-j.found
+          c.loop-j.invariant c.loop-j-test.true (sym term ∙ w.if-not-meets_term.true))
+      | else-not-meets_term w ↦
+          rw w.found-is (term-met at.juniors.now S at.q at.r c.requires.0 c.loop-j.j c.loop-j.found
+          c.loop-j.invariant c.loop-j-test.true (sym term ∙ w.if-not-meets_term.false))
     ]
 
 pub returns : goal.returns

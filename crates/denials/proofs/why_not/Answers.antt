@@ -1,14 +1,13 @@
 -- `denials::why_not` meets its contract: the first rule that has the request's op, role, a and v is found in the list, and its first unmet
 -- term in that rule; each place is counted from 1 and fits, since there are at most 512 rules and a rule has at most eight terms.
 -- Assumes nothing.
-use mathlib.Core.Path.{◌≡◌, sym, ap, ◌∙◌, subst}
+use mathlib.Core.Path.{◌≡◌, sym, ◌∙◌, subst}
 use Prim.Native.Nat.{ℕ, ◌≤◌, ◌<◌}
 use mathlib.Core.List.{List, []}
 use mathlib.Core.Bool.{Bool}
 use native.Mathlib.Omega.{arith}
 use lib.ListN.{length, get_or}
 use lib.Seq.{length-take-le}
-use borrow.Author.Rules.{rules}
 use Rattle.facts.specs.Facts.{holds}
 use Rattle.facts.specs.declared.Fact.{Fact}
 use Rattle.requests.specs.declared.Request.{Request}
@@ -61,14 +60,14 @@ pub overflow_add-result-2 : goal.overflow_add-result-2
 overflow_add-result-2 c =
     let at = c.args in
     let few =
-        few_terms at.juniors.now (holds at.ledger.now) at.q (taken (goal.at.overflow_add-result-2 c).After-r-1) (brief (goal.at.overflow_add-result-2 c).After-r-1) in
+    few_terms at.juniors.now (holds at.ledger.now) at.q (taken (goal.at.overflow_add-result-2 c).After-r-1) (brief (goal.at.overflow_add-result-2 c).After-r-1) in
     record { fits = omega (arith, few, c.first_unmet-j.ensures) }
 
 pub overflow_cast-result-2 : goal.overflow_cast-result-2
 overflow_cast-result-2 c =
     let at = c.args in
     let few =
-        few_terms at.juniors.now (holds at.ledger.now) at.q (taken (goal.at.overflow_cast-result-2 c).After-r-1) (brief (goal.at.overflow_cast-result-2 c).After-r-1) in
+    few_terms at.juniors.now (holds at.ledger.now) at.q (taken (goal.at.overflow_cast-result-2 c).After-r-1) (brief (goal.at.overflow_cast-result-2 c).After-r-1) in
     record { fits = omega (arith, few, c.first_unmet-j.ensures) }
 
 pub returns : goal.returns

@@ -3,7 +3,6 @@
 use mathlib.Core.Path.{◌≡◌}
 use Prim.Native.Nat.{◌-◌}
 use lib.ListN.{take, drop}
-use borrow.Author.Rules.{rules}
 use Rattle.quantifiers.specs.Quantifiers.{all}
 use Rattle.frames.specs.Limits.{growing}
 use Rattle.frames.specs.Book.{listed}

@@ -6,18 +6,18 @@ use Rattle.frames.proofs.enter_edge.Goals as goal
 pub bounds-m-s : goal.bounds-m-s
 bounds-m-s c =
     let asked = c.requires in
-    omega (arith, c.byte_at-s.ensures, asked.0.1.0, asked.1)
+    omega (arith, c.byte_at-s.ensures, asked.x_value.1.0, asked.m_len)
 
 pub with-row-requires : goal.with-row-requires
-with-row-requires c = rw c.byte_at-j.ensures c.requires.0.1.1
+with-row-requires c = rw c.byte_at-j.ensures c.requires.x_value.1.1
 
 pub bounds-m-s-2 : goal.bounds-m-s-2
 bounds-m-s-2 c =
     let asked = c.requires in
-    omega (arith, c.byte_at-s.ensures, asked.0.1.0, asked.1)
+    omega (arith, c.byte_at-s.ensures, asked.x_value.1.0, asked.m_len)
 
 pub returns : goal.returns
 unfolding juniors_after
 returns c =
     let asked = c.requires in
-    rw (asked.0.0, ← c.byte_at-s.ensures, ← c.byte_at-j.ensures, ← c.with-row.ensures)
+    rw (asked.x_value.0, ← c.byte_at-s.ensures, ← c.byte_at-j.ensures, ← c.with-row.ensures)

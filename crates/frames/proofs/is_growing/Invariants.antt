@@ -10,7 +10,7 @@ use Rattle.frames.specs.declared.Term.{Term}
 use Rattle.frames.specs.Limits.{is_not, growing}
 use Rattle.frames.proofs.is_growing.Given as goal
 
-pub abbrev allowed : Term → Bool
+abbrev pub allowed : Term → Bool
 allowed t = is_not t || (eqb t.kind 1 || eqb t.kind 3)
 
 abbrev pub invariant-loop-j : goal.invariant-loop-j

@@ -2,12 +2,12 @@
 -- whatever n is; the measure is what is left of them. Assumes nothing.
 use mathlib.Core.Path.{◌≡◌, refl, sym, ap, ◌∙◌}
 use mathlib.Core.Bool.{Bool, not, ◌&&◌}
-use Prim.Native.Nat.{◌+◌, ◌-◌, ◌<◌}
+use Prim.Native.Nat.{◌+◌, ◌<◌}
 use native.Mathlib.Omega.{arith}
-use lib.ListN.{length, take, drop, length-map}
+use lib.ListN.{length, take, drop}
 use Rattle.quantifiers.specs.Quantifiers.{all}
 use Rattle.quantifiers.proofs.BoolLaws.{two_below}
-use Rattle.frames.specs.Limits.{is_not, plain}
+use Rattle.frames.specs.Limits.{plain}
 use Rattle.frames.specs.Book.{no_term}
 use Rattle.quantifiers.proofs.ListLaws.{front_more, front_out}
 use Rattle.frames.proofs.is_plain.Goals as goal
@@ -15,12 +15,12 @@ use Rattle.frames.proofs.is_plain.Goals.{In-loop-j, Start}
 use Rattle.frames.proofs.is_plain.Invariants.{unmarked}
 
 -- The rule has eight places for terms.
-eight : (c : Start) → length c.args.t1.terms ≡ 8
-eight c = simp length-map at c.well_formed.0.1.1.1.1.1.1.1.0.1.0.1
+eight : (c : Start) → length c.args.r.terms ≡ 8
+eight c = c.well_formed.0.1.1.1.1.1.1.1.0.1.0.1
 
 -- Place j is one of them, and one of the first n.
-placed : (c : In-loop-j) → (c.loop-j.j < c.args.t1.n) × (c.loop-j.j < 8)
-placed c = let j = c.loop-j.j in two_below j j c.args.t1.n 8 c.loop-j-test.true
+placed : (c : In-loop-j) → (c.loop-j.j < c.args.r.n) × (c.loop-j.j < 8)
+placed c = let j = c.loop-j.j in two_below j j c.args.r.n 8 c.loop-j-test.true
 
 pub loop-j-init : goal.loop-j-init
 unfolding plain
@@ -40,14 +40,14 @@ loop-j-smaller c = omega (arith, placed (goal.at.loop-j-smaller c).In-loop-j)
 
 pub loop-j-preserved : goal.loop-j-preserved
 loop-j-preserved c =
-    let r = c.args.t1 in
+    let r = c.args.r in
     let at = c.loop-j in
-    at.inv
+    at.invariant
     ∙ front_more unmarked r.terms r.n at.good at.j no_term (placed (goal.at.loop-j-preserved c).In-loop-j).0 (omega (arith, (placed (goal.at.loop-j-preserved c).In-loop-j).1, eight (goal.at.loop-j-preserved c).Start))
     ∙ ap (λ (u : Bool). (at.good && not u) && all unmarked (drop (at.j + 1) (take r.n r.terms))) (sym c.is_not.ensures)
 
 pub returns : goal.returns
 returns c =
-    let r = c.args.t1 in
+    let r = c.args.r in
     let at = c.loop-j in
     sym (at.invariant ∙ front_out unmarked r.terms r.n at.good at.j (rw (eight (goal.at.returns c).Start) c.loop-j-test.false))

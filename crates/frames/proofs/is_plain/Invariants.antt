@@ -9,7 +9,7 @@ use Rattle.frames.specs.declared.Term.{Term}
 use Rattle.frames.specs.Limits.{is_not, plain}
 use Rattle.frames.proofs.is_plain.Given as goal
 
-pub abbrev unmarked : Term → Bool
+abbrev pub unmarked : Term → Bool
 unmarked t = not (is_not t)
 
 abbrev pub invariant-loop-j : goal.invariant-loop-j

@@ -4,15 +4,14 @@ use mathlib.Core.Path.{◌≡◌}
 use mathlib.Core.List.{[]}
 use Prim.Native.Nat.{◌+◌, ◌-◌, ◌*◌, ◌<◌, ◌≤◌}
 use lib.ListN.{take}
-use borrow.Author.Rules.{rules}
 use Rattle.frames.specs.declared.Rule.{Rule}
 use Rattle.frames.specs.Limits.{twice}
 use Rattle.frames.specs.Book.{listed}
 use Rattle.frames.proofs.LimitLaws.{twice_from}
 use Rattle.frames.proofs.is_twice.Given as goal
 
-pub -- What stands for a rule past the array's end.
-abbrev none : Rule
+-- What stands for a rule past the array's end.
+abbrev pub none : Rule
 none = record { op = 0; role = record { 0 = 0 }; a = 0; v = 0; n = 0; terms = [] }
 
 abbrev pub invariant-loop-i : goal.invariant-loop-i

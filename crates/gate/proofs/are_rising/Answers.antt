@@ -1,6 +1,5 @@
 -- `gate::are_rising` meets its contract: the invariant says that `good` is the test of the places below j; the measure is what is left of q. Assumes nothing.
 use mathlib.Core.Path.{ap, ◌∙◌}
-use Prim.Native.Nat.{◌-◌}
 use Rattle.gate.specs.Gate.{rises_at}
 use Rattle.quantifiers.specs.Quantifiers.{all_below}
 use Rattle.quantifiers.proofs.BelowLaws.{all_more, all_none}
@@ -11,12 +10,11 @@ pub loop-j-init : goal.loop-j-init
 loop-j-init c = (omega arith, all_none _)
 
 pub loop-j-preserved : goal.loop-j-preserved
-loop-j-preserved c =
-    (
-      omega arith,
-      all_more (rises_at c.args.x.now) c.loop-j.j _ _
-          c.loop-j.invariant.1 (rw (c.byte_at-a.ensures, c.byte_at-b.ensures)),
-    )
+loop-j-preserved c = (
+  omega arith,
+  all_more (rises_at c.args.x.now) c.loop-j.j _ _
+      c.loop-j.invariant.1 (rw (c.byte_at-a.ensures, c.byte_at-b.ensures)),
+)
 
 pub returns : goal.returns
 returns c = c.loop-j.invariant.1 ∙ ap (all_below _) (omega arith)

@@ -1,6 +1,5 @@
 -- `gate::are_wants` meets its contract: the invariant says that `good` is the test of the sets below j; the measure is what is left of q. Assumes nothing.
 use mathlib.Core.Path.{ap, ◌∙◌}
-use Prim.Native.Nat.{◌-◌}
 use Rattle.gate.specs.Gate.{want_good_at}
 use Rattle.quantifiers.specs.Quantifiers.{all_below}
 use Rattle.quantifiers.proofs.BelowLaws.{all_more, all_none}
@@ -11,8 +10,7 @@ pub loop-j-init : goal.loop-j-init
 loop-j-init c = (omega arith, all_none _)
 
 pub loop-j-preserved : goal.loop-j-preserved
-loop-j-preserved c =
-    (
+loop-j-preserved c = (
   omega arith,
   all_more (want_good_at c.args.z c.args.x.now) c.loop-j.j _ _
       c.loop-j.invariant.1 c.is_want_at-good.ensures,

@@ -1,6 +1,6 @@
 -- `gate::edge_verdict` meets its contract: 5 before 6. Assumes nothing.
 use mathlib.Core.Path.{sym, ◌∙◌}
-use borrow.Author.Tests.{le-ltb, lt-ltb, not-true, not-false}
+use borrow.Author.Tests.{le-ltb, lt-ltb}
 use Rattle.gate.specs.Gate.{edge_verdict}
 use Rattle.gate.proofs.edge_verdict.Goals as goal
 
@@ -10,7 +10,7 @@ returns-then-not-are_crews c =
     rw (
       ← c.byte_at-s.ensures,
       ← c.byte_at-j.ensures,
-      sym c.are_crews.ensures ∙ not-true _ c.if-not-are_crews.true,
+      sym c.are_crews.ensures ∙ c.if-not-are_crews.true,
     )
 
 pub returns-then-j-s : goal.returns-then-j-s
@@ -19,7 +19,7 @@ returns-then-j-s c =
     rw (
       ← c.byte_at-s.ensures,
       ← c.byte_at-j.ensures,
-      sym c.are_crews.ensures ∙ not-false _ c.if-not-are_crews.false,
+      sym c.are_crews.ensures ∙ c.if-not-are_crews.false,
       lt-ltb _ _ c.if-j-s.true,
     )
 
@@ -29,6 +29,6 @@ returns c =
     rw (
       ← c.byte_at-s.ensures,
       ← c.byte_at-j.ensures,
-      sym c.are_crews.ensures ∙ not-false _ c.if-not-are_crews.false,
+      sym c.are_crews.ensures ∙ c.if-not-are_crews.false,
       le-ltb _ _ c.if-j-s.false,
     )

@@ -16,34 +16,34 @@ is_free-requires c =
     )
 
 pub bounds-x-f : goal.bounds-x-f
-bounds-x-f c = omega (arith, c.loop-f.inv.size)
+bounds-x-f c = omega (arith, c.loop-f.invariant.size)
 
 pub bounds-order-n : goal.bounds-order-n
 bounds-order-n c =
     omega (
       arith,
-      c.loop-f.inv.size_order,
-      adding-room c.loop-f.inv c.loop-f-test.true
+      c.loop-f.invariant.size_order,
+      adding-room c.loop-f.invariant c.loop-f-test.true
           (sym c.is_free.ensures ∙ c.if-is_free.true),
     )
 
 pub overflow_add-n : goal.overflow_add-n
-overflow_add-n c = omega (arith, c.loop-f.inv.noted)
+overflow_add-n c = omega (arith, c.loop-f.invariant.noted)
 
 pub loop-f-smaller-then-is_free : goal.loop-f-smaller-then-is_free
 loop-f-smaller-then-is_free c =
     adding_less _ _
-    (adding-room c.loop-f.inv c.loop-f-test.true
+    (adding-room c.loop-f.invariant c.loop-f-test.true
     (sym c.is_free.ensures ∙ c.if-is_free.true))
 
 pub loop-f-preserved-then-is_free : goal.loop-f-preserved-then-is_free
 loop-f-preserved-then-is_free c =
-    adding-more c.loop-f.inv c.loop-f-test.true
+    adding-more c.loop-f.invariant c.loop-f-test.true
     (sym c.is_free.ensures ∙ c.if-is_free.true)
 
 pub loop-f-preserved : goal.loop-f-preserved
 loop-f-preserved c =
-    adding_skip c.loop-f.inv c.loop-f-test.true
+    adding_skip c.loop-f.invariant c.loop-f-test.true
     (sym c.is_free.ensures ∙ c.if-is_free.false)
 
 pub shape_of-x : goal.shape_of-x

@@ -20,9 +20,9 @@ bounds-d-g c =
     omega (
       arith,
       c.wide-g.ensures,
-      (new_parts _ _ _ _ c.loop-i-test.taken
+      (new_parts _ _ _ _ c.loop-i-test.true
           (sym c.asks_new.ensures ∙ c.if-asks_new.true)).low,
-      c.loop-i.inv.size,
+      c.loop-i.invariant.size,
     )
 
 pub loop-i-smaller-then-asks_new : goal.loop-i-smaller-then-asks_new
@@ -39,7 +39,7 @@ loop-i-preserved-then-asks_new c =
 
 pub loop-i-preserved : goal.loop-i-preserved
 loop-i-preserved c =
-    gathering_skip c.loop-i.inv c.loop-i-test.true
+    gathering_skip c.loop-i.invariant c.loop-i-test.true
     (sym c.asks_new.ensures ∙ c.if-asks_new.false)
 
 pub shape_of-d : goal.shape_of-d

@@ -29,9 +29,6 @@ pub shape_of-x-then-lacks-lt-LEVEL_SIZE : goal.shape_of-x-then-lacks-lt-LEVEL_SI
 shape_of-x-then-lacks-lt-LEVEL_SIZE c =
     c.add_all-n.ensures.size ∙ sym c.requires.1.1.1.0
 
-pub shape_of-order-then-lacks-lt-LEVEL_SIZE : goal.shape_of-order-then-lacks-lt-LEVEL_SIZE
-shape_of-order-then-lacks-lt-LEVEL_SIZE c = c.order-1.given
-
 pub returns-then-lacks-lt-LEVEL_SIZE : goal.returns-then-lacks-lt-LEVEL_SIZE
 returns-then-lacks-lt-LEVEL_SIZE c =
     answer_none _ _ _ _ c.gather.ensures c.add_all-n.ensures
@@ -44,9 +41,6 @@ shape_of-w c =
 pub shape_of-x : goal.shape_of-x
 shape_of-x c =
     c.add_all-n.ensures.size ∙ sym c.requires.1.1.1.0
-
-pub shape_of-order : goal.shape_of-order
-shape_of-order c = c.order-1.given
 
 pub returns : goal.returns
 returns c =

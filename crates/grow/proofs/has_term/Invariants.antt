@@ -8,8 +8,8 @@ use Rattle.quantifiers.specs.Quantifiers.{any_below}
 use Rattle.grow.specs.Inner.Tables.{term}
 use Rattle.grow.proofs.has_term.Given as goal
 
-pub -- Term j of the rule of f is k.
-abbrev is_term : List ℕ → ℕ → ℕ → ℕ → Bool
+-- Term j of the rule of f is k.
+abbrev pub is_term : List ℕ → ℕ → ℕ → ℕ → Bool
 is_term ts f k j = eqb (term ts (8 * f + j)) k
 
 abbrev pub invariant-loop-j : goal.invariant-loop-j

@@ -7,8 +7,8 @@ use Rattle.quantifiers.specs.Quantifiers.{any_below}
 use Rattle.grow.specs.Inner.Tables.{fails_at}
 use Rattle.grow.proofs.unmet.Given as goal
 
-pub -- Term j of the rule of f fails.
-abbrev term_fails : List ℕ → List Bool → ℕ → ℕ → Bool
+-- Term j of the rule of f fails.
+abbrev pub term_fails : List ℕ → List Bool → ℕ → ℕ → Bool
 term_fails ts x f j = fails_at ts x (8 * f + j)
 
 abbrev pub invariant-loop-j : goal.invariant-loop-j

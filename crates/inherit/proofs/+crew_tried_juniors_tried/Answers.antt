@@ -5,7 +5,7 @@
 use Rattle.std.proofs.Common.{arith, ◌≡◌, sym, ◌∙◌, true, false, not}
 use Rattle.facts.specs.Facts.{holds}
 use Rattle.inherit.specs.Inheritance.{is_junior, downward}
-use Rattle.inherit.specs.Inner.Search.{sought, junior_passes, Tried}
+use Rattle.inherit.specs.Inner.Search.{sought}
 use Rattle.inherit.proofs.InheritanceLaws.{downward_here, by_juniors, tried_more, junior_none, junior_hit, junior_fails, junior_skipped}
 use Rattle.quantifiers.proofs.BoolLaws.{and_both}
 use Rattle.inherit.proofs.+crew_tried_juniors_tried.Goals as goal
@@ -63,12 +63,12 @@ juniors_tried-loop-j-preserved t c =
     let P = sought (holds c.args.ledger.now) c.args.w in
     let turn = c.loop-j in
     elim c.if-direct-again.branch [
-      juniors_tried-then-direct-again+else-f w ↦
-        let fails : downward js P turn.j ≡ false = sym w.crew_tried-f.ensures.0 ∙ w.if-f.false in
-        (omega arith, (junior_fails js P c.args.c turn.j turn.invariant.1.0 fails, rw w.tried-is w.crew_tried-f.ensures.1))
-    | juniors_tried-else-direct-again w ↦
-        let skipped =
-            junior_skipped js P c.args.c turn.j turn.tried c.has-direct.result c.has-again.result
-            c.has-direct.ensures c.has-again.ensures turn.invariant.1.1 turn.invariant.1.0 w.if-direct-again.false in
-        (omega arith, (skipped, rw w.tried-is turn.invariant.1.1))
+      | juniors_tried-then-direct-again+else-f w ↦
+          let fails : downward js P turn.j ≡ false = sym w.crew_tried-f.ensures.0 ∙ w.if-f.false in
+          (omega arith, (junior_fails js P c.args.c turn.j turn.invariant.1.0 fails, rw w.tried-is w.crew_tried-f.ensures.1))
+      | juniors_tried-else-direct-again w ↦
+          let skipped =
+          junior_skipped js P c.args.c turn.j turn.tried c.has-direct.result c.has-again.result
+          c.has-direct.ensures c.has-again.ensures turn.invariant.1.1 turn.invariant.1.0 w.if-direct-again.false in
+          (omega arith, (skipped, rw w.tried-is turn.invariant.1.1))
     ]

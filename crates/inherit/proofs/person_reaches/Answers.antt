@@ -39,12 +39,12 @@ loop-d-preserved c =
     let turn = c.loop-d in
     let is-in = S (Member at.p (record { 0 = turn.d })) in
     elim c.if-fact_holds.branch [
-      then-fact_holds+else-f w ↦
-        let below : downward at.juniors.now P turn.d ≡ false = sym w.crew_tried-f.ensures.0 ∙ w.if-f.false in
-        (omega arith, (any_next through turn.d turn.invariant.1.0 (rw below (and-false is-in)), rw w.seen-is w.crew_tried-f.ensures.1))
-    | else-fact_holds w ↦
-        let direct : is-in ≡ false = sym c.fact_holds.ensures ∙ w.if-fact_holds.false in
-        (omega arith, (any_next through turn.d turn.invariant.1.0 (rw direct), rw w.seen-is turn.invariant.1.1))
+      | then-fact_holds+else-f w ↦
+          let below : downward at.juniors.now P turn.d ≡ false = sym w.crew_tried-f.ensures.0 ∙ w.if-f.false in
+          (omega arith, (any_next through turn.d turn.invariant.1.0 (rw below (and-false is-in)), rw w.seen-is w.crew_tried-f.ensures.1))
+      | else-fact_holds w ↦
+          let direct : is-in ≡ false = sym c.fact_holds.ensures ∙ w.if-fact_holds.false in
+          (omega arith, (any_next through turn.d turn.invariant.1.0 (rw direct), rw w.seen-is turn.invariant.1.1))
     ]
 
 pub returns : goal.returns

@@ -15,8 +15,8 @@ use Rattle.level.proofs.back.Goals.{Then-backs}
 pub loop-quiet-init : goal.loop-quiet-init
 loop-quiet-init c =
     (
-      back_first (moves_in c.args.dels.now) c.args.subject c.args.out.now c.requires.1.0,
-      sweeping_anew _ c.requires.1.1 (omega arith) (λ h. h),
+      back_first (moves_in c.args.dels.now) c.args.subject c.args.out.now c.requires.ready_back,
+      sweeping_anew _ c.requires.deleted_len (omega arith) (λ h. h),
     )
 
 pub turn_at-t-requires : goal.turn_at-t-requires
@@ -25,46 +25,49 @@ turn_at-t-requires c = turn_ready c.loop-quiet.invariant.1 c.loop-quiet-test.tru
 pub backs-requires : goal.backs-requires
 backs-requires c =
     let whole = c.loop-quiet.invariant.0.whole in
-    ((c.requires.0, c.turn_at-t.ensures.fits), (c.requires.1.0.length_x, (whole.size, whole.rows)))
+    record {
+      sound = (c.requires.sound, c.turn_at-t.ensures.fits);
+      x_len = (c.requires.ready_back.length_x, (whole.size, whole.rows));
+    }
 
 pub move_at-m-requires : goal.move_at-m-requires
 move_at-m-requires c =
-    let sound = c.requires.0 in
+    let sound = c.requires.sound in
     (omega (arith, c.turn_at-t.ensures.fits, sound.few), listed_room sound c.turn_at-t.ensures.fits)
 
 pub put_whole-requires : goal.put_whole-requires
 put_whole-requires c =
-    let whole = c.loop-quiet.inv.0.whole in
-    ((listed_fine c.requires.0 c.turn_at-t.ensures.fits c.move_at-m.ensures).fact, whole)
+    let whole = c.loop-quiet.invariant.0.whole in
+    ((listed_fine c.requires.sound c.turn_at-t.ensures.fits c.move_at-m.ensures).fact, whole)
 
 -- A move fires only where there is room for its request.
 room : (c : Then-backs) → c.args.end < c.loop-quiet.at + 160
 room c =
-    back_left c.loop-quiet.inv.0 c.requires.0 c.turn_at-t.ensures.fits c.backs.ensures c.if-backs.true
+    back_left c.loop-quiet.invariant.0 c.requires.sound c.turn_at-t.ensures.fits c.backs.ensures c.if-backs.true
 
 pub overflow_cast-deleted : goal.overflow_cast-deleted
 overflow_cast-deleted c =
-    omega (arith, c.turn_at-t.ensures.fits, c.requires.0.few)
+    omega (arith, c.turn_at-t.ensures.fits, c.requires.sound.few)
 
 pub overflow_sub-deleted : goal.overflow_sub-deleted
-overflow_sub-deleted c = omega (arith, c.loop-quiet.inv.0.down)
+overflow_sub-deleted c = omega (arith, c.loop-quiet.invariant.0.down)
 
 pub offset_bounds-deleted-end : goal.offset_bounds-deleted-end
 offset_bounds-deleted-end c = omega (arith, room (goal.at.offset_bounds-deleted-end c).Then-backs)
 
 pub bounds-deleted-end : goal.bounds-deleted-end
 bounds-deleted-end c =
-    omega (arith, room (goal.at.bounds-deleted-end c).Then-backs, c.loop-quiet.inv.1.named)
+    omega (arith, room (goal.at.bounds-deleted-end c).Then-backs, c.loop-quiet.invariant.1.named)
 
 pub overflow_sub-at : goal.overflow_sub-at
-overflow_sub-at c = omega (arith, room (goal.at.overflow_sub-at c).Then-backs, c.requires.1.0.below)
+overflow_sub-at c = omega (arith, room (goal.at.overflow_sub-at c).Then-backs, c.requires.ready_back.below)
 
 pub note-requires : goal.note-requires
 note-requires c =
-    let kept = c.loop-quiet.inv.0 in
+    let kept = c.loop-quiet.invariant.0 in
     (
-      listed_fine c.requires.0 c.turn_at-t.ensures.fits c.move_at-m.ensures,
-      omega (arith, room (goal.at.note-requires c).Then-backs, kept.size, kept.down, c.requires.1.0.below, c.requires.1.0.room),
+      listed_fine c.requires.sound c.turn_at-t.ensures.fits c.move_at-m.ensures,
+      omega (arith, room (goal.at.note-requires c).Then-backs, kept.size, kept.down, c.requires.ready_back.below, c.requires.ready_back.room),
     )
 
 pub next-i-requires : goal.next-i-requires
@@ -72,40 +75,40 @@ next-i-requires c = c.turn_at-t.ensures.fits
 
 pub loop-quiet-smaller-then-backs : goal.loop-quiet-smaller-then-backs
 loop-quiet-smaller-then-backs c =
-    fired_less _ _ _ _ (omega (arith, room (goal.at.loop-quiet-smaller-then-backs c).Then-backs, c.requires.1.0.below))
+    fired_less _ _ _ _ (omega (arith, room (goal.at.loop-quiet-smaller-then-backs c).Then-backs, c.requires.ready_back.below))
 
 pub loop-quiet-preserved-then-backs : goal.loop-quiet-preserved-then-backs
 loop-quiet-preserved-then-backs c =
-    let inv = c.loop-quiet.inv in (
-      back_add inv.0 c.requires.0 c.requires.1.0.below c.turn_at-t.ensures.fits c.backs.ensures c.if-backs.taken
+    let inv = c.loop-quiet.invariant in (
+      back_add inv.0 c.requires.sound c.requires.ready_back.below c.turn_at-t.ensures.fits c.backs.ensures c.if-backs.true
           c.move_at-m.ensures c.put_whole.ensures c.note.ensures,
       sweeping_anew _ (simp length-set inv.1.named) c.turn_at-t.ensures.names (λ _. c.next-i.ensures.fits),
     )
 
 pub overflow_add-quiet : goal.overflow_add-quiet
 overflow_add-quiet c =
-    omega (arith, turn_quiet c.turn_at-t.ensures c.loop-quiet-test.taken, c.requires.0.few)
+    omega (arith, turn_quiet c.turn_at-t.ensures c.loop-quiet-test.true, c.requires.sound.few)
 
 pub next-i-requires-else-backs : goal.next-i-requires-else-backs
 next-i-requires-else-backs c = c.turn_at-t.ensures.fits
 
 pub loop-quiet-smaller : goal.loop-quiet-smaller
 loop-quiet-smaller c =
-    quiet_less _ c.turn_at-t.ensures c.loop-quiet-test.taken
+    quiet_less _ c.turn_at-t.ensures c.loop-quiet-test.true
 
 pub loop-quiet-preserved : goal.loop-quiet-preserved
 loop-quiet-preserved c =
-    let inv = c.loop-quiet.inv in
+    let inv = c.loop-quiet.invariant in
     (inv.0, sweeping-quiet inv.1 c.turn_at-t.ensures c.backs.ensures c.if-backs.false c.next-i-else-backs.ensures)
 
 pub shape_of-deleted : goal.shape_of-deleted
-shape_of-deleted c = c.loop-quiet.invariant.1.named ∙ sym c.requires.1.1
+shape_of-deleted c = c.loop-quiet.invariant.1.named ∙ sym c.requires.deleted_len
 
 pub shape_of-y : goal.shape_of-y
-shape_of-y c = c.loop-quiet.invariant.0.whole.size ∙ sym c.requires.1.0.whole.size
+shape_of-y c = c.loop-quiet.invariant.0.whole.size ∙ sym c.requires.ready_back.whole.size
 
 pub shape_of-out : goal.shape_of-out
 shape_of-out c = c.loop-quiet.invariant.0.size
 
 pub returns : goal.returns
-returns c = back_closed c.loop-quiet.invariant.0 c.requires.0 (sweeping_ended c.loop-quiet.invariant.1 c.loop-quiet-test.false)
+returns c = back_closed c.loop-quiet.invariant.0 c.requires.sound (sweeping_ended c.loop-quiet.invariant.1 c.loop-quiet-test.false)

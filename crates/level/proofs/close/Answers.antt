@@ -15,8 +15,8 @@ use Rattle.level.proofs.close.Goals.{Then-fires}
 pub loop-quiet-init : goal.loop-quiet-init
 loop-quiet-init c =
     (
-      kept_first (moves_in c.args.adds.now) c.args.subject c.args.out.now c.requires.1.0,
-      sweeping_anew _ c.requires.1.1 (omega arith) (λ h. h),
+      kept_first (moves_in c.args.adds.now) c.args.subject c.args.out.now c.requires.ready,
+      sweeping_anew _ c.requires.added_len (omega arith) (λ h. h),
     )
 
 pub turn_at-t-requires : goal.turn_at-t-requires
@@ -25,45 +25,48 @@ turn_at-t-requires c = turn_ready c.loop-quiet.invariant.1 c.loop-quiet-test.tru
 pub fires-requires : goal.fires-requires
 fires-requires c =
     let whole = c.loop-quiet.invariant.0.whole in
-    ((c.requires.0, c.turn_at-t.ensures.fits), (whole.size, c.requires.1.0.length_allowed))
+    record {
+      sound = (c.requires.sound, c.turn_at-t.ensures.fits);
+      x_len = (whole.size, c.requires.ready.length_allowed);
+    }
 
 pub move_at-m-requires : goal.move_at-m-requires
 move_at-m-requires c =
-    let sound = c.requires.0 in
+    let sound = c.requires.sound in
     (omega (arith, c.turn_at-t.ensures.fits, sound.few), listed_room sound c.turn_at-t.ensures.fits)
 
 pub put_whole-requires : goal.put_whole-requires
 put_whole-requires c =
-    let whole = c.loop-quiet.inv.0.whole in
-    ((listed_fine c.requires.0 c.turn_at-t.ensures.fits c.move_at-m.ensures).fact, whole)
+    let whole = c.loop-quiet.invariant.0.whole in
+    ((listed_fine c.requires.sound c.turn_at-t.ensures.fits c.move_at-m.ensures).fact, whole)
 
 -- A move fires only where there is room for its request.
 room : (c : Then-fires) → c.loop-quiet.n < 160
 room c =
-    room_left c.loop-quiet.inv.0 c.requires.0 c.turn_at-t.ensures.fits c.fires.ensures c.if-fires.true
+    room_left c.loop-quiet.invariant.0 c.requires.sound c.turn_at-t.ensures.fits c.fires.ensures c.if-fires.true
 
 pub overflow_add-start : goal.overflow_add-start
 overflow_add-start c =
-    omega (arith, room (goal.at.overflow_add-start c).Then-fires, c.requires.1.0.room, c.good.1.1.1.1.1.1.1.0)
+    omega (arith, room (goal.at.overflow_add-start c).Then-fires, c.requires.ready.room)
 
 pub note-requires : goal.note-requires
 note-requires c =
-    let kept = c.loop-quiet.inv.0 in
+    let kept = c.loop-quiet.invariant.0 in
     (
-      listed_fine c.requires.0 c.turn_at-t.ensures.fits c.move_at-m.ensures,
-      omega (arith, room (goal.at.note-requires c).Then-fires, kept.size, c.requires.1.0.room),
+      listed_fine c.requires.sound c.turn_at-t.ensures.fits c.move_at-m.ensures,
+      omega (arith, room (goal.at.note-requires c).Then-fires, kept.size, c.requires.ready.room),
     )
 
 pub overflow_cast-added : goal.overflow_cast-added
 overflow_cast-added c =
-    omega (arith, c.turn_at-t.ensures.fits, c.requires.0.few)
+    omega (arith, c.turn_at-t.ensures.fits, c.requires.sound.few)
 
 pub offset_bounds-added-n : goal.offset_bounds-added-n
 offset_bounds-added-n c = omega (arith, room (goal.at.offset_bounds-added-n c).Then-fires)
 
 pub bounds-added-n : goal.bounds-added-n
 bounds-added-n c =
-    omega (arith, room (goal.at.bounds-added-n c).Then-fires, c.loop-quiet.inv.1.named)
+    omega (arith, room (goal.at.bounds-added-n c).Then-fires, c.loop-quiet.invariant.1.named)
 
 pub overflow_add-n : goal.overflow_add-n
 overflow_add-n c = omega (arith, room (goal.at.overflow_add-n c).Then-fires)
@@ -76,36 +79,36 @@ loop-quiet-smaller-then-fires c = fired_less _ _ _ _ (omega (arith, room (goal.a
 
 pub loop-quiet-preserved-then-fires : goal.loop-quiet-preserved-then-fires
 loop-quiet-preserved-then-fires c =
-    let inv = c.loop-quiet.inv in (
-      kept_add inv.0 c.requires.0 c.turn_at-t.ensures.fits c.fires.ensures c.if-fires.taken
+    let inv = c.loop-quiet.invariant in (
+      kept_add inv.0 c.requires.sound c.turn_at-t.ensures.fits c.fires.ensures c.if-fires.true
           c.move_at-m.ensures c.put_whole.ensures c.note.ensures,
       sweeping_anew _ (simp length-set inv.1.named) c.turn_at-t.ensures.names (λ _. c.next-i.ensures.fits),
     )
 
 pub overflow_add-quiet : goal.overflow_add-quiet
 overflow_add-quiet c =
-    omega (arith, turn_quiet c.turn_at-t.ensures c.loop-quiet-test.taken, c.requires.0.few)
+    omega (arith, turn_quiet c.turn_at-t.ensures c.loop-quiet-test.true, c.requires.sound.few)
 
 pub next-i-requires-else-fires : goal.next-i-requires-else-fires
 next-i-requires-else-fires c = c.turn_at-t.ensures.fits
 
 pub loop-quiet-smaller : goal.loop-quiet-smaller
 loop-quiet-smaller c =
-    quiet_less _ c.turn_at-t.ensures c.loop-quiet-test.taken
+    quiet_less _ c.turn_at-t.ensures c.loop-quiet-test.true
 
 pub loop-quiet-preserved : goal.loop-quiet-preserved
 loop-quiet-preserved c =
-    let inv = c.loop-quiet.inv in
+    let inv = c.loop-quiet.invariant in
     (inv.0, sweeping-quiet inv.1 c.turn_at-t.ensures c.fires.ensures c.if-fires.false c.next-i-else-fires.ensures)
 
 pub shape_of-added : goal.shape_of-added
-shape_of-added c = c.loop-quiet.invariant.1.named ∙ sym c.requires.1.1
+shape_of-added c = c.loop-quiet.invariant.1.named ∙ sym c.requires.added_len
 
 pub shape_of-x : goal.shape_of-x
-shape_of-x c = c.loop-quiet.invariant.0.whole.size ∙ sym c.requires.1.0.whole.size
+shape_of-x c = c.loop-quiet.invariant.0.whole.size ∙ sym c.requires.ready.whole.size
 
 pub shape_of-out : goal.shape_of-out
 shape_of-out c = c.loop-quiet.invariant.0.size
 
 pub returns : goal.returns
-returns c = kept_closed c.loop-quiet.invariant.0 c.requires.0 (sweeping_ended c.loop-quiet.invariant.1 c.loop-quiet-test.false)
+returns c = kept_closed c.loop-quiet.invariant.0 c.requires.sound (sweeping_ended c.loop-quiet.invariant.1 c.loop-quiet-test.false)

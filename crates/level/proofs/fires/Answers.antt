@@ -8,23 +8,23 @@ use Rattle.level.proofs.fires.Goals as goal
 
 pub overflow_mul-at : goal.overflow_mul-at
 overflow_mul-at c =
-    omega (arith, listed_room c.requires.0.0 c.requires.0.1)
+    omega (arith, listed_room c.requires.sound.0 c.requires.sound.1)
 
 pub offset_bounds-ms-at : goal.offset_bounds-ms-at
 offset_bounds-ms-at c =
-    omega (arith, listed_room c.requires.0.0 c.requires.0.1)
+    omega (arith, listed_room c.requires.sound.0 c.requires.sound.1)
 
 pub bounds-ms-at : goal.bounds-ms-at
 bounds-ms-at c =
-    omega (arith, listed_room c.requires.0.0 c.requires.0.1)
+    omega (arith, listed_room c.requires.sound.0 c.requires.sound.1)
 
 pub bounds-x-f : goal.bounds-x-f
 bounds-x-f c =
     omega (
       arith,
-      fact_fits c.args.ms.now (14 * c.args.i) (listed_stands c.requires.0.0 c.requires.0.1)
+      fact_fits c.args.ms.now (14 * c.args.i) (listed_stands c.requires.sound.0 c.requires.sound.1)
           c.wide-f.ensures,
-      c.requires.1.0,
+      c.requires.x_len.0,
     )
 
 pub returns-then-x-f : goal.returns-then-x-f
@@ -36,14 +36,14 @@ pub bounds-allowed-f : goal.bounds-allowed-f
 bounds-allowed-f c =
     omega (
       arith,
-      fact_fits c.args.ms.now (14 * c.args.i) (listed_stands c.requires.0.0 c.requires.0.1)
+      fact_fits c.args.ms.now (14 * c.args.i) (listed_stands c.requires.sound.0 c.requires.sound.1)
           c.wide-f.ensures,
-      c.requires.1.1,
+      c.requires.x_len.1,
     )
 
 pub meets-requires : goal.meets-requires
 meets-requires c =
-    (listed_room c.requires.0.0 c.requires.0.1, (listed_stands c.requires.0.0 c.requires.0.1, c.requires.1.0))
+    (listed_room c.requires.sound.0 c.requires.sound.1, (listed_stands c.requires.sound.0 c.requires.sound.1, c.requires.x_len.0))
 
 pub returns-then-allowed-f : goal.returns-then-allowed-f
 unfolding fires_in move_at

@@ -8,10 +8,11 @@ copy_whole-requires c = (c.requires.lengths.size_s, c.requires.lengths.size_x)
 
 pub close-n-requires : goal.close-n-requires
 close-n-requires c =
-    (
-      c.requires.sound_adds,
-      (ready c.requires.lengths c.requires.whole_s c.copy_whole.ensures c.requires.allowed, c.requires.names_added),
-    )
+    record {
+      sound = c.requires.sound_adds;
+      ready = ready c.requires.lengths c.requires.whole_s c.copy_whole.ensures c.requires.allowed;
+      added_len = c.requires.names_added;
+    }
 
 pub strip-requires : goal.strip-requires
 strip-requires c =
@@ -23,36 +24,16 @@ build_rest-requires c =
 
 pub back-at-requires : goal.back-at-requires
 back-at-requires c =
-    (
-      c.requires.sound_dels,
-      (
-        ready_back c.requires.lengths c.close-n.ensures.whole c.strip.ensures
-            c.build_rest.ensures,
-        c.requires.names_deleted,
-      ),
-    )
-
-pub shape_of-added : goal.shape_of-added
-shape_of-added c = c.added-1.given
-
-pub shape_of-deleted : goal.shape_of-deleted
-shape_of-deleted c = c.deleted-1.given
+    record {
+      sound = c.requires.sound_dels;
+      ready_back = ready_back c.requires.lengths c.close-n.ensures.whole c.strip.ensures
+            c.build_rest.ensures;
+      deleted_len = c.requires.names_deleted;
+    }
 
 pub shape_of-x : goal.shape_of-x
 shape_of-x c =
     c.close-n.ensures.whole.size ∙ sym c.requires.lengths.size_x
-
-pub shape_of-y : goal.shape_of-y
-shape_of-y c = c.y-2-1.given ∙ c.y-1.given
-
-pub shape_of-d : goal.shape_of-d
-shape_of-d c = c.d-1.given
-
-pub shape_of-up : goal.shape_of-up
-shape_of-up c = c.up-1.given
-
-pub shape_of-down : goal.shape_of-down
-shape_of-down c = c.down-1.given
 
 pub returns : goal.returns
 returns c =

@@ -32,14 +32,6 @@ lacks-requires c =
     let sizes = c.round-e.ensures.sizes in
     (omega (arith, sizes.size_x), omega (arith, sizes.size_y))
 
-pub shape_of-added-then-lacks-eq-LEVEL_SIZE : goal.shape_of-added-then-lacks-eq-LEVEL_SIZE
-shape_of-added-then-lacks-eq-LEVEL_SIZE c =
-    c.added-1.given ∙ c.loop-e.invariant.1.0 ∙ sym c.requires.names_added
-
-pub shape_of-deleted-then-lacks-eq-LEVEL_SIZE : goal.shape_of-deleted-then-lacks-eq-LEVEL_SIZE
-shape_of-deleted-then-lacks-eq-LEVEL_SIZE c =
-    c.deleted-1.given ∙ c.loop-e.invariant.1.1 ∙ sym c.requires.names_deleted
-
 pub shape_of-u-then-lacks-eq-LEVEL_SIZE : goal.shape_of-u-then-lacks-eq-LEVEL_SIZE
 shape_of-u-then-lacks-eq-LEVEL_SIZE c =
     c.loop-e.invariant.0.sizes.size_u ∙ sym c.requires.lengths.size_u
@@ -73,17 +65,9 @@ lacks-requires-in-loop-e c =
     let sizes = c.round-e.ensures.sizes in
     (omega (arith, sizes.size_s), omega (arith, sizes.size_y))
 
-pub shape_of-added-then-lacks-lt-LEVEL_SIZE : goal.shape_of-added-then-lacks-lt-LEVEL_SIZE
-shape_of-added-then-lacks-lt-LEVEL_SIZE c =
-    c.added-1.given ∙ c.loop-e.inv.1.0 ∙ sym c.requires.names_added
-
-pub shape_of-deleted-then-lacks-lt-LEVEL_SIZE : goal.shape_of-deleted-then-lacks-lt-LEVEL_SIZE
-shape_of-deleted-then-lacks-lt-LEVEL_SIZE c =
-    c.deleted-1.given ∙ c.loop-e.inv.1.1 ∙ sym c.requires.names_deleted
-
 pub shape_of-u-then-lacks-lt-LEVEL_SIZE : goal.shape_of-u-then-lacks-lt-LEVEL_SIZE
 shape_of-u-then-lacks-lt-LEVEL_SIZE c =
-    c.loop-e.inv.0.sizes.size_u ∙ sym c.requires.lengths.size_u
+    c.loop-e.invariant.0.sizes.size_u ∙ sym c.requires.lengths.size_u
 
 pub shape_of-x-then-lacks-lt-LEVEL_SIZE : goal.shape_of-x-then-lacks-lt-LEVEL_SIZE
 shape_of-x-then-lacks-lt-LEVEL_SIZE c =
@@ -99,30 +83,30 @@ shape_of-d-then-lacks-lt-LEVEL_SIZE c =
 
 pub shape_of-up-then-lacks-lt-LEVEL_SIZE : goal.shape_of-up-then-lacks-lt-LEVEL_SIZE
 shape_of-up-then-lacks-lt-LEVEL_SIZE c =
-    c.round-e.ensures.length_up ∙ c.loop-e.inv.0.length_up
+    c.round-e.ensures.length_up ∙ c.loop-e.invariant.0.length_up
 
 pub shape_of-down-then-lacks-lt-LEVEL_SIZE : goal.shape_of-down-then-lacks-lt-LEVEL_SIZE
 shape_of-down-then-lacks-lt-LEVEL_SIZE c =
-    c.round-e.ensures.length_down ∙ c.loop-e.inv.0.length_down
+    c.round-e.ensures.length_down ∙ c.loop-e.invariant.0.length_down
 
 pub returns-then-lacks-lt-LEVEL_SIZE : goal.returns-then-lacks-lt-LEVEL_SIZE
 returns-then-lacks-lt-LEVEL_SIZE c =
     result_none _ _ _ _ _ _ _ _ _
-    (stuck c.loop-e.inv.0 c.round-e.ensures c.lacks-in-loop-e.ensures c.if-lacks-lt-LEVEL_SIZE.true)
+    (stuck c.loop-e.invariant.0 c.round-e.ensures c.lacks-in-loop-e.ensures c.if-lacks-lt-LEVEL_SIZE.true)
 
 pub keep-requires : goal.keep-requires
 keep-requires c =
-    (c.round-e.ensures.sizes.size_y, c.loop-e.inv.0.sizes.size_u)
+    (c.round-e.ensures.sizes.size_y, c.loop-e.invariant.0.sizes.size_u)
 
 pub loop-e-smaller : goal.loop-e-smaller
 loop-e-smaller c =
-    smaller c.loop-e.inv.0 c.round-e.ensures c.lacks.ensures
+    smaller c.loop-e.invariant.0 c.round-e.ensures c.lacks.ensures
     c.if-lacks-eq-LEVEL_SIZE.false c.keep.ensures
 
 pub loop-e-preserved : goal.loop-e-preserved
 loop-e-preserved c =
-    let inv = c.loop-e.inv in (
+    let inv = c.loop-e.invariant in (
       go_on inv.0 c.round-e.ensures c.lacks-in-loop-e.ensures c.if-lacks-lt-LEVEL_SIZE.false
           c.keep.ensures,
-      (c.added-1.given ∙ inv.1.0, c.deleted-1.given ∙ inv.1.1),
+      (omega (arith, inv.1.0), omega (arith, inv.1.1)),
     )

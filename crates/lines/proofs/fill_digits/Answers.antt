@@ -1,6 +1,5 @@
 -- `lines::fill_digits` meets its contract: the entries below c are filled; the measure is how many are left. Assumes nothing.
 use native.Mathlib.Omega.{arith}
-use Prim.Native.Nat.{◌-◌}
 use Rattle.lines.proofs.FillLaws.{fill_none, fill_more, fill_all}
 use Rattle.lines.proofs.fill_digits.Goals as goal
 

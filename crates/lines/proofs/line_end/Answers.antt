@@ -1,7 +1,6 @@
 -- `lines::line_end` meets its contract: the invariant says that the end found from i on is the line's; the measure is what is left of the book.
 -- Assumes nothing.
 use mathlib.Core.Path.{refl}
-use Prim.Native.Nat.{◌-◌}
 use native.Mathlib.Omega.{arith}
 use Rattle.lines.proofs.LineLaws.{end_here, end_past, end_out}
 use Rattle.lines.proofs.line_end.Goals as goal
@@ -19,8 +18,7 @@ returns-then-book-i-eq10 c =
     )
 
 pub loop-i-preserved : goal.loop-i-preserved
-loop-i-preserved c =
-    (
+loop-i-preserved c = (
   omega arith,
   omega (
     arith,

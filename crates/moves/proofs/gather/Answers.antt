@@ -12,7 +12,7 @@ put_move-requires c =
 
 pub overflow_add-result : goal.overflow_add-result
 overflow_add-result c =
-    let room = c.requires.1.0 (sym c.chosen.ensures ∙ c.if-chosen.taken) in
+    let room = c.requires.1.0 (sym c.chosen.ensures ∙ c.if-chosen.true) in
     record { fits = omega (arith, room) }
 
 pub returns-then-chosen : goal.returns-then-chosen

@@ -10,7 +10,7 @@ use native.Mathlib.Omega.{arith}
 use Rattle.own.proofs.wants_value.Goals as goal
 
 pub loop-j-init : goal.loop-j-init
-loop-j-init c = (omega arith, any-zero (has_value c.args.t1 c.args.a c.args.v))
+loop-j-init c = (omega arith, any-zero (has_value c.args.q c.args.a c.args.v))
 
 pub bounds-q-j : goal.bounds-q-j
 bounds-q-j c = omega (arith, c.requires.few)
@@ -18,24 +18,24 @@ bounds-q-j c = omega (arith, c.requires.few)
 pub returns-then-w-a : goal.returns-then-w-a
 unfolding want_of
 returns-then-w-a c =
-    sym (any_from_lem (has_value c.args.t1 c.args.a
+    sym (any_from_lem (has_value c.args.q c.args.a
     c.args.v) _ c.loop-j.j
-    (value_test c.args.t1 c.args.a
+    (value_test c.args.q c.args.a
     c.args.v c.loop-j.j c.has.ensures c.if-w-a.true)
-    c.loop-j-test.taken)
+    c.loop-j-test.true)
 
 pub loop-j-preserved : goal.loop-j-preserved
 unfolding want_of
 loop-j-preserved c =
     (
       omega arith,
-      any_next (has_value c.args.t1 c.args.a
-          c.args.v) c.loop-j.j c.loop-j.inv.1
-          (value_test c.args.t1 c.args.a
+      any_next (has_value c.args.q c.args.a
+          c.args.v) c.loop-j.j c.loop-j.invariant.1
+          (value_test c.args.q c.args.a
           c.args.v c.loop-j.j c.has.ensures c.if-w-a.false),
     )
 
 pub returns : goal.returns
 returns c =
-    let last : c.loop-j.j ≡ c.args.t1.q = omega (arith, c.loop-j.invariant.0, c.loop-j-test.false) in
+    let last : c.loop-j.j ≡ c.args.q.q = omega (arith, c.loop-j.invariant.0, c.loop-j-test.false) in
     rw last at (sym c.loop-j.invariant.1)

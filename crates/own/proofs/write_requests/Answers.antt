@@ -24,19 +24,19 @@ bounds-by-f c = fact_known c.requires c.loop-i-test.true c.wide-f.ensures
 
 pub move_at-requires : goal.move_at-requires
 move_at-requires c =
-    move-stands c.requires c.loop-i-test.taken c.wide-f.ensures c.wide-k.ensures
+    move-stands c.requires c.loop-i-test.true c.wide-f.ensures c.wide-k.ensures
 
 pub note-requires : goal.note-requires
 note-requires c =
     (
-      move-fine c.requires c.loop-i-test.taken c.wide-f.ensures
+      move-fine c.requires c.loop-i-test.true c.wide-f.ensures
           c.wide-k.ensures c.move_at.ensures,
-      omega (arith, c.requires.room, c.loop-i.inv.size),
+      omega (arith, c.requires.room, c.loop-i.invariant.size),
     )
 
 pub loop-i-preserved : goal.loop-i-preserved
 loop-i-preserved c =
-    writing_more c.loop-i.inv c.loop-i-test.taken c.requires.few
+    writing_more c.loop-i.invariant c.loop-i-test.true c.requires.few
     c.wide-f.ensures c.wide-k.ensures c.move_at.ensures
     c.note.ensures
 

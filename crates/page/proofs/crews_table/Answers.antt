@@ -8,11 +8,15 @@ use Rattle.page.proofs.crews_table.Goals as goal
 pub settle_crews-requires : goal.settle_crews-requires
 settle_crews-requires c =
     let pre = c.requires in
-    (parts_of c.args.b pre.0.0 pre.1.0, ((refl, pre.1.1), (refl, refl)))
+    record {
+      crew_parts = parts_of c.args.b pre.leveled.0 pre.side_moves.0;
+      rows_len = (refl, pre.side_moves.1);
+      up_len = (refl, refl);
+    }
 
 pub returns : goal.returns
 unfolding contents_of
 returns c =
     let pre = c.requires in
-    crews_settled pre.0.0 pre.0.1 (scanned_of c.args.b pre.0.0 pre.1.0 c.settle_crews.ensures)
+    crews_settled pre.leveled.0 pre.leveled.1 (scanned_of c.args.b pre.leveled.0 pre.side_moves.0 c.settle_crews.ensures)
     c.person_table.ensures

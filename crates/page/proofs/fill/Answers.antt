@@ -1,8 +1,8 @@
 -- `page::fill` meets its contract: the moves of all four sides in one buffer, then the rows with a part of it for each side but the last: the moves
 -- that delete from a person are there, and not used. Assumes nothing.
-use mathlib.Core.Path.{refl, sym}
+use mathlib.Core.Path.{◌≡◌, refl, sym}
 use native.Mathlib.Omega.{arith}
-use lib.ListN.{length-map}
+use lib.ListN.{length}
 use lib.Seq.{length-take-le}
 use Rattle.level.proofs.RuleLaws.{book_good}
 use Rattle.search.proofs.StepLaws.{side_moves}
@@ -10,11 +10,8 @@ use Rattle.page.proofs.fill.Goals as goal
 
 pub moves_listed-n-requires : goal.moves_listed-n-requires
 moves_listed-n-requires c =
-    (
-  book_good c.args.b c.requires.0.0.book
-      (simp length-map at c.well_formed.0.1.1.1.1.0.1.1.1.0.1.0.1),
-  refl,
-)
+    let room : length c.args.b.rules.rules ≡ 512 = omega arith in
+    (book_good c.args.b c.requires.leveled.0.book room, refl)
 
 pub slice_bounds-fill_by-end : goal.slice_bounds-fill_by-end
 slice_bounds-fill_by-end c =
@@ -25,11 +22,10 @@ pub fill_by-requires : goal.fill_by-requires
 fill_by-requires c =
     let sides = c.moves_listed-n.ensures in
     let pre = c.requires in
-    let room = simp length-map at c.good.0.1.1.1.1.0.1.1.1.0.1.0.1 in
-    let good = book_good c.args.b pre.0.0.book room in (
-      pre.0,
-      (
-        (side_moves good room sides.crew_more sides.crew_less, record { dels = _; sides = side_moves good room sides.more sides.less }),
-        pre.1,
-      ),
-    )
+    let room : length c.args.b.rules.rules ≡ 512 = omega arith in
+    let good = book_good c.args.b pre.leveled.0.book room in
+    record {
+      leveled = pre.leveled;
+      side_moves = (side_moves good room sides.crew_more sides.crew_less, record { dels = _; sides = side_moves good room sides.more sides.less });
+      out_len = pre.out_len;
+    }

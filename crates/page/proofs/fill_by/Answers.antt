@@ -20,12 +20,15 @@ words_clear k = dite (dec_lt k 448)
 pub crews_table-requires : goal.crews_table-requires
 crews_table-requires c =
     let pre = c.requires in
-    (pre.0, (pre.1.0.0, record { size = refl; blank = λ j h. get_or-replicate 5280 j false false (omega arith) }))
+    record {
+      leveled = pre.leveled;
+      side_moves = (pre.side_moves.0, record { size = refl; blank = λ j h. get_or-replicate 5280 j false false (omega arith) });
+    }
 
 pub slice_bounds-settle-end : goal.slice_bounds-settle-end
 unfolding contents_of
 slice_bounds-settle-end c =
-    sym c.requires.0.0.book.facts_room
+    sym c.requires.leveled.0.book.facts_room
 
 pub slice_bounds-settle-end-3 : goal.slice_bounds-settle-end-3
 slice_bounds-settle-end-3 c = refl
@@ -33,19 +36,23 @@ slice_bounds-settle-end-3 c = refl
 pub settle-requires : goal.settle-requires
 unfolding contents_of
 settle-requires c =
-    let pre = c.requires in (
-      (pre.0.0.book.sized.persons_most, pre.1.0.1.sides.sound_adds),
-      (c.crews_table.ensures.made.size, record { size = refl; none = words_clear }),
-    )
+    let pre = c.requires in
+    record {
+      persons_bound = (pre.leveled.0.book.sized.persons_most, pre.side_moves.1.sides.sound_adds);
+      table_len = (c.crews_table.ensures.made.size, record { size = refl; none = words_clear });
+    }
 
 pub put_rows-requires : goal.put_rows-requires
 unfolding contents_of
 put_rows-requires c =
     let pre = c.requires in
-    ((pre.0.0.book.sized.persons_most, c.settle.ensures.size), c.clear.ensures)
+    record {
+      persons_bound = (pre.leveled.0.book.sized.persons_most, c.settle.ensures.size);
+      cleared = c.clear.ensures;
+    }
 
 pub returns : goal.returns
 unfolding contents_of
 returns c =
     let pre = c.requires in
-    persons_right c.args.b pre.0.0 pre.0.1 pre.1.0.1 c.crews_table.ensures c.settle.ensures c.put_rows.ensures
+    persons_right c.args.b pre.leveled.0 pre.leveled.1 pre.side_moves.1 c.crews_table.ensures c.settle.ensures c.put_rows.ensures

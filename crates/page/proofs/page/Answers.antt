@@ -7,21 +7,18 @@ pub returns-in-Refused : goal.returns-in-Refused
 returns-in-Refused c =
     promise_refused c.args.book.now _
     (page_read_refused c.args.book.now c.read_for_page-reading.result c.read_for_page-reading.ensures
-    c.outcome-1.given.0.0 c.outcome-1.given.1)
+    c.in-Refused.r c.in-Refused.is)
 
 pub page_in-requires : goal.page_in-requires
 page_in-requires c =
     let book = c.args.book.now in
     let result = c.read_for_page-reading.result in
     let reads = c.read_for_page-reading.ensures in
-    let accepted = c.enum_told-1.given.1 in
+    let accepted = c.in_default.is in
     (page_read_sound book result reads accepted, page_read_plain book result reads accepted)
-
-pub shape_of-out : goal.shape_of-out
-shape_of-out c = c.out-1.given
 
 pub returns : goal.returns
 returns c =
     promise_accepted c.args.book.now _ _ _
     (page_read_accepted c.args.book.now c.read_for_page-reading.result
-    c.read_for_page-reading.ensures c.enum_told-1.given.1) c.page_in.ensures
+    c.read_for_page-reading.ensures c.in_default.is) c.page_in.ensures

@@ -15,11 +15,11 @@ returns-then-out-ne-PAGE_SIZE c = answered_other (contents_of c.args.b) _ c.if-o
 pub fill-requires : goal.fill-requires
 unfolding contents_of with_query
 fill-requires c =
-    (
-      subst (λ (t : Contents). Leveled t × Roams t) (sym (nothing-asked (contents_of c.args.b) c.asked_nothing-query.ensures))
-          (nothing_accepted (contents_of c.args.b) c.requires.0 c.requires.1, roams_itself (contents_of c.args.b)),
-      c.if-out-ne-PAGE_SIZE.false,
-    )
+    record {
+      leveled = subst (λ (t : Contents). Leveled t × Roams t) (sym (nothing-asked (contents_of c.args.b) c.asked_nothing-query.ensures))
+          (nothing_accepted (contents_of c.args.b) c.requires.0 c.requires.1, roams_itself (contents_of c.args.b));
+      out_len = c.if-out-ne-PAGE_SIZE.false;
+    }
 
 pub returns : goal.returns
 unfolding contents_of with_query

@@ -55,8 +55,8 @@ loop-quiet-smaller-then-who-eq0 c =
 pub loop-quiet-preserved-then-who-eq0 : goal.loop-quiet-preserved-then-who-eq0
 loop-quiet-preserved-then-who-eq0 c =
     let none = nobody_fires (moves_in c.args.adds.now) c.loop-quiet.i c.fires-who.ensures c.if-who-eq0.true in (
-      c.loop-quiet.inv.0,
-      sweeping-quiet c.loop-quiet.inv.1 (still (goal.at.loop-quiet-preserved-then-who-eq0 c).After-fires-who) (sym none) refl c.next-i.ensures,
+      c.loop-quiet.invariant.0,
+      sweeping-quiet c.loop-quiet.invariant.1 (still (goal.at.loop-quiet-preserved-then-who-eq0 c).After-fires-who) (sym none) refl c.next-i.ensures,
     )
 
 pub overflow_mul-i : goal.overflow_mul-i
@@ -72,7 +72,7 @@ pub put_whole-requires : goal.put_whole-requires
 put_whole-requires c =
     (
       fact_fits c.args.adds.now (14 * c.loop-quiet.i) (listed_stands c.requires.0 (listed (goal.at.put_whole-requires c).After-fires-who)) c.wide-f.ensures,
-      (c.requires.1.rows, c.loop-quiet.inv.0.size),
+      (c.requires.1.rows, c.loop-quiet.invariant.0.size),
     )
 
 pub next-i-requires-else-who-eq0 : goal.next-i-requires-else-who-eq0
@@ -81,13 +81,13 @@ next-i-requires-else-who-eq0 c = listed (goal.at.next-i-requires-else-who-eq0 c)
 pub loop-quiet-smaller : goal.loop-quiet-smaller
 loop-quiet-smaller c =
     fired_less (moves_in c.args.adds.now).count c.loop-quiet.quiet 160 160
-    (fewer-left c.requires.0 c.loop-quiet.inv.0 (listed (goal.at.loop-quiet-smaller c).After-fires-who) c.fires-who.ensures (read_fact (goal.at.loop-quiet-smaller c).After-put_whole) c.put_whole.ensures c.fits.all.fits
+    (fewer-left c.requires.0 c.loop-quiet.invariant.0 (listed (goal.at.loop-quiet-smaller c).After-fires-who) c.fires-who.ensures (read_fact (goal.at.loop-quiet-smaller c).After-put_whole) c.put_whole.ensures c.ranges.all.fits
     c.if-who-eq0.false)
 
 pub loop-quiet-preserved : goal.loop-quiet-preserved
 loop-quiet-preserved c =
     (
-      growing-more c.requires.0 c.loop-quiet.inv.0 (listed (goal.at.loop-quiet-preserved c).After-fires-who) c.fires-who.ensures (read_fact (goal.at.loop-quiet-preserved c).After-put_whole) c.put_whole.ensures,
+      growing-more c.requires.0 c.loop-quiet.invariant.0 (listed (goal.at.loop-quiet-preserved c).After-fires-who) c.fires-who.ensures (read_fact (goal.at.loop-quiet-preserved c).After-put_whole) c.put_whole.ensures,
       sweeping_anew _ refl (omega arith) (λ h. c.next-i-else-who-eq0.ensures.fits),
     )
 
@@ -96,4 +96,4 @@ shape_of-held c = c.loop-quiet.invariant.0.size ∙ sym c.requires.1.size
 
 pub returns : goal.returns
 returns c =
-    growing_ended c.requires.0 c.loop-quiet.invariant.0 c.fits.all.fits (sweeping_ended c.loop-quiet.invariant.1 c.loop-quiet-test.false)
+    growing_ended c.requires.0 c.loop-quiet.invariant.0 c.ranges.all.fits (sweeping_ended c.loop-quiet.invariant.1 c.loop-quiet-test.false)

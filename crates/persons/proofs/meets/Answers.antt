@@ -5,19 +5,19 @@ use native.Mathlib.Omega.{arith}
 use Rattle.level.proofs.MoveLaws.{Reading, few_terms, term_fits}
 use Rattle.persons.proofs.FiringLaws.{meeting_first, meeting_more, meeting_nobody, meeting_all}
 use Rattle.persons.proofs.meets.Goals as goal
-use Rattle.persons.proofs.meets.Goals.{After-wide-k, After-wide-n, In-loop-j}
+use Rattle.persons.proofs.meets.Goals.{After-wide-k, After-wide-n}
 
 -- What was read of the move before its terms.
 abbrev reading : (c : After-wide-n) → Reading c.args.ms.now c.args.at c.wide-n.result
 reading c = record { fine = c.requires.1.0; count = c.wide-n.ensures }
 
 -- A move has eight terms at most, and what a term asks is a flag.
-few : (c : In-loop-j) → c.wide-n.result ≤ 8
+few : (c : After-wide-n) → c.wide-n.result ≤ 8
 few c = few_terms (reading c)
 
-fits : (c : After-wide-k) → c.wide-k.result < 448
-fits c =
-    term_fits (reading c) c.loop-j.j c.loop-j-test.taken c.wide-k.ensures
+fits : (c : After-wide-k) → Reading c.args.ms.now c.args.at c.wide-n.result → c.wide-k.result < 448
+fits c r =
+    term_fits r c.loop-j.j c.loop-j-test.true c.wide-k.ensures
 
 pub loop-j-init : goal.loop-j-init
 loop-j-init c =
@@ -28,23 +28,23 @@ returns-then-who-eq0 c =
     meeting_nobody (reading (goal.at.returns-then-who-eq0 c).After-wide-n) c.loop-j.invariant.1 c.if-who-eq0.true
 
 pub overflow_add-at-in-loop-j-2 : goal.overflow_add-at-in-loop-j-2
-overflow_add-at-in-loop-j-2 c = omega (arith, few (goal.at.overflow_add-at-in-loop-j-2 c).In-loop-j)
+overflow_add-at-in-loop-j-2 c = omega (arith, few (goal.at.overflow_add-at-in-loop-j-2 c).After-wide-n)
 
 pub offset_bounds-ms-at-in-loop-j : goal.offset_bounds-ms-at-in-loop-j
-offset_bounds-ms-at-in-loop-j c = omega (arith, few (goal.at.offset_bounds-ms-at-in-loop-j c).In-loop-j)
+offset_bounds-ms-at-in-loop-j c = omega (arith, few (goal.at.offset_bounds-ms-at-in-loop-j c).After-wide-n)
 
 pub bounds-ms-at-in-loop-j : goal.bounds-ms-at-in-loop-j
-bounds-ms-at-in-loop-j c = omega (arith, few (goal.at.bounds-ms-at-in-loop-j c).In-loop-j)
+bounds-ms-at-in-loop-j c = omega (arith, few (goal.at.bounds-ms-at-in-loop-j c).After-wide-n)
 
 pub offset_bounds-held-k : goal.offset_bounds-held-k
-offset_bounds-held-k c = omega (arith, fits (goal.at.offset_bounds-held-k c).After-wide-k)
+offset_bounds-held-k c = omega (arith, fits (goal.at.offset_bounds-held-k c).After-wide-k (reading (goal.at.offset_bounds-held-k c).After-wide-n))
 
 pub bounds-held-k : goal.bounds-held-k
-bounds-held-k c = omega (arith, fits (goal.at.bounds-held-k c).After-wide-k, c.requires.1.1)
+bounds-held-k c = omega (arith, fits (goal.at.bounds-held-k c).After-wide-k (reading (goal.at.bounds-held-k c).After-wide-n), c.requires.1.1)
 
 pub loop-j-preserved : goal.loop-j-preserved
 loop-j-preserved c =
-    (omega (arith, c.loop-j-test.taken), meeting_more (reading (goal.at.loop-j-preserved c).After-wide-n) c.loop-j.inv.1 c.loop-j-test.taken c.wide-k.ensures)
+    (omega (arith, c.loop-j-test.true), meeting_more (reading (goal.at.loop-j-preserved c).After-wide-n) c.loop-j.invariant.1 c.loop-j-test.true c.wide-k.ensures)
 
 pub returns : goal.returns
 returns c = meeting_all (reading (goal.at.returns c).After-wide-n) c.loop-j.invariant.1 (omega arith)

@@ -4,7 +4,7 @@ use Rattle.persons.proofs.settle.Goals as goal
 
 pub close-requires : goal.close-requires
 close-requires c =
-    (c.requires.0.1, begun_whole c.start-all.ensures c.requires.1.0)
+    (c.requires.persons_bound.1, begun_whole c.start-all.ensures c.requires.table_len.0)
 
 pub returns : goal.returns
 returns c =

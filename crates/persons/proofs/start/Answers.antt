@@ -20,18 +20,21 @@ loop-p-init c =
 
 pub put_column-requires : goal.put_column-requires
 put_column-requires c =
-    ((few (goal.at.put_column-requires c).After-build, (c.build.ensures.whole.size, c.loop-p.inv.1.1.1.begun.size)), next_clear c.loop-p.inv.1.1.1)
+    record {
+      p_bound = (few (goal.at.put_column-requires c).After-build, (c.build.ensures.whole.size, c.loop-p.invariant.1.1.1.begun.size));
+      column_clear = next_clear c.loop-p.invariant.1.1.1;
+    }
 
 pub loop-p-preserved : goal.loop-p-preserved
 loop-p-preserved c =
     (
-      omega (arith, c.loop-p-test.taken),
+      omega (arith, c.loop-p-test.true),
       (
         c.first-in-loop-p-1.given,
         (
           c.s-in-loop-p-1.given,
-          begun_more c.loop-p.inv.1.1.1 (few (goal.at.loop-p-preserved c).After-build)
-              (record { blank = _; first = _; started = c.start_flags.ensures; c = c.build.ensures })
+          begun_more c.loop-p.invariant.1.1.1 (few (goal.at.loop-p-preserved c).After-build)
+              (record { blank = _; first = _; started = c.start_flags.ensures; built = c.build.ensures })
               c.put_column.ensures,
         ),
       ),

@@ -7,15 +7,18 @@ use Rattle.planner.proofs.best_plan.Goals as goal
 
 pub returns-then-not-r : goal.returns-then-not-r
 returns-then-not-r c =
-    found_none (contents_of c.args.b) c.requires.0 (c.search-r.ensures.stuck (not-true _ c.if-not-r.true))
+    found_none (contents_of c.args.b) c.requires.leveled (c.search-r.ensures.stuck (not-true _ c.if-not-r.true))
 
 pub is_reached-found-requires : goal.is_reached-found-requires
 is_reached-found-requires c =
     let w = c.search-r.ensures.written (not-false _ c.if-not-r.false) in
-    ((c.requires.0.book, (w.few_up, w.most_down)), (w.size_up, w.size_down))
+    record {
+      admitted = (c.requires.leveled.book, (w.few_up, w.most_down));
+      up_len = (w.size_up, w.size_down);
+    }
 
 pub returns : goal.returns
 unfolding contents_of
 returns c =
-    found_best (contents_of c.args.b) c.requires.0
+    found_best (contents_of c.args.b) c.requires.leveled
     (c.search-r.ensures.written (not-false _ c.if-not-r.false)) c.is_reached-found.result c.is_reached-found.ensures

@@ -8,21 +8,24 @@ use Rattle.planner.proofs.find_plan.Goals as goal
 pub best_plan-requires : goal.best_plan-requires
 unfolding contents_of
 best_plan-requires c =
-    (leveled (contents_of c.args.b) c.requires.0 c.if-mode-ne3.true, c.requires.1)
+    record {
+      leveled = leveled (contents_of c.args.b) c.requires.admitted c.if-mode-ne3.true;
+      up_len = c.requires.up_len;
+    }
 
 pub find-r-requires : goal.find-r-requires
 unfolding contents_of
 find-r-requires c =
-    (growing (contents_of c.args.b) c.requires.0 c.if-mode-ne3.false, c.requires.1.0)
+    (growing (contents_of c.args.b) c.requires.admitted c.if-mode-ne3.false, c.requires.up_len.0)
 
 pub returns-then-not-r : goal.returns-then-not-r
 unfolding contents_of
 returns-then-not-r c =
     let b = contents_of c.args.b in
-    found_no_way b (growing b c.requires.0 c.if-mode-ne3.false) c.find-r.ensures _ (not-true _ c.if-not-r.true)
+    found_no_way b (growing b c.requires.admitted c.if-mode-ne3.false) c.find-r.ensures _ (not-true _ c.if-not-r.true)
 
 pub returns : goal.returns
 unfolding contents_of
 returns c =
     let b = contents_of c.args.b in
-    found_grown b (growing b c.requires.0 c.if-mode-ne3.false) c.find-r.ensures _ (not-false _ c.if-not-r.false)
+    found_grown b (growing b c.requires.admitted c.if-mode-ne3.false) c.find-r.ensures _ (not-false _ c.if-not-r.false)

@@ -13,17 +13,17 @@ use native.Mathlib.Omega.{arith}
 use Rattle.planner.proofs.is_reached.Goals as goal
 
 pub overflow_sub-n : goal.overflow_sub-n
-overflow_sub-n c = omega (arith, c.requires.0.1.1)
+overflow_sub-n c = omega (arith, c.requires.admitted.1.1)
 
 pub carry_out-requires : goal.carry_out-requires
-carry_out-requires c = omega (arith, c.requires.0.1.0, c.requires.1.0)
+carry_out-requires c = omega (arith, c.requires.admitted.1.0, c.requires.up_len.0)
 
 pub carry_out-requires-2 : goal.carry_out-requires-2
 carry_out-requires-2 c =
-    omega (arith, c.requires.0.1.1, c.requires.1.1)
+    omega (arith, c.requires.admitted.1.1, c.requires.up_len.1)
 
 pub is_met-requires : goal.is_met-requires
-is_met-requires c = c.requires.0.0
+is_met-requires c = c.requires.admitted.0
 
 pub returns : goal.returns
 returns c =

@@ -7,18 +7,15 @@ pub returns-in-Refused : goal.returns-in-Refused
 returns-in-Refused c =
     promise_refused c.args.book.now _
     (read_refused c.args.book.now c.read-reading.result
-    c.read-reading.ensures c.outcome-1.given.0.0 c.outcome-1.given.1)
+    c.read-reading.ensures c.in-Refused.r c.in-Refused.is)
 
 pub plan_in-requires : goal.plan_in-requires
 plan_in-requires c =
     read_sound c.args.book.now c.read-reading.result c.read-reading.ensures
-    c.enum_told-1.given.1
-
-pub shape_of-out : goal.shape_of-out
-shape_of-out c = c.out-1.given
+    c.in_default.is
 
 pub returns : goal.returns
 returns c =
     promise_accepted c.args.book.now _ _ _
     (read_accepted c.args.book.now c.read-reading.result
-    c.read-reading.ensures c.enum_told-1.given.1) c.plan_in.ensures
+    c.read-reading.ensures c.in_default.is) c.plan_in.ensures

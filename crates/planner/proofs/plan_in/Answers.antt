@@ -26,20 +26,22 @@ unfolding contents_of
 returns-then-out-f c = answered_short (contents_of c.args.b) _ (below_of c.if-out-f.true c.fact_count-f.ensures)
 
 pub find_plan-r-requires : goal.find_plan-r-requires
-find_plan-r-requires c = (c.requires, (refl, refl))
+find_plan-r-requires c =
+    record {
+      admitted = c.requires;
+      up_len = (refl, refl);
+    }
 
 -- By arithmetic alone, so that other numbers would be judged by what they are.
 pub give-requires : goal.give-requires
 unfolding contents_of
 give-requires c =
     let found = c.find_plan-r.ensures in
-    let long = above_of c.if-out-f.false c.fact_count-f.ensures in (
-      (omega (arith, found.few_up), (omega (arith, found.most_down), omega (arith, found.few, long))),
-      (omega arith, omega arith),
-    )
-
-pub shape_of-out : goal.shape_of-out
-shape_of-out c = c.out-1.given
+    let long = above_of c.if-out-f.false c.fact_count-f.ensures in
+    record {
+      ups_le_depot_size = (omega (arith, found.few_up), (omega (arith, found.most_down), omega (arith, found.few, long)));
+      up_len = (omega arith, omega arith);
+    }
 
 pub returns : goal.returns
 unfolding contents_of

@@ -9,9 +9,6 @@ returns-then-book-end c = record { ends = c.line_end-end.ensures; unended = λ h
 pub slice_bounds-x-count : goal.slice_bounds-x-count
 slice_bounds-x-count c = omega (arith, c.line_end-end.ensures)
 
--- TODO need slice-bounds-x-start
--- part-x-start c = omega (arith, c.before.line-end.ensures)
-
 pub shape_of-frame : goal.shape_of-frame
 shape_of-frame c = c.decode-decoded.ensures.size
 

@@ -1,7 +1,6 @@
 -- `reader::are_digits` meets its contract: the invariant says that the characters from i on decide; the measure is how many are left.
 -- Assumes nothing.
 use mathlib.Core.Path.{refl, sym, ◌∙◌}
-use Prim.Native.Nat.{◌-◌}
 use Rattle.lines.specs.Digits.{is_digit}
 use Rattle.quantifiers.proofs.ListLaws.{rest_out, rest_fail, rest_pass}
 use Rattle.lines.proofs.DigitLaws.{digit_yes, digit_no}

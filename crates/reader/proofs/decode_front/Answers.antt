@@ -1,7 +1,6 @@
 -- `reader::decode_front` meets its contract. The invariant `Begun` says that k bytes of the first line are written; two digits more
 -- are a byte more (`front_more`). The measure is how many of the most that are looked at are left. Assumes nothing.
 use native.Mathlib.Omega.{arith}
-use Prim.Native.Nat.{◌-◌}
 use Rattle.reader.proofs.DecodingLaws.{begun_none, front_more}
 use Rattle.reader.proofs.decode_front.Goals as goal
 
@@ -15,16 +14,16 @@ pub bounds-digits-wide-in-loop-k : goal.bounds-digits-wide-in-loop-k
 bounds-digits-wide-in-loop-k c = omega (arith, c.wide-in-loop-k.ensures.1, c.requires.0.size)
 
 pub shape_of-frame-then-high-ge16 : goal.shape_of-frame-then-high-ge16
-shape_of-frame-then-high-ge16 c = c.loop-k.inv.size
+shape_of-frame-then-high-ge16 c = c.loop-k.invariant.size
 
 pub returns-then-high-ge16 : goal.returns-then-high-ge16
-returns-then-high-ge16 c = c.loop-k.inv
+returns-then-high-ge16 c = c.loop-k.invariant
 
 pub shape_of-frame-then-low-ge16 : goal.shape_of-frame-then-low-ge16
-shape_of-frame-then-low-ge16 c = c.loop-k.inv.size
+shape_of-frame-then-low-ge16 c = c.loop-k.invariant.size
 
 pub returns-then-low-ge16 : goal.returns-then-low-ge16
-returns-then-low-ge16 c = c.loop-k.inv
+returns-then-low-ge16 c = c.loop-k.invariant
 
 pub bounds-frame-k : goal.bounds-frame-k
 bounds-frame-k c =

@@ -4,7 +4,6 @@ use mathlib.Core.Path.{refl, ap, sym, ◌∙◌}
 use mathlib.Core.Bool.{not}
 use native.Mathlib.Omega.{arith}
 use lib.Seq.{length-take-le}
-use borrow.Author.Tests.{not-true, not-false}
 use Rattle.lines.proofs.DigitLaws.{malformed_odd, malformed_even}
 use Rattle.reader.proofs.DecodingLaws.{long_written}
 use Rattle.reader.proofs.decode_long.Goals as goal
@@ -14,7 +13,7 @@ returns-then-x-eq1 c = record { written = sym (malformed_odd _ (λ z. omega (ari
 
 pub returns-then-not-are_digits : goal.returns-then-not-are_digits
 returns-then-not-are_digits c =
-    let ill = sym c.are_digits.ensures ∙ not-true _ c.if-not-are_digits.true in
+    let ill = sym c.are_digits.ensures ∙ c.if-not-are_digits.true in
     record { written = malformed_even _ (λ z. omega (arith, z, c.requires.0)) c.if-x-eq1.false ∙ ap not ill; size = refl }
 
 pub slice_bounds-front-end : goal.slice_bounds-front-end
@@ -28,5 +27,5 @@ decode_short-requires c =
 
 pub returns : goal.returns
 returns c =
-    let digits = sym c.are_digits.ensures ∙ not-false _ c.if-not-are_digits.false in
+    let digits = sym c.are_digits.ensures ∙ c.if-not-are_digits.false in
     long_written _ _ _ _ c.requires.0 c.if-x-eq1.false digits c.decode_short.ensures

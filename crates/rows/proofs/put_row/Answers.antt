@@ -9,12 +9,12 @@ use Rattle.rows.proofs.RowLaws.{row-none, row_more, row-all}
 use Rattle.rows.proofs.put_row.Goals as goal
 
 pub loop-f-init : goal.loop-f-init
-loop-f-init c = (omega arith, row-none _ _ _ c.requires.1)
+loop-f-init c = (omega arith, row-none _ _ _ c.requires.row_clear)
 
 pub put_value-requires : goal.put_value-requires
 put_value-requires c =
     let pre = c.requires in
-    ((pre.0.0, c.loop-f-test.true), pre.0.1)
+    ((pre.p_bound.0, c.loop-f-test.true), pre.p_bound.1)
 
 pub loop-f-preserved : goal.loop-f-preserved
 loop-f-preserved c =
@@ -23,11 +23,11 @@ loop-f-preserved c =
       subst (λ (l : List ℕ). RowPut c.args.z c.args.p (column c.args.held.now c.args.p) (c.loop-f.f + 1)
           c.args.out.now l)
           (sym c.put_value.ensures)
-          (row_more c.requires.0.0 c.loop-f-test.true c.requires.1 c.loop-f.invariant.1),
+          (row_more c.requires.p_bound.0 c.loop-f-test.true c.requires.row_clear c.loop-f.invariant.1),
     )
 
 pub shape_of-out : goal.shape_of-out
-shape_of-out c = c.loop-f.invariant.1.size ∙ sym c.requires.1.size
+shape_of-out c = c.loop-f.invariant.1.size ∙ sym c.requires.row_clear.size
 
 pub returns : goal.returns
 returns c = row-all c.loop-f.invariant.1 (omega (arith, c.loop-f.invariant.0, c.loop-f-test.false))

@@ -12,7 +12,7 @@ has-shown-requires c =
 pub returns-then-shown-value : goal.returns-then-shown-value
 returns-then-shown-value c =
     value_shown c.args.z c.args.p (column c.args.held.now c.args.p) c.args.f c.args.out.now _ _
-    c.has-shown.ensures c.is_value-value.ensures c.if-shown-value.taken c.put_at.ensures
+    c.has-shown.ensures c.is_value-value.ensures c.if-shown-value.true c.put_at.ensures
 
 pub returns-else-shown-value : goal.returns-else-shown-value
 returns-else-shown-value c =

@@ -2,7 +2,7 @@
 -- names the request, and in the inner loop whether each of its terms holds. A rule that fails at either is dropped, by the labelled
 -- `continue`; one that fails at none is the answer, by the `break`.
 -- Assumes nothing.
-use Rattle.std.proofs.Common.{arith, ◌≡◌, ◌<◌, length, ℕ, Bool, true, false, not, refl, ◌∙◌}
+use Rattle.std.proofs.Common.{arith, ◌≡◌, Bool, true, false, not, refl, ◌∙◌}
 use lib.Dec.{T}
 use Rattle.facts.specs.Facts.{holds}
 use Rattle.frames.specs.Book.{no_rule}
@@ -31,8 +31,8 @@ pub rules-preserved-then-not-is_named : goal.rules-preserved-then-not-is_named
 rules-preserved-then-not-is_named c =
     let S = holds c.args.ledger.now in
     let next =
-        open-unnamed c.args.juniors.now S c.args.q c.args.rules.now c.rules.i c.rule_at-r.result c.is_named.result (omega arith)
-        c.rule_at-r.ensures c.is_named.ensures (no c.is_named.result c.if-not-is_named.true) c.rules.invariant.1.1 in
+    open-unnamed c.args.juniors.now S c.args.q c.args.rules.now c.rules.i c.rule_at-r.result c.is_named.result (omega arith)
+    c.rule_at-r.ensures c.is_named.ensures (no c.is_named.result c.if-not-is_named.true) c.rules.invariant.1.1 in
     (omega arith, (c.rules.invariant.1.0, next))
 
 pub meets_term-requires : goal.meets_term-requires
@@ -45,10 +45,10 @@ rules-preserved c =
     let S = holds c.args.ledger.now in
     let short = brief (goal.at.rules-preserved c).After-rule_at-r in
     let next =
-        open-unmet c.args.juniors.now S c.args.q c.args.rules.now c.rules.i c.rule_at-r.result c.is_named.result (omega arith)
-        c.rule_at-r.ensures c.is_named.ensures (yes c.is_named.result c.if-not-is_named.false) short c.loop-j.j c.meets_term.result
-        (omega (arith, c.term_count-m.ensures, c.loop-j-test.true)) c.meets_term.ensures (no c.meets_term.result c.if-not-meets_term.true)
-        c.loop-j.invariant c.rules.invariant.1.1 in
+    open-unmet c.args.juniors.now S c.args.q c.args.rules.now c.rules.i c.rule_at-r.result c.is_named.result (omega arith)
+    c.rule_at-r.ensures c.is_named.ensures (yes c.is_named.result c.if-not-is_named.false) short c.loop-j.j c.meets_term.result
+    (omega (arith, c.term_count-m.ensures, c.loop-j-test.true)) c.meets_term.ensures (no c.meets_term.result c.if-not-meets_term.true)
+    c.loop-j.invariant c.rules.invariant.1.1 in
     (omega arith, (c.rules.invariant.1.0, next))
 
 pub loop-j-init : goal.loop-j-init

@@ -1,7 +1,7 @@
 -- `rules::first_permitting` meets its contract.
 -- The outer invariant: no rule before i permits, so those from i on decide (`Open`), and nothing is found yet. The inner invariant: the
 -- rule's terms from j on decide it (`Left`). The measures are the count of the rules left and the count of the terms left.
-use Rattle.std.proofs.Common.{◌-◌, ◌≡◌, ◌≤◌, length}
+use Rattle.std.proofs.Common.{◌-◌, ◌≡◌, ◌≤◌}
 use Rattle.facts.specs.Facts.{holds}
 use Rattle.rules.proofs.TrialLaws.{Left, Open}
 use Rattle.rules.proofs.first_permitting.Given as goal

@@ -24,12 +24,12 @@ own_stuck {b} ok s e = subst NoRun (to_self b) (s.stuck e b.query.person.0 ok.bo
 pub slice_bounds-settle_crews-end : goal.slice_bounds-settle_crews-end
 unfolding contents_of
 slice_bounds-settle_crews-end c =
-    sym c.requires.0.0.book.facts_room
+    sym c.requires.leveled.0.book.facts_room
 
 pub slice_bounds-settle_crews-end-2 : goal.slice_bounds-settle_crews-end-2
 unfolding contents_of
 slice_bounds-settle_crews-end-2 c =
-    sym c.requires.0.0.book.edge_room
+    sym c.requires.leveled.0.book.edge_room
 
 pub slice_bounds-settle_crews-end-3 : goal.slice_bounds-settle_crews-end-3
 slice_bounds-settle_crews-end-3 c = refl
@@ -39,26 +39,22 @@ slice_bounds-settle_crews-end-4 c = refl
 
 pub settle_crews-r-requires : goal.settle_crews-r-requires
 settle_crews-r-requires c =
-    let pre = c.requires in (
-      parts_of c.args.b pre.0.0 pre.0.1.0,
-      ((refl, record { size = refl; blank = λ j h. get_or-replicate 5280 j false false (omega arith) }), pre.1),
-    )
-
-pub shape_of-up-then-not-r : goal.shape_of-up-then-not-r
-shape_of-up-then-not-r c = c.up-1.given
-
-pub shape_of-down-then-not-r : goal.shape_of-down-then-not-r
-shape_of-down-then-not-r c = c.down-1.given
+    let pre = c.requires in
+    record {
+      crew_parts = parts_of c.args.b pre.leveled.0 pre.leveled.1.0;
+      rows_len = (refl, record { size = refl; blank = λ j h. get_or-replicate 5280 j false false (omega arith) });
+      up_len = pre.up_len;
+    }
 
 pub returns-then-not-r : goal.returns-then-not-r
 returns-then-not-r c =
-    let scanned = scanned_of c.args.b c.requires.0.0 c.requires.0.1.0 c.settle_crews-r.ensures in
-    none_found (no_found _ c.if-not-r.true) (own_stuck c.requires.0.0 scanned (no_found _ c.if-not-r.true))
+    let scanned = scanned_of c.args.b c.requires.leveled.0 c.requires.leveled.1.0 c.settle_crews-r.ensures in
+    none_found (no_found _ c.if-not-r.true) (own_stuck c.requires.leveled.0 scanned (no_found _ c.if-not-r.true))
 
 pub slice_bounds-person_level-end : goal.slice_bounds-person_level-end
 unfolding contents_of
 slice_bounds-person_level-end c =
-    sym c.requires.0.0.book.facts_room
+    sym c.requires.leveled.0.book.facts_room
 
 pub slice_bounds-person_level-end-2 : goal.slice_bounds-person_level-end-2
 slice_bounds-person_level-end-2 c = sym c.rows-2-1.given
@@ -69,21 +65,16 @@ slice_bounds-person_level-end-3 c = sym c.table-2-1.given
 pub person_level-p-requires : goal.person_level-p-requires
 person_level-p-requires c =
     let pre = c.requires in
-    let scanned = scanned_of c.args.b pre.0.0 pre.0.1.0 c.settle_crews-r.ensures in (
-      record {
-        accepted = pre.0.0;
-        moves = pre.0.1.1;
+    let scanned = scanned_of c.args.b pre.leveled.0 pre.leveled.1.0 c.settle_crews-r.ensures in
+    record {
+      person_given = record {
+        accepted = pre.leveled.0;
+        moves = pre.leveled.1.1;
         rows = c.table-2-1.given;
         same_facts = refl;
-      },
-      serves_own pre.0.0 (scanned.settled (was_found _ c.if-not-r.false)),
-    )
-
-pub shape_of-up-then-not-p : goal.shape_of-up-then-not-p
-shape_of-up-then-not-p c = c.up-2-1.given ∙ c.up-1.given
-
-pub shape_of-down-then-not-p : goal.shape_of-down-then-not-p
-shape_of-down-then-not-p c = c.down-2-1.given ∙ c.down-1.given
+      };
+      driving = serves_own pre.leveled.0 (scanned.settled (was_found _ c.if-not-r.false));
+    }
 
 pub returns-then-not-p : goal.returns-then-not-p
 returns-then-not-p c =
@@ -97,12 +88,6 @@ overflow_add-result c =
       (c.person_level-p.ensures.written
           (was_found _ c.if-not-p.false)).few_up,
     )
-
-pub shape_of-up : goal.shape_of-up
-shape_of-up c = c.up-2-1.given ∙ c.up-1.given
-
-pub shape_of-down : goal.shape_of-down
-shape_of-down c = c.down-2-1.given ∙ c.down-1.given
 
 pub returns : goal.returns
 returns c =

@@ -33,48 +33,23 @@ stopped s e = record { settled = λ f. absurd (true≢false (sym f)); stuck = λ
 
 -- The lengths of what is lent, by what is settled for the query's own person: at the start of the loop, and at its head.
 settled_at_first : (c : Start)
-    → Driving (contents_of c.requires.0.parts.book) 0 c.args.rows.now 0 c.args.up.now 5280 c.args.down.now
-settled_at_first c = own_drive c.requires.0.parts c.requires.1.1
+    → Driving (contents_of c.requires.crews_given.parts.book) 0 c.args.rows.now 0 c.args.up.now 5280 c.args.down.now
+settled_at_first c = own_drive c.requires.crews_given.parts c.requires.serves_of
 
-settled_so_far : (c : At-loop-k) → Driving (contents_of c.requires.0.parts.book) c.loop-k.k c.loop-k.rows
+settled_so_far : (c : At-loop-k) → Driving (contents_of c.requires.crews_given.parts.book) c.loop-k.k c.loop-k.rows
     c.loop-k.ups c.loop-k.up c.loop-k.at c.loop-k.down
-settled_so_far c = own_drive c.requires.0.parts c.loop-k.invariant.1.1
+settled_so_far c = own_drive c.requires.crews_given.parts c.loop-k.invariant.1.1
 
 pub loop-k-init : goal.loop-k-init
-loop-k-init c = (omega arith, c.requires.1)
+loop-k-init c = (omega arith, (c.requires.names, c.requires.serves_of))
 
 pub crew_level-r-requires : goal.crew_level-r-requires
-crew_level-r-requires c = ((c.requires.0, c.loop-k-test.true), c.loop-k.invariant.1)
-
-pub shape_of-added-then-not-r : goal.shape_of-added-then-not-r
-shape_of-added-then-not-r c =
-    c.added-1.given ∙
-    (c.loop-k.inv.1.0.0.room_added ∙ sym c.requires.1.0.0.room_added)
-
-pub shape_of-deleted-then-not-r : goal.shape_of-deleted-then-not-r
-shape_of-deleted-then-not-r c =
-    c.deleted-1.given ∙
-    (c.loop-k.inv.1.0.0.room_deleted ∙ sym c.requires.1.0.0.room_deleted)
-
-pub shape_of-rows-then-not-r : goal.shape_of-rows-then-not-r
-shape_of-rows-then-not-r c =
-    c.rows-1.given ∙
-    ((settled_so_far (goal.at.shape_of-rows-then-not-r c).At-loop-k).rows_right.size ∙ sym (settled_at_first (goal.at.shape_of-rows-then-not-r c).Start).rows_right.size)
-
-pub shape_of-table-then-not-r : goal.shape_of-table-then-not-r
-shape_of-table-then-not-r c =
-    c.table-1.given ∙
-    (c.loop-k.inv.1.0.1.size ∙ sym c.requires.1.0.1.size)
-
-pub shape_of-up-then-not-r : goal.shape_of-up-then-not-r
-shape_of-up-then-not-r c =
-    c.up-1.given ∙
-    ((settled_so_far (goal.at.shape_of-up-then-not-r c).At-loop-k).size_up ∙ sym (settled_at_first (goal.at.shape_of-up-then-not-r c).Start).size_up)
-
-pub shape_of-down-then-not-r : goal.shape_of-down-then-not-r
-shape_of-down-then-not-r c =
-    c.down-1.given ∙
-    ((settled_so_far (goal.at.shape_of-down-then-not-r c).At-loop-k).size_down ∙ sym (settled_at_first (goal.at.shape_of-down-then-not-r c).Start).size_down)
+crew_level-r-requires c =
+    record {
+      crews_given = (c.requires.crews_given, c.loop-k-test.true);
+      names = c.loop-k.invariant.1.0;
+      serves_of = c.loop-k.invariant.1.1;
+    }
 
 pub returns-then-not-r : goal.returns-then-not-r
 returns-then-not-r c =
@@ -82,18 +57,18 @@ returns-then-not-r c =
 
 pub overflow_add-ups : goal.overflow_add-ups
 overflow_add-ups c =
-    let parts = c.requires.0.parts in
+    let parts = c.requires.crews_given.parts in
     let settled = (c.crew_level-r.ensures.0.each parts).settled (was_found _ c.if-not-r.false) in
-    omega (arith, few (serves_own parts.accepted settled).few_up c.loop-k-test.taken (crews_few parts))
+    omega (arith, few (serves_own parts.accepted settled).few_up c.loop-k-test.true (crews_few parts))
 
 pub overflow_add-k : goal.overflow_add-k
 overflow_add-k c =
-    omega (arith, small c.loop-k-test.taken (crews_few c.requires.0.parts))
+    omega (arith, small c.loop-k-test.true (crews_few c.requires.crews_given.parts))
 
 pub loop-k-preserved : goal.loop-k-preserved
 loop-k-preserved c =
-    let names = c.loop-k.inv.1.0.0 in (
-      omega (arith, c.loop-k-test.taken),
+    let names = c.loop-k.invariant.1.0.0 in (
+      omega (arith, c.loop-k-test.true),
       (
         (
           record {
@@ -107,16 +82,16 @@ loop-k-preserved c =
     )
 
 pub shape_of-added : goal.shape_of-added
-shape_of-added c = c.loop-k.invariant.1.0.0.room_added ∙ sym c.requires.1.0.0.room_added
+shape_of-added c = c.loop-k.invariant.1.0.0.room_added ∙ sym c.requires.names.0.room_added
 
 pub shape_of-deleted : goal.shape_of-deleted
-shape_of-deleted c = c.loop-k.invariant.1.0.0.room_deleted ∙ sym c.requires.1.0.0.room_deleted
+shape_of-deleted c = c.loop-k.invariant.1.0.0.room_deleted ∙ sym c.requires.names.0.room_deleted
 
 pub shape_of-rows : goal.shape_of-rows
 shape_of-rows c = (settled_so_far (goal.at.shape_of-rows c).At-loop-k).rows_right.size ∙ sym (settled_at_first (goal.at.shape_of-rows c).Start).rows_right.size
 
 pub shape_of-table : goal.shape_of-table
-shape_of-table c = c.loop-k.invariant.1.0.1.size ∙ sym c.requires.1.0.1.size
+shape_of-table c = c.loop-k.invariant.1.0.1.size ∙ sym c.requires.names.1.size
 
 pub shape_of-up : goal.shape_of-up
 shape_of-up c = (settled_so_far (goal.at.shape_of-up c).At-loop-k).size_up ∙ sym (settled_at_first (goal.at.shape_of-up c).Start).size_up

@@ -31,17 +31,17 @@ slice_bounds-fill_row-end c = sym c.crew_table.ensures.size
 pub fill_row-requires : goal.fill_row-requires
 fill_row-requires c =
     (
-      c.loop-k-test.taken,
-      (refl, (c.crew_table.ensures.size, c.loop-k.inv.1.0.size)),
+      c.loop-k-test.true,
+      (refl, (c.crew_table.ensures.size, c.loop-k.invariant.1.0.size)),
     )
 
 pub loop-k-preserved : goal.loop-k-preserved
 loop-k-preserved c =
     (
-      omega (arith, c.loop-k-test.taken),
+      omega (arith, c.loop-k-test.true),
       (
-        reach_next c.loop-k.inv.1.0
-            (filled_row c.loop-k.inv.1.0.size c.crew_table.ensures
+        reach_next c.loop-k.invariant.1.0
+            (filled_row c.loop-k.invariant.1.0.size c.crew_table.ensures
             c.fill_row.ensures),
         c.crew_table.ensures.size,
       ),

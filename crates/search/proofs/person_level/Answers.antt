@@ -11,7 +11,7 @@ use Rattle.search.proofs.StepLaws.{room_up, room_below, room_down, person-search
 use Rattle.search.proofs.person_level.Goals as goal
 
 pub person_table-requires : goal.person_table-requires
-person_table-requires c = (c.requires.1.rows_right.size, c.requires.0.rows)
+person_table-requires c = (c.requires.driving.rows_right.size, c.requires.person_given.rows)
 
 pub slice_bounds-settle_level-end : goal.slice_bounds-settle_level-end
 slice_bounds-settle_level-end c = refl
@@ -26,8 +26,8 @@ pub settle_level-requires : goal.settle_level-requires
 unfolding contents_of
 settle_level-requires c =
     let pre = c.requires in
-    let given = pre.0 in
-    let drive = pre.1 in
+    let given = pre.person_given in
+    let drive = pre.driving in
     let low = given.accepted.book.sized.crews_most in
     record {
       wants = small_wants given.accepted.book;
@@ -44,8 +44,8 @@ settle_level-requires c =
 pub returns : goal.returns
 unfolding contents_of
 returns c =
-    let given = c.requires.0 in
-    let drive = c.requires.1 in
+    let given = c.requires.person_given in
+    let drive = c.requires.driving in
     let level = c.settle_level.ensures in
     let bads = bad-all (contents_of c.args.b) (small_wants given.accepted.book) c.args.b.sizes.crews false (omega arith)
     (λ h. absurd (omega arith)) level.size level.forbidden in

@@ -8,10 +8,10 @@ pub slice_bounds-fill_reach-end : goal.slice_bounds-fill_reach-end
 slice_bounds-fill_reach-end c = refl
 
 pub fill_reach-requires : goal.fill_reach-requires
-fill_reach-requires c = (juniors_room c.requires.0, refl)
+fill_reach-requires c = (juniors_room c.requires.crew_parts, refl)
 
 pub first_rows-requires : goal.first_rows-requires
-first_rows-requires c = c.requires.1.0.0
+first_rows-requires c = c.requires.rows_len.0
 
 pub slice_bounds-crew_levels-end : goal.slice_bounds-crew_levels-end
 slice_bounds-crew_levels-end c = refl
@@ -25,13 +25,12 @@ slice_bounds-crew_levels-end-3 c = sym c.fill_reach.ensures.0
 pub crew_levels-requires : goal.crew_levels-requires
 crew_levels-requires c =
     let pre = c.requires in
-    let reached = c.fill_reach.ensures in (
-      record { parts = pre.0; reach_size = reached.0; reaching = reached.1 },
-      (
-        (record { room_added = refl; room_deleted = refl }, pre.1.0.1),
-        parts_first c.first_rows.ensures pre.1.1.0 pre.1.1.1,
-      ),
-    )
+    let reached = c.fill_reach.ensures in
+    record {
+      crews_given = record { parts = pre.crew_parts; reach_size = reached.0; reaching = reached.1 };
+      names = (record { room_added = refl; room_deleted = refl }, pre.rows_len.1);
+      serves_of = parts_first c.first_rows.ensures pre.up_len.0 pre.up_len.1;
+    }
 
 pub returns : goal.returns
 returns c = c.crew_levels.ensures

@@ -1,6 +1,5 @@
 -- The flags from place 320 on: after `a` attributes those of the first `a` are written. The measure is the attributes left. Assumes nothing.
 use mathlib.Core.Path.{◌∙◌}
-use Prim.Native.Nat.{◌-◌}
 use Rattle.shown.proofs.HigherLaws.{extended_none, extended_more, extended-all}
 use Rattle.shown.proofs.extend.Goals as goal
 
@@ -13,7 +12,7 @@ extend_attribute-requires c =
 
 pub loop-a-preserved : goal.loop-a-preserved
 loop-a-preserved c =
-    extended_more c.loop-a.inv c.loop-a-test.taken c.extend_attribute.ensures
+    extended_more c.loop-a.invariant c.loop-a-test.true c.extend_attribute.ensures
 
 pub shape_of-x : goal.shape_of-x
 shape_of-x c = c.loop-a.invariant.size

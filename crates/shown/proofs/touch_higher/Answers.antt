@@ -1,6 +1,5 @@
 -- What a fact adds from place 320 on: a value by its place; a membership by its crew's row, value by value upwards, where the invariant says that none
 -- below `j` is handed on; the measure is the values left. Assumes nothing.
-use Prim.Native.Nat.{◌-◌}
 use native.Mathlib.Omega.{arith}
 use Rattle.shown.specs.Inner.Shown.{not_higher}
 use Rattle.shown.proofs.HigherLaws.{touch_not_higher, none_handed, one-handed, none-handed-more, none-handed-all}

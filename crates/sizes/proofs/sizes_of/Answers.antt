@@ -6,8 +6,8 @@ pub returns : goal.returns
 unfolding sizes_of
 returns c =
     rw (
-  c.byte_at-persons.ensures,
-  c.byte_at-crews.ensures,
-  c.byte_at-attrs.ensures,
-  c.counts_of-counts.ensures,
-)
+      c.byte_at-persons.ensures,
+      c.byte_at-crews.ensures,
+      c.byte_at-attrs.ensures,
+      c.counts_of-counts.ensures,
+    )

@@ -1,7 +1,6 @@
 -- `sizes::value_count` meets its contract: the invariant says that n is the sum of the counts below a; the measure is what is left of A.
 -- Assumes nothing.
 use mathlib.Core.Path.{ap, ◌∙◌}
-use Prim.Native.Nat.{◌-◌}
 use Rattle.quantifiers.specs.Quantifiers.{sum_below}
 use Rattle.quantifiers.proofs.BelowLaws.{sum_more, sum-none}
 use Rattle.sizes.specs.Sizes.{values_of}

@@ -8,20 +8,20 @@ use Rattle.words.proofs.put_column.Goals as goal
 
 pub loop-k-init : goal.loop-k-init
 loop-k-init c =
-    put_first c.args.s.now c.requires.0.1.1 c.requires.1
+    put_first c.args.s.now c.requires.p_bound.1.1 c.requires.column_clear
 
 pub bounds-s-k : goal.bounds-s-k
-bounds-s-k c = omega (arith, c.requires.0.1.0, c.loop-k-test.true)
+bounds-s-k c = omega (arith, c.requires.p_bound.1.0, c.loop-k-test.true)
 
 pub add-requires : goal.add-requires
 add-requires c = (c.loop-k-test.true, c.loop-k.invariant.size)
 
 pub overflow_add-k : goal.overflow_add-k
-overflow_add-k c = omega (arith, c.loop-k.inv.fits)
+overflow_add-k c = omega (arith, c.loop-k.invariant.fits)
 
 pub loop-k-preserved-then-s-k : goal.loop-k-preserved-then-s-k
 loop-k-preserved-then-s-k c =
-    put_more c.loop-k-test.true c.loop-k.inv _ (member_one c.args.p c.requires.0.0)
+    put_more c.loop-k-test.true c.loop-k.invariant _ (member_one c.args.p c.requires.p_bound.0)
     c.if-s-k.true c.add.ensures
 
 pub overflow_add-k-else-s-k : goal.overflow_add-k-else-s-k
@@ -31,8 +31,8 @@ pub loop-k-preserved : goal.loop-k-preserved
 loop-k-preserved c = put_skip c.loop-k-test.true c.loop-k.invariant c.if-s-k.false
 
 pub shape_of-held : goal.shape_of-held
-shape_of-held c = c.loop-k.invariant.size ∙ sym c.requires.0.1.1
+shape_of-held c = c.loop-k.invariant.size ∙ sym c.requires.p_bound.1.1
 
 pub returns : goal.returns
 returns c =
-    put_all c.loop-k.invariant (omega arith) c.requires.0.1.0 c.requires.0.1.1
+    put_all c.loop-k.invariant (omega arith) c.requires.p_bound.1.0 c.requires.p_bound.1.1

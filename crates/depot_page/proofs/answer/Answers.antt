@@ -1,0 +1,27 @@
+-- `depot_page::answer` meets its contract: the promise of page on a table of 1,024 bytes, and the text of its answer. Assumes nothing.
+use mathlib.Core.Path.{sym}
+use Prim.Native.Nat.{ℕ}
+use lib.ListN.{length-replicate}
+use lib.Seq.{length-take-le}
+use Rattle.answers.proofs.WrittenLaws.{end-within}
+use Rattle.depot_page.proofs.PrintedLaws.{printed, filled_written, refused-written}
+use Rattle.depot_page.proofs.answer.Goals as goal
+
+pub slice_bounds-page-end-2 : goal.slice_bounds-page-end-2
+slice_bounds-page-end-2 c =
+    sym (length-take-le c.args.n c.args.text.now c.requires.0)
+
+pub returns-in-Filled : goal.returns-in-Filled
+returns-in-Filled c =
+    let paged = c.page-paged in
+    let written = filled_written paged.last.1.0 c.enum_told-1.given.1
+    c.put_table.ensures in
+    (end-within written, printed paged.result (length-replicate {A = ℕ} 1024 0) paged.ensures written.upto)
+
+pub returns-in-Refused : goal.returns-in-Refused
+returns-in-Refused c =
+    let paged = c.page-paged in
+    let written = refused-written paged.last.1.0 _ c.paged-1.given.1
+    c.refusal_number-number.ensures c.refusal_line-line.ensures
+    c.put_refused.ensures in
+    (end-within written, printed paged.result (length-replicate {A = ℕ} 1024 0) paged.ensures written.upto)

@@ -1,0 +1,15 @@
+-- `reader::read_frame` meets its contract: the line's end is within the book, and the cursor's number is within its bound, as `next`
+-- asks. Assumes nothing.
+use native.Mathlib.Omega.{arith}
+use Prim.Native.Nat.{◌≤◌}
+use lib.ListN.{length}
+use Rattle.lines.proofs.LineLaws.{line_within}
+use Rattle.reader.proofs.read_frame.Goals as goal
+
+pub next-q-requires : goal.next-q-requires
+next-q-requires c =
+    let r = c.new-r.result in
+    let book = c.new-r.ensures.0 in
+    let within : r.at ≤ length r.book.now = rw (book, c.new-r.ensures.1.0) c.requires.0 in
+    let size : length r.book.now ≤ 65536 = rw book c.requires.1.0 in
+    (omega (arith, line_within r.book.now r.at _ c.current-line.ensures.ends within), omega (arith, c.new-r.ensures.1.1))
