@@ -5,19 +5,19 @@ use Rattle.bixorgun.proofs.bixorgun_show.Goals as goal
 pub returns-in-Refused : goal.returns-in-Refused
 returns-in-Refused c =
     let s = c.show-s in
-    let r = c.outcome-1.given.0.0 in
-    hidden-coded _ c.args.view.now _ r (view_hidden s.result _ s.ensures r c.outcome-1.given.1) c.refusal_code.ensures
+    let r = c.in-Refused.r in
+    hidden-coded _ c.args.view.now _ r (view_hidden s.result _ s.ensures r c.in-Refused.is) c.refusal_code.ensures
 
 pub returns-then-view-lt20 : goal.returns-then-view-lt20
 returns-then-view-lt20 c =
     let s = c.show-s in
     no_room-coded _ c.args.view.now _ s.result.sets s.result.crews
-    (view_shown s.result _ s.ensures c.enum_told-1.given.1) c.if-view-lt20.true
+    (view_shown s.result _ s.ensures c.in_default.is) c.if-view-lt20.true
     c.code_of.ensures
 
 pub returns : goal.returns
 returns c =
     let s = c.show-s in
     shown-coded _ c.args.view.now _ s.result.sets s.result.crews _
-    (view_shown s.result _ s.ensures c.enum_told-1.given.1) c.if-view-lt20.false
+    (view_shown s.result _ s.ensures c.in_default.is) c.if-view-lt20.false
     c.code_of-2.ensures c.write_view.ensures

@@ -3,4 +3,4 @@ use mathlib.Core.Path.{refl}
 use Rattle.bixorgun.proofs.denial_value.Goals as goal
 
 pub returns-in-Unmet : goal.returns-in-Unmet
-returns-in-Unmet c = rw c.d-1.given.1 refl
+returns-in-Unmet c = rw c.in-Unmet.is refl

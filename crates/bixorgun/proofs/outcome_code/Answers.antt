@@ -2,7 +2,7 @@
 use Rattle.bixorgun.proofs.outcome_code.Goals as goal
 
 pub returns-in-Done : goal.returns-in-Done
-returns-in-Done c = rw c.enum_told-1.given.1 c.code_of.ensures
+returns-in-Done c = rw c.in-Done.is c.code_of.ensures
 
 pub returns-in-Refused : goal.returns-in-Refused
-returns-in-Refused c = rw c.o-1.given.1 c.refusal_code.ensures
+returns-in-Refused c = rw c.in-Refused.is c.refusal_code.ensures

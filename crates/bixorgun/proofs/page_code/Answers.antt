@@ -3,9 +3,9 @@ use mathlib.Core.Path.{refl, ◌∙◌}
 use Rattle.bixorgun.proofs.page_code.Goals as goal
 
 pub returns-in-Filled : goal.returns-in-Filled
-returns-in-Filled c = rw c.enum_told-1.given.1 c.code_of.ensures
+returns-in-Filled c = rw c.in-Filled.is c.code_of.ensures
 
 pub returns-in-Refused : goal.returns-in-Refused
 returns-in-Refused c =
-    rw c.a-1.given.1
+    rw c.in-Refused.is
     (c.code_of-in-Refused.ensures ∙ rw (c.refusal_number.ensures, c.refusal_line.ensures) refl)

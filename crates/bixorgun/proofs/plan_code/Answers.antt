@@ -3,12 +3,12 @@ use mathlib.Core.Path.{refl, ◌∙◌}
 use Rattle.bixorgun.proofs.plan_code.Goals as goal
 
 pub returns-in-NoWay : goal.returns-in-NoWay
-returns-in-NoWay c = rw c.enum_told-1.given.1 c.code_of.ensures
+returns-in-NoWay c = rw c.in-NoWay.is c.code_of.ensures
 
 pub returns-in-Plan : goal.returns-in-Plan
-returns-in-Plan c = rw c.a-1.given.1 c.code_of-in-Plan.ensures
+returns-in-Plan c = rw c.in-Plan.is c.code_of-in-Plan.ensures
 
 pub returns-in-Refused : goal.returns-in-Refused
 returns-in-Refused c =
-    rw c.a-in-Refused-1.given.1
+    rw c.in-Refused.is
     (c.code_of-in-Refused.ensures ∙ rw (c.refusal_number.ensures, c.refusal_line.ensures) refl)

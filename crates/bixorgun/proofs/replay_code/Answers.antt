@@ -3,9 +3,9 @@ use mathlib.Core.Path.{refl, ◌∙◌}
 use Rattle.bixorgun.proofs.replay_code.Goals as goal
 
 pub returns-in-Judged : goal.returns-in-Judged
-returns-in-Judged c = rw c.a-1.given.1 c.judgement_code.ensures
+returns-in-Judged c = rw c.in-Judged.is c.judgement_code.ensures
 
 pub returns-in-Refused : goal.returns-in-Refused
 returns-in-Refused c =
-    rw c.a-in-Refused-1.given.1
+    rw c.in-Refused.is
     (c.code_of.ensures ∙ rw (c.refusal_number.ensures, c.refusal_line.ensures) refl)

@@ -1,5 +1,5 @@
 -- `bixorgun::write_view` meets its contract: the first i sets are written; the measure is how many are left. Assumes nothing.
-use mathlib.Core.Path.{ap, ◌∙◌}
+use mathlib.Core.Path.{◌≡◌, ap, ◌∙◌}
 use mathlib.Core.List.{List}
 use Prim.Native.Nat.{ℕ, ◌-◌}
 use native.Mathlib.Omega.{arith}
@@ -13,7 +13,7 @@ loop-i-init c = sets_none _ _
 
 pub put_two-requires : goal.put_two-requires
 put_two-requires c =
-    let eight = c.good.0.1.0.1 in
+    let eight : length c.args.sets ≡ 8 = omega arith in
     let written = c.loop-i.invariant in (
       omega (arith, c.loop-i-test.true),
       omega (arith, view_length eight c.requires written, c.requires, c.loop-i-test.true),
@@ -21,19 +21,19 @@ put_two-requires c =
 
 pub loop-i-preserved : goal.loop-i-preserved
 loop-i-preserved c =
-    let eight = c.good.0.1.0.1 in
+    let eight : length c.args.sets ≡ 8 = omega arith in
     let written = c.loop-i.invariant in
     sets_more eight c.requires written c.loop-i-test.true c.put_two.ensures
 
 pub put_two-requires-2 : goal.put_two-requires-2
 put_two-requires-2 c =
-    let eight = c.good.0.1.0.1 in
+    let eight : length c.args.sets ≡ 8 = omega arith in
     let written = c.loop-i.invariant in
     (omega arith, omega (arith, view_length eight c.requires written, c.requires))
 
 pub put_two-requires-3 : goal.put_two-requires-3
 put_two-requires-3 c =
-    let eight = c.well_formed.0.1.0.1 in
+    let eight : length c.args.sets ≡ 8 = omega arith in
     let written = c.loop-i.invariant in (
       omega arith,
       rw c.put_two-2.ensures
@@ -42,14 +42,14 @@ put_two-requires-3 c =
 
 pub shape_of-view : goal.shape_of-view
 shape_of-view c =
-    let eight = c.good.0.1.0.1 in
+    let eight : length c.args.sets ≡ 8 = omega arith in
     let written = c.loop-i.invariant in
     ap length c.put_two-3.ensures ∙ simp length-set
     (ap length c.put_two-2.ensures ∙ simp length-set (view_length eight c.requires written))
 
 pub returns : goal.returns
 returns c =
-    let eight = c.good.0.1.0.1 in
+    let eight : length c.args.sets ≡ 8 = omega arith in
     let written = c.loop-i.invariant in
     c.put_two-3.ensures
     ∙ ap (λ (v : List ℕ). put_two v 18 c.args.crews) c.put_two-2.ensures

@@ -13,13 +13,13 @@ loop-i-init c = (omega arith, (omega arith, omega arith))
 
 pub loop-i-preserved : goal.loop-i-preserved
 loop-i-preserved c =
-    let xs = c.args.t1 in
-    let whole : length xs ≡ 32 = c.well_formed.0.1.0.1 in
+    let xs = c.args.juniors in
+    let whole : length xs ≡ 32 = omega arith in
     let step = total-step 32 xs c.loop-i.i (omega arith) in
-    (omega arith, (omega arith, omega (arith, c.type_size.ensures.0)))
+    (omega arith, (omega arith, omega (arith, c.size_of-n.ensures.0)))
 
 pub returns : goal.returns
 returns c =
-    let xs = c.args.t1 in
-    let whole : length xs ≡ 32 = c.well_formed.0.1.0.1 in
+    let xs = c.args.juniors in
+    let whole : length xs ≡ 32 = omega arith in
     omega (arith, total_end 32 xs c.loop-i.i (omega arith))

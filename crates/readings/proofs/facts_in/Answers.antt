@@ -13,13 +13,13 @@ loop-i-init c = (omega arith, (omega arith, omega arith))
 
 pub loop-i-preserved : goal.loop-i-preserved
 loop-i-preserved c =
-    let xs = c.args.t1 in
-    let whole : length xs ≡ 1792 = c.well_formed.0.1.0.1 in
+    let xs = c.args.ledger in
+    let whole : length xs ≡ 1792 = omega arith in
     let step = total-step 8 xs c.loop-i.i (omega arith) in
     (omega arith, (omega arith, omega (arith, c.byte_size-n.ensures.0)))
 
 pub returns : goal.returns
 returns c =
-    let xs = c.args.t1 in
-    let whole : length xs ≡ 1792 = c.well_formed.0.1.0.1 in
+    let xs = c.args.ledger in
+    let whole : length xs ≡ 1792 = omega arith in
     omega (arith, total_end 8 xs c.loop-i.i (omega arith))

@@ -13,14 +13,15 @@ use Rattle.readings.proofs.put_book.Goals.{After-put_bytes-sized, After-put_coun
 
 -- The sizes are written, with all eight counts.
 sized : (c : After-put_bytes-sized)
-    → Written c.args.text.now 0 (hex (sizes_bytes c.args.b.sizes)) c.put_bytes-sized.new.1.1.0 c.put_bytes-sized.result
+    → Written c.args.text.now 0 (hex (sizes_bytes c.args.b.sizes)) c.put_bytes-sized.new.text c.put_bytes-sized.result
 sized c = written_as c.put_bytes-sized.ensures (ap hex c.sizes_bytes-sizes.ensures)
 
 -- The sizes and the counts are 39 characters: there is room for the four behind them.
-counted_room : (c : After-put_count-counted) → c.put_count-counted.result + 4 ≤ length c.put_count-counted.new.1.1.0
+counted_room : (c : After-put_count-counted) → c.put_count-counted.result + 4 ≤ length c.put_count-counted.new.text
 unfolding hex count
 counted_room c =
-    let edged = written_more (sized c) c.put_count-edged.ensures in
+    let sizes = written_as c.put_bytes-sized.ensures (ap hex c.sizes_bytes-sizes.ensures) in
+    let edged = written_more sizes c.put_count-edged.ensures in
     let counted = written_more (written_more edged c.put_count-ruled.ensures) c.put_count-counted.ensures in
     room_behind 39 4 counted refl (omega (arith, c.requires.1))
 
@@ -58,7 +59,7 @@ shape_of-text c =
     let ruled = c.put_count-ruled.ensures in
     let counted = c.put_count-counted.ensures in
     let whole = written_more (written_more (written_more (sized (goal.at.shape_of-text c).After-put_bytes-sized) edged) ruled) counted in
-    c.put_line.ensures.size ∙ length-set c.put_count-counted.last.1.1.0 _ 32 ∙ whole.size
+    c.put_line.ensures.size ∙ length-set c.put_count-counted.new.text _ 32 ∙ whole.size
 
 pub returns : goal.returns
 unfolding contents_of
@@ -66,6 +67,6 @@ returns c =
     let edged = c.put_count-edged.ensures in
     let ruled = c.put_count-ruled.ensures in
     let counted = c.put_count-counted.ensures in
-    book_written (contents_of c.args.b) (sized (goal.at.returns c).After-put_bytes-sized) c.IsEdge-count.ensures edged ruled
+    book_written (contents_of c.args.b) (sized (goal.at.returns c).After-put_bytes-sized) c.edge_count-edges.ensures edged ruled
     c.facts_in-facts.ensures counted (omega (arith, counted_room (goal.at.returns c).After-put_count-counted))
     c.put_line.ensures

@@ -4,12 +4,11 @@ use Rattle.readings.proofs.put_reading.Goals as goal
 
 pub returns-in-Refused : goal.returns-in-Refused
 returns-in-Refused c =
-    let outcome = c.outcome-1.given in
-    refused_answered c.args.r outcome.0.0 outcome.1
+    refused_answered c.args.r c.in-Refused.f c.in-Refused.is
     c.refusal_number-number.ensures c.refusal_line-line.ensures
     c.put_refused.ensures
 
 pub returns-in-Accepted : goal.returns-in-Accepted
 returns-in-Accepted c =
-    accepted_answered c.args.r c.enum_told-1.given.1
+    accepted_answered c.args.r c.in-Accepted.is
     c.put_book.ensures

@@ -1,12 +1,12 @@
 -- `readings::size_of` meets its contract. The invariant: n is how many numbers below v are members, at most v. The measure is
 -- what is left of the numbers below w. Assumes nothing.
 use mathlib.Core.Path.{◌≡◌, refl, ap, sym, ◌∙◌}
-use mathlib.Core.Logic.{⊎_elim}
 use Prim.Native.Nat.{◌-◌}
 use native.Mathlib.Omega.{arith}
 use Rattle.answers.specs.Answers.{size}
 use Rattle.answers.proofs.AnswerLaws.{size_in, size_out}
 use Rattle.readings.proofs.size_of.Goals as goal
+use Rattle.readings.proofs.size_of.Goals.{then-has, else-has}
 
 pub loop-v-init : goal.loop-v-init
 unfolding size
@@ -17,10 +17,10 @@ loop-v-preserved c =
     let x = c.args.x in
     let v = c.loop-v.v in
     let is = sym c.has.ensures in
-    ⊎_elim
-    (λ w. let more = size_in x v (is ∙ w.0.true) in (omega arith, (omega arith, omega arith)))
-    (λ w. let same = size_out x v (is ∙ w.0.false) in (omega arith, (omega arith, omega arith)))
-    c.if-has.branch
+    elim c.if-has.branch [
+      then-has w ↦ let more = size_in x v (is ∙ w.if-has.true) in (omega arith, (omega arith, omega arith))
+    | else-has w ↦ let same = size_out x v (is ∙ w.if-has.false) in (omega arith, (omega arith, omega arith))
+    ]
 
 pub returns : goal.returns
 returns c =
