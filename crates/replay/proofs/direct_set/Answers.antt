@@ -1,7 +1,7 @@
 -- `replay::direct_set` meets its contract: the invariant says that `set` has the facts of the row below i that the person has; the
 -- measure is what is left of n. Assumes nothing.
 use mathlib.Core.Path.{ap, ◌∙◌}
-use Prim.Native.Nat.{ℕ, ◌-◌}
+use Prim.Native.Nat.{ℕ}
 use Rattle.facts.specs.Facts.{holds}
 use Rattle.ledger.specs.Show.{set_below}
 use Rattle.ledger.proofs.OperationLaws.{set_more, set-none}

@@ -2,14 +2,12 @@
 -- Assumes nothing.
 use mathlib.Core.Path.{◌≡◌, refl, sym, ◌∙◌}
 use mathlib.Core.Bool.{Bool, true, false}
-use Prim.Native.Nat.{◌≤◌, ◌-◌}
+use Prim.Native.Nat.{◌≤◌}
 use lib.ListN.{length, get_or}
 use Rattle.frames.specs.declared.Want.{Want}
 use Rattle.frames.specs.Book.{contents_of}
-use Rattle.quantifiers.specs.Quantifiers.{all}
 use Rattle.quantifiers.proofs.ListLaws.{all_out, all_pass, all_fail}
 use Rattle.replay.specs.Met.{wants, direct_set}
-use Rattle.replay.specs.Inner.Direct.{wanted}
 use native.Mathlib.Omega.{arith}
 use Rattle.replay.proofs.has_wanted.Goals as goal
 use Rattle.replay.proofs.has_wanted.Goals.{Start}

@@ -13,7 +13,6 @@ use Rattle.frames.specs.declared.Want.{Want}
 use Rattle.frames.specs.declared.Query.{Query}
 use Rattle.quantifiers.specs.Quantifiers.{all}
 use Rattle.ledger.specs.Show.{set_below, value_set}
-use Rattle.replay.specs.Met.{wants}
 use Rattle.replay.specs.Inner.Direct.{wanted}
 use Rattle.replay.proofs.has_wanted.Given as goal
 

@@ -3,7 +3,6 @@ use mathlib.Core.Path.{sym, ◌∙◌}
 use Rattle.frames.specs.Book.{contents_of}
 use Rattle.replay.specs.Chains.{fives}
 use Rattle.replay.proofs.LentLaws.{run-standing, course_ended, course_stopped}
-use borrow.Author.Rules.{rules}
 use Rattle.replay.proofs.run_in.Goals as goal
 
 pub run_listed-k-requires : goal.run_listed-k-requires

@@ -11,8 +11,8 @@ loop-i-preserved c =
     let b = standing c.args.z c.args.juniors.now c.args.rules.now in
     let more : turn.i < length c.args.plan.now / 5 = omega (arith, c.count_of-n.ensures, c.loop-i-test.true) in
     let left =
-        left_next b c.args.roles c.args.plan.now c.args.ledger.now turn.i turn.ledger c.step.new.ledger c.step.result more
-        turn.invariant.1 c.step.ensures.0 c.step.ensures.1 c.if-step.true in
+    left_next b c.args.roles c.args.plan.now c.args.ledger.now turn.i turn.ledger c.step.new.ledger c.step.result more
+    turn.invariant.1 c.step.ensures.0 c.step.ensures.1 c.if-step.true in
     (omega arith, left)
 
 pub returns-else-step : goal.returns-else-step
