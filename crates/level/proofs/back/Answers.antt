@@ -1,9 +1,9 @@
 -- The sweep that puts deletions back. Its invariant is `KeptBack`, and `Backing`: the last `quiet` moves before `i` put nothing back. Its turns and its
 -- measure are those of `close`; its notes go downwards from `end`. Assumes nothing.
 use mathlib.Core.Path.{sym, ◌∙◌}
-use Prim.Native.Nat.{◌+◌, ◌-◌, ◌<◌}
+use Prim.Native.Nat.{◌+◌, ◌<◌}
 use native.Mathlib.Omega.{arith}
-use lib.ListN.{length, length-set}
+use lib.ListN.{length-set}
 use Rattle.level.specs.Inner.Moves.{moves_in}
 use Rattle.level.proofs.MoveLaws.{listed_room}
 use Rattle.level.proofs.TurnLaws.{sweeping_anew, turn_ready, turn_quiet, sweeping-quiet, sweeping_ended, fired_less, quiet_less}
@@ -13,11 +13,10 @@ use Rattle.level.proofs.back.Goals as goal
 use Rattle.level.proofs.back.Goals.{Then-backs}
 
 pub loop-quiet-init : goal.loop-quiet-init
-loop-quiet-init c =
-    (
-      back_first (moves_in c.args.dels.now) c.args.subject c.args.out.now c.requires.ready_back,
-      sweeping_anew _ c.requires.deleted_len (omega arith) (λ h. h),
-    )
+loop-quiet-init c = (
+  back_first (moves_in c.args.dels.now) c.args.subject c.args.out.now c.requires.ready_back,
+  sweeping_anew _ c.requires.deleted_len (omega arith) (λ h. h),
+)
 
 pub turn_at-t-requires : goal.turn_at-t-requires
 turn_at-t-requires c = turn_ready c.loop-quiet.invariant.1 c.loop-quiet-test.true
@@ -64,8 +63,7 @@ overflow_sub-at c = omega (arith, room (goal.at.overflow_sub-at c).Then-backs, c
 
 pub note-requires : goal.note-requires
 note-requires c =
-    let kept = c.loop-quiet.invariant.0 in
-    (
+    let kept = c.loop-quiet.invariant.0 in (
       listed_fine c.requires.sound c.turn_at-t.ensures.fits c.move_at-m.ensures,
       omega (arith, room (goal.at.note-requires c).Then-backs, kept.size, kept.down, c.requires.ready_back.below, c.requires.ready_back.room),
     )

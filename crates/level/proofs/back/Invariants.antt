@@ -1,6 +1,5 @@
 -- The sweep that puts deletions back. Its invariant is `KeptBack`, and `Backing`: the last `quiet` moves before `i` put nothing back. Its turns and its
 -- measure are those of `close`; its notes go downwards from `end`. Assumes nothing.
-use Prim.Native.Nat.{◌-◌}
 use lib.ListN.{length}
 use Rattle.level.specs.Inner.Moves.{moves_in}
 use Rattle.level.proofs.TurnLaws.{steps_left}

@@ -2,9 +2,9 @@
 -- names; nothing is claimed of the names but that there are 160. The measure counts the additions that may follow, the names that are left and the
 -- moves that are not quiet. Assumes nothing.
 use mathlib.Core.Path.{sym, ◌∙◌}
-use Prim.Native.Nat.{◌-◌, ◌<◌}
+use Prim.Native.Nat.{◌<◌}
 use native.Mathlib.Omega.{arith}
-use lib.ListN.{length, length-set}
+use lib.ListN.{length-set}
 use Rattle.level.specs.Inner.Moves.{moves_in}
 use Rattle.level.proofs.MoveLaws.{listed_room}
 use Rattle.level.proofs.TurnLaws.{sweeping_anew, turn_ready, turn_quiet, sweeping-quiet, sweeping_ended, fired_less, quiet_less}
@@ -13,11 +13,10 @@ use Rattle.level.proofs.close.Goals as goal
 use Rattle.level.proofs.close.Goals.{Then-fires}
 
 pub loop-quiet-init : goal.loop-quiet-init
-loop-quiet-init c =
-    (
-      kept_first (moves_in c.args.adds.now) c.args.subject c.args.out.now c.requires.ready,
-      sweeping_anew _ c.requires.added_len (omega arith) (λ h. h),
-    )
+loop-quiet-init c = (
+  kept_first (moves_in c.args.adds.now) c.args.subject c.args.out.now c.requires.ready,
+  sweeping_anew _ c.requires.added_len (omega arith) (λ h. h),
+)
 
 pub turn_at-t-requires : goal.turn_at-t-requires
 turn_at-t-requires c = turn_ready c.loop-quiet.invariant.1 c.loop-quiet-test.true
@@ -51,8 +50,7 @@ overflow_add-start c =
 
 pub note-requires : goal.note-requires
 note-requires c =
-    let kept = c.loop-quiet.invariant.0 in
-    (
+    let kept = c.loop-quiet.invariant.0 in (
       listed_fine c.requires.sound c.turn_at-t.ensures.fits c.move_at-m.ensures,
       omega (arith, room (goal.at.note-requires c).Then-fires, kept.size, c.requires.ready.room),
     )

@@ -1,6 +1,6 @@
 -- All terms of a move, read where it stands: those from `j` on decide. The measure is the terms left. Assumes nothing.
 use mathlib.Core.Path.{refl, sym, ◌∙◌}
-use Prim.Native.Nat.{◌≤◌, ◌-◌}
+use Prim.Native.Nat.{◌≤◌}
 use native.Mathlib.Omega.{arith}
 use lib.ListN.{get_or}
 use Rattle.level.specs.Inner.Moves.{flags_met}
@@ -53,13 +53,12 @@ returns-then-not-x-k c =
     c.wide-k.ensures c.if-not-x-k.true)
 
 pub loop-j-preserved : goal.loop-j-preserved
-loop-j-preserved c =
-    (
-      omega arith,
-      c.loop-j.invariant.1
-          ∙ places_pass (reading (goal.at.loop-j-preserved c).After-wide-n) (λ k. get_or c.args.x.now k false) c.loop-j.j c.loop-j-test.true
-          c.wide-k.ensures c.if-not-x-k.false,
-    )
+loop-j-preserved c = (
+  omega arith,
+  c.loop-j.invariant.1
+      ∙ places_pass (reading (goal.at.loop-j-preserved c).After-wide-n) (λ k. get_or c.args.x.now k false) c.loop-j.j c.loop-j-test.true
+      c.wide-k.ensures c.if-not-x-k.false,
+)
 
 pub returns : goal.returns
 returns c =

@@ -1,7 +1,7 @@
 -- All terms of a move with its own fact put in, read where it stands: those from `j` on decide. The measure is the terms left. Assumes nothing.
 use native.Mathlib.Omega.{arith}
 use mathlib.Core.Path.{sym, ◌∙◌}
-use Prim.Native.Nat.{◌≤◌, ◌-◌}
+use Prim.Native.Nat.{◌≤◌}
 use lib.ListN.{get_or}
 use mathlib.Core.Bool.{false, ◌||◌}
 use Rattle.shown.specs.Inner.Shown.{touches}
@@ -50,11 +50,10 @@ pub bounds-ms-at-in-loop-j : goal.bounds-ms-at-in-loop-j
 bounds-ms-at-in-loop-j c = omega (arith, few (goal.at.bounds-ms-at-in-loop-j c).After-wide-n)
 
 pub lit-requires : goal.lit-requires
-lit-requires c =
-    (
-      fact_fits c.args.ms.now c.args.at c.requires.move_size_in_bounds.1 c.wide-f.ensures,
-      (term_fits (reading (goal.at.lit-requires c).After-wide-n) c.loop-j.j c.loop-j-test.true c.wide-k.ensures, c.requires.x_len),
-    )
+lit-requires c = (
+  fact_fits c.args.ms.now c.args.at c.requires.move_size_in_bounds.1 c.wide-f.ensures,
+  (term_fits (reading (goal.at.lit-requires c).After-wide-n) c.loop-j.j c.loop-j-test.true c.wide-k.ensures, c.requires.x_len),
+)
 
 pub returns-then-not-lit : goal.returns-then-not-lit
 returns-then-not-lit c =
@@ -63,13 +62,12 @@ returns-then-not-lit c =
     c.loop-j.j c.loop-j-test.true c.wide-k.ensures (sym c.lit.ensures ∙ c.if-not-lit.true))
 
 pub loop-j-preserved : goal.loop-j-preserved
-loop-j-preserved c =
-    (
-      omega arith,
-      c.loop-j.invariant.1
-          ∙ places_pass (reading (goal.at.loop-j-preserved c).After-wide-n) (λ k. get_or c.args.x.now k false || touches c.args.table.now c.wide-f.result k)
-          c.loop-j.j c.loop-j-test.true c.wide-k.ensures (sym c.lit.ensures ∙ c.if-not-lit.false),
-    )
+loop-j-preserved c = (
+  omega arith,
+  c.loop-j.invariant.1
+      ∙ places_pass (reading (goal.at.loop-j-preserved c).After-wide-n) (λ k. get_or c.args.x.now k false || touches c.args.table.now c.wide-f.result k)
+      c.loop-j.j c.loop-j-test.true c.wide-k.ensures (sym c.lit.ensures ∙ c.if-not-lit.false),
+)
 
 pub returns : goal.returns
 returns c =

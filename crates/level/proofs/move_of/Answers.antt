@@ -1,6 +1,5 @@
 -- The move of a rule: the places of the first `j` terms are written. The measure is the terms left. Assumes nothing.
 use mathlib.Core.Path.{refl}
-use Prim.Native.Nat.{◌-◌}
 use native.Mathlib.Omega.{arith}
 use Rattle.level.proofs.TermLaws.{places_first, zeros, places_more, move_made}
 use Rattle.level.proofs.move_of.Goals as goal

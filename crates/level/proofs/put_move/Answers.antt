@@ -1,5 +1,4 @@
 -- `level::put_move` meets its contract: the first `j` numbers of the move are written. The measure is the numbers left. Assumes nothing.
-use Prim.Native.Nat.{◌-◌}
 use native.Mathlib.Omega.{arith}
 use Rattle.level.proofs.MoveLaws.{put-none, put_more, put_all}
 use Rattle.level.proofs.put_move.Goals as goal

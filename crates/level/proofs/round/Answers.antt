@@ -27,7 +27,7 @@ back-at-requires c =
     record {
       sound = c.requires.sound_dels;
       ready_back = ready_back c.requires.lengths c.close-n.ensures.whole c.strip.ensures
-            c.build_rest.ensures;
+          c.build_rest.ensures;
       deleted_len = c.requires.names_deleted;
     }
 

@@ -2,14 +2,12 @@
 -- facts are allowed. Assumes nothing.
 use native.Mathlib.Omega.{arith}
 use mathlib.Core.Path.{sym, ◌∙◌}
-use lib.ListN.{length}
 use Rattle.level.specs.Inner.Moves.{moves_in}
 use Rattle.level.proofs.SettleLaws.{going_first, settled, stuck, go_on, smaller, result_found, result_none}
 use Rattle.level.proofs.settle.Goals as goal
 
 pub loop-e-init : goal.loop-e-init
-loop-e-init c =
-    (
+loop-e-init c = (
   going_first (moves_in c.args.adds.now) (moves_in c.args.dels.now) c.args.subject
       c.requires.lengths c.requires.allowed,
   (c.requires.names_added, c.requires.names_deleted),

@@ -4,7 +4,7 @@ use mathlib.Core.Path.{◌≡◌, sym, ◌∙◌, subst}
 use mathlib.Core.Bool.{true}
 use Rattle.frames.specs.declared.Rule.{Rule}
 use Rattle.level.specs.Inner.Terms.{GoodRule}
-use Rattle.level.specs.Inner.Chosen.{chosen_in, rule_at}
+use Rattle.level.specs.Inner.Chosen.{chosen_in}
 use Rattle.moves.specs.Inner.Listed.{Taken}
 use Rattle.moves.proofs.ListedLaws.{gathered_none, gathered_next, gathered_room, rule_same}
 use Rattle.moves.proofs.moves_of.Goals as goal

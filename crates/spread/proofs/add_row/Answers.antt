@@ -1,6 +1,5 @@
 -- `spread::add_row` meets its contract: the invariant says that the first k flags of the row are set for the persons; the measure is the flags left.
 -- Assumes nothing.
-use Prim.Native.Nat.{◌-◌}
 use native.Mathlib.Omega.{arith}
 use Rattle.spread.proofs.SpreadLaws.{row_lit_none, row_lit_more, row_lit_all}
 use Rattle.spread.proofs.add_row.Goals as goal

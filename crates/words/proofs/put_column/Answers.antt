@@ -1,7 +1,6 @@
 -- `words::put_column` meets its contract: the invariant says that the first k flags of the person are written, and that all other persons' stand; the
 -- measure is the flags left. Assumes nothing.
 use mathlib.Core.Path.{sym, ◌∙◌}
-use Prim.Native.Nat.{◌-◌}
 use native.Mathlib.Omega.{arith}
 use Rattle.words.proofs.WordLaws.{member_one, put_first, put_more, put_skip, put_all}
 use Rattle.words.proofs.put_column.Goals as goal
