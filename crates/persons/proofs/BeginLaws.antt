@@ -8,11 +8,11 @@ use native.Mathlib.Decide.{ℕ_discrete, dec_lt}
 use native.Mathlib.Omega.{arith}
 use lib.Bits.{bit_or}
 use lib.Dec.{ltb, eqb}
-use lib.ListN.{length, get_or}
+use lib.ListN.{get_or}
 use borrow.Author.Tests.{lt-ltb, le-ltb, eq-eqb, ne_eqb}
 use Rattle.sets.specs.Sets.{member}
 use Rattle.sets.proofs.SetLaws.{member-zero}
-use Rattle.words.specs.Inner.Words.{column, ColumnClear, ColumnPut}
+use Rattle.words.specs.Inner.Words.{ColumnClear, ColumnPut}
 use Rattle.words.proofs.WordLaws.{member-or, member_one, column_at}
 use Rattle.persons.specs.Inner.Persons.{Begins, NoFlags, Begun}
 

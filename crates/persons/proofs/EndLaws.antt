@@ -20,7 +20,6 @@ use Rattle.theory.proofs.FactLaws.{count_update}
 use Rattle.theory.proofs.SweepLaws.{add_none, add_more}
 use Rattle.shown.specs.Inner.Shown.{direct, touches}
 use Rattle.shown.proofs.ShownLaws.{direct_low, direct_in, put-direct, put_whole}
-use Rattle.level.specs.declared.Move.{Move}
 use Rattle.level.specs.Inner.Moves.{Moves, Sound, moves_in, move_at, ask_of}
 use Rattle.level.specs.Inner.Sweep.{fires_in}
 use Rattle.level.specs.Inner.World.{world}

@@ -2,15 +2,13 @@
 use mathlib.Core.Path.{◌≡◌, refl, ap, sym, ◌∙◌}
 use mathlib.Core.Bool.{Bool, true, false, not, ◌&&◌, and-true, and-false}
 use mathlib.Core.List.{List}
-use Prim.Native.Nat.{ℕ, ◌+◌, ◌*◌, ◌≤◌, ◌<◌}
-use native.Mathlib.Omega.{arith}
+use Prim.Native.Nat.{ℕ, ◌+◌, ◌≤◌, ◌<◌}
 use lib.Bits.{bit_and, bit_xor}
 use lib.ListN.{get_or, drop, get_or-replicate}
 use Rattle.quantifiers.specs.Quantifiers.{all}
 use Rattle.quantifiers.proofs.BoolLaws.{by_test}
 use Rattle.sets.specs.Sets.{member}
 use Rattle.sets.proofs.SetLaws.{member-and, member-zero}
-use Rattle.level.specs.declared.Move.{Move}
 use Rattle.level.specs.Inner.Moves.{Fine, places_of, flags_met, move_from}
 use Rattle.level.specs.Inner.Sweep.{fires_in}
 use Rattle.level.proofs.MoveLaws.{Reading, places_pass, places_fail, places_out, fact_flag}

@@ -9,11 +9,10 @@ pub loop-f-init : goal.loop-f-init
 loop-f-init c = adding_first _ _ _ _ _ c.requires.1.1.1.0 c.requires.1.1.1.1
 
 pub is_free-requires : goal.is_free-requires
-is_free-requires c =
-    (
-      c.loop-f-test.true,
-      (c.requires.0, (c.requires.1.0, (c.requires.1.1.0, c.loop-f.invariant.size))),
-    )
+is_free-requires c = (
+  c.loop-f-test.true,
+  (c.requires.0, (c.requires.1.0, (c.requires.1.1.0, c.loop-f.invariant.size))),
+)
 
 pub bounds-x-f : goal.bounds-x-f
 bounds-x-f c = omega (arith, c.loop-f.invariant.size)

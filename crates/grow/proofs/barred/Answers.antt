@@ -1,7 +1,5 @@
 -- `grow::barred` meets its contract: none of the first `h` facts bars `f`. The measure is the facts left. Assumes nothing.
 use mathlib.Core.Path.{sym, ◌∙◌}
-use mathlib.Core.Bool.{false}
-use Prim.Native.Nat.{◌-◌}
 use Rattle.quantifiers.proofs.BelowLaws.{any-zero, any_next, any_from_lem}
 use Rattle.grow.proofs.TableLaws.{none_passed}
 use native.Mathlib.Omega.{arith}

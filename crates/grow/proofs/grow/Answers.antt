@@ -8,15 +8,13 @@ pub gather-requires : goal.gather-requires
 gather-requires c = (c.requires.1.0, (c.requires.1.1.1.0, c.requires.1.1.0))
 
 pub add_all-n-requires : goal.add_all-n-requires
-add_all-n-requires c =
-    (
-      c.requires.0,
-      (c.requires.1.0, (c.gather.ensures.size, (c.requires.1.1.1.0, c.requires.1.1.1.1))),
-    )
+add_all-n-requires c = (
+  c.requires.0,
+  (c.requires.1.0, (c.gather.ensures.size, (c.requires.1.1.1.0, c.requires.1.1.1.1))),
+)
 
 pub lacks-requires : goal.lacks-requires
-lacks-requires c =
-    (
+lacks-requires c = (
   omega (arith, c.gather.ensures.size),
   omega (arith, c.add_all-n.ensures.size),
 )

@@ -1,11 +1,8 @@
 -- `grow::has_term` meets its contract: none of the first `j` terms is `k`. The measure is the terms left. Assumes nothing.
 use mathlib.Core.Path.{sym, ◌∙◌}
-use mathlib.Core.Bool.{false}
-use Prim.Native.Nat.{◌-◌}
-use lib.Dec.{eqb}
 use borrow.Author.Tests.{ne_eqb}
 use Rattle.quantifiers.proofs.BelowLaws.{any-zero, any_next}
-use Rattle.grow.specs.Inner.Tables.{term, says}
+use Rattle.grow.specs.Inner.Tables.{says}
 use Rattle.grow.proofs.TableLaws.{none_passed, says_from}
 use native.Mathlib.Omega.{arith}
 use Rattle.grow.proofs.has_term.Goals as goal
@@ -18,8 +15,7 @@ pub returns-then-wide-k : goal.returns-then-wide-k
 returns-then-wide-k c = sym (says_from _ _ _ _ c.loop-j-test.true (sym c.wide.ensures ∙ c.if-wide-k.true))
 
 pub loop-j-preserved : goal.loop-j-preserved
-loop-j-preserved c =
-    (
+loop-j-preserved c = (
   omega arith,
   any_next (is_term c.args.ts.now c.args.f
       c.args.k) _ c.loop-j.invariant.1

@@ -32,11 +32,10 @@ read_fact c =
     fact_read c.args.adds.now c.loop-quiet.i c.wide-f.ensures
 
 pub loop-quiet-init : goal.loop-quiet-init
-loop-quiet-init c =
-    (
-      growing-first (moves_in c.args.adds.now) c.requires.1,
-      sweeping_anew _ refl (omega arith) (λ h. h),
-    )
+loop-quiet-init c = (
+  growing-first (moves_in c.args.adds.now) c.requires.1,
+  sweeping_anew _ refl (omega arith) (λ h. h),
+)
 
 pub fires-who-requires : goal.fires-who-requires
 fires-who-requires c =
@@ -69,11 +68,10 @@ pub bounds-adds-i : goal.bounds-adds-i
 bounds-adds-i c = omega (arith, move_fits (goal.at.bounds-adds-i c).After-fires-who)
 
 pub put_whole-requires : goal.put_whole-requires
-put_whole-requires c =
-    (
-      fact_fits c.args.adds.now (14 * c.loop-quiet.i) (listed_stands c.requires.0 (listed (goal.at.put_whole-requires c).After-fires-who)) c.wide-f.ensures,
-      (c.requires.1.rows, c.loop-quiet.invariant.0.size),
-    )
+put_whole-requires c = (
+  fact_fits c.args.adds.now (14 * c.loop-quiet.i) (listed_stands c.requires.0 (listed (goal.at.put_whole-requires c).After-fires-who)) c.wide-f.ensures,
+  (c.requires.1.rows, c.loop-quiet.invariant.0.size),
+)
 
 pub next-i-requires-else-who-eq0 : goal.next-i-requires-else-who-eq0
 next-i-requires-else-who-eq0 c = listed (goal.at.next-i-requires-else-who-eq0 c).After-fires-who
@@ -85,11 +83,10 @@ loop-quiet-smaller c =
     c.if-who-eq0.false)
 
 pub loop-quiet-preserved : goal.loop-quiet-preserved
-loop-quiet-preserved c =
-    (
-      growing-more c.requires.0 c.loop-quiet.invariant.0 (listed (goal.at.loop-quiet-preserved c).After-fires-who) c.fires-who.ensures (read_fact (goal.at.loop-quiet-preserved c).After-put_whole) c.put_whole.ensures,
-      sweeping_anew _ refl (omega arith) (λ h. c.next-i-else-who-eq0.ensures.fits),
-    )
+loop-quiet-preserved c = (
+  growing-more c.requires.0 c.loop-quiet.invariant.0 (listed (goal.at.loop-quiet-preserved c).After-fires-who) c.fires-who.ensures (read_fact (goal.at.loop-quiet-preserved c).After-put_whole) c.put_whole.ensures,
+  sweeping_anew _ refl (omega arith) (λ h. c.next-i-else-who-eq0.ensures.fits),
+)
 
 pub shape_of-held : goal.shape_of-held
 shape_of-held c = c.loop-quiet.invariant.0.size ∙ sym c.requires.1.size

@@ -1,6 +1,6 @@
 -- `persons::meets` meets its contract: the invariant says that the terms from j on decide, of those left; the measure is the terms left. What a term
 -- asks is a flag (`term_fits`). Assumes nothing.
-use Prim.Native.Nat.{◌-◌, ◌≤◌, ◌<◌}
+use Prim.Native.Nat.{◌≤◌, ◌<◌}
 use native.Mathlib.Omega.{arith}
 use Rattle.level.proofs.MoveLaws.{Reading, few_terms, term_fits}
 use Rattle.persons.proofs.FiringLaws.{meeting_first, meeting_more, meeting_nobody, meeting_all}

@@ -1,6 +1,5 @@
 -- `rows::clear` meets its contract: the invariant says that the first i bytes are 0; the measure is how many are left. Assumes nothing.
 use mathlib.Core.Path.{sym, ◌∙◌}
-use Prim.Native.Nat.{◌-◌}
 use native.Mathlib.Omega.{arith}
 use Rattle.rows.proofs.RowLaws.{cleared_none, cleared_more, cleared_all}
 use Rattle.rows.proofs.clear.Goals as goal

@@ -1,7 +1,7 @@
 -- `rows::put_row` meets its contract: the invariant says that the first f bits of the row are put; the measure is how many are left. Assumes nothing.
 use mathlib.Core.Path.{sym, subst, ◌∙◌}
 use mathlib.Core.List.{List}
-use Prim.Native.Nat.{ℕ, ◌+◌, ◌-◌}
+use Prim.Native.Nat.{ℕ, ◌+◌}
 use native.Mathlib.Omega.{arith}
 use Rattle.words.specs.Inner.Words.{column}
 use Rattle.rows.specs.Inner.Rows.{RowPut}
@@ -17,14 +17,13 @@ put_value-requires c =
     ((pre.p_bound.0, c.loop-f-test.true), pre.p_bound.1)
 
 pub loop-f-preserved : goal.loop-f-preserved
-loop-f-preserved c =
-    (
-      omega (arith, c.loop-f-test.true),
-      subst (λ (l : List ℕ). RowPut c.args.z c.args.p (column c.args.held.now c.args.p) (c.loop-f.f + 1)
-          c.args.out.now l)
-          (sym c.put_value.ensures)
-          (row_more c.requires.p_bound.0 c.loop-f-test.true c.requires.row_clear c.loop-f.invariant.1),
-    )
+loop-f-preserved c = (
+  omega (arith, c.loop-f-test.true),
+  subst (λ (l : List ℕ). RowPut c.args.z c.args.p (column c.args.held.now c.args.p) (c.loop-f.f + 1)
+      c.args.out.now l)
+      (sym c.put_value.ensures)
+      (row_more c.requires.p_bound.0 c.loop-f-test.true c.requires.row_clear c.loop-f.invariant.1),
+)
 
 pub shape_of-out : goal.shape_of-out
 shape_of-out c = c.loop-f.invariant.1.size ∙ sym c.requires.row_clear.size

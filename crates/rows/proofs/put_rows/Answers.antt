@@ -1,7 +1,6 @@
 -- `rows::put_rows` meets its contract: the invariant says that the rows of the first p persons are what their flags show, and all others clear; the
 -- measure is how many persons are left. Assumes nothing.
 use mathlib.Core.Path.{sym, ◌∙◌}
-use Prim.Native.Nat.{◌-◌}
 use native.Mathlib.Omega.{arith}
 use Rattle.rows.proofs.RowLaws.{rows_none, next_clear, rows_more, rows_all}
 use Rattle.rows.proofs.put_rows.Goals as goal

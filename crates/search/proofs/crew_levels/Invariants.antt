@@ -1,7 +1,7 @@
 -- `search::crew_levels` meets its contract: crew after crew, until one is stuck; what is settled serves every person. The names that the crews
 -- hand on stay 160. Assumes nothing.
 use Prim.Native.Nat.{◌-◌, ◌≤◌}
-use Rattle.search.specs.Inner.Scan.{BlankTable, Serves}
+use Rattle.search.specs.Inner.Scan.{BlankTable}
 use Rattle.search.specs.Inner.Given.{Names, ServesOf}
 use Rattle.search.proofs.crew_levels.Given as goal
 

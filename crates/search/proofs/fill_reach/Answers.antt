@@ -1,6 +1,5 @@
 -- `search::fill_reach` meets its contract: row by row, from the crews below. Assumes nothing.
 use mathlib.Core.Path.{refl, sym, ◌∙◌}
-use Prim.Native.Nat.{◌-◌}
 use native.Mathlib.Omega.{arith}
 use Rattle.flags.proofs.FlagLaws.{filled_row}
 use Rattle.search.proofs.StepLaws.{reach_first, reach_next, reach_all}
@@ -16,8 +15,7 @@ pub slice_bounds-crew_table-end : goal.slice_bounds-crew_table-end
 slice_bounds-crew_table-end c = sym c.loop-k.invariant.1.1
 
 pub crew_table-requires : goal.crew_table-requires
-crew_table-requires c =
-    (
+crew_table-requires c = (
   c.loop-k-test.true,
   (
     c.requires.0,
@@ -29,23 +27,21 @@ pub slice_bounds-fill_row-end : goal.slice_bounds-fill_row-end
 slice_bounds-fill_row-end c = sym c.crew_table.ensures.size
 
 pub fill_row-requires : goal.fill_row-requires
-fill_row-requires c =
-    (
-      c.loop-k-test.true,
-      (refl, (c.crew_table.ensures.size, c.loop-k.invariant.1.0.size)),
-    )
+fill_row-requires c = (
+  c.loop-k-test.true,
+  (refl, (c.crew_table.ensures.size, c.loop-k.invariant.1.0.size)),
+)
 
 pub loop-k-preserved : goal.loop-k-preserved
-loop-k-preserved c =
-    (
-      omega (arith, c.loop-k-test.true),
-      (
-        reach_next c.loop-k.invariant.1.0
-            (filled_row c.loop-k.invariant.1.0.size c.crew_table.ensures
-            c.fill_row.ensures),
-        c.crew_table.ensures.size,
-      ),
-    )
+loop-k-preserved c = (
+  omega (arith, c.loop-k-test.true),
+  (
+    reach_next c.loop-k.invariant.1.0
+        (filled_row c.loop-k.invariant.1.0.size c.crew_table.ensures
+        c.fill_row.ensures),
+    c.crew_table.ensures.size,
+  ),
+)
 
 pub shape_of-reach : goal.shape_of-reach
 shape_of-reach c = c.loop-k.invariant.1.0.size ∙ sym c.requires.1

@@ -3,7 +3,6 @@
 use mathlib.Core.Path.{refl, ◌∙◌}
 use mathlib.Core.Bool.{false}
 use native.Mathlib.Omega.{arith}
-use borrow.Author.Rules.{rules}
 use Rattle.frames.specs.Book.{contents_of}
 use Rattle.flags.proofs.FlagLaws.{small_wants, start_flags}
 use Rattle.flags.proofs.BadLaws.{bad-all}
