@@ -3,14 +3,13 @@
 use mathlib.Core.Path.{◌≡◌, refl, sym, ap, subst, subst₂, ◌∙◌}
 use mathlib.Core.Bool.{Bool, true, false, true≢false}
 use mathlib.Core.List.{List, [], ◌∷◌, map}
-use Prim.Native.Nat.{ℕ, zero, suc, ◌+◌, ◌*◌, ◌≤◌, ◌<◌}
+use Prim.Native.Nat.{ℕ, zero, suc, ◌≤◌, ◌<◌}
 use native.Mathlib.Omega.{arith}
 use lib.ListN.{length, get_or, take, replicate, length-replicate, get_or-replicate}
 use lib.Seq.{get_or-take, length-take-le}
 use Rattle.facts.specs.Facts.{holds}
 use Rattle.frames.specs.declared.Book.{Book}
-use Rattle.frames.specs.declared.Rules.{Rules}
-use Rattle.frames.specs.Book.{Contents, contents_of, listed}
+use Rattle.frames.specs.Book.{contents_of}
 use Rattle.frames.specs.Inner.Fits.{Admitted}
 use Rattle.theory.specs.Inner.Facts.{State, update}
 use Rattle.theory.specs.Inner.Plan.{Ask}
@@ -23,7 +22,7 @@ use Rattle.level.proofs.ChosenLaws.{moves_sound}
 use Rattle.level.proofs.RuleLaws.{book_good}
 use Rattle.reach.specs.Inner.Tracked.{track, bytes_of}
 use Rattle.reach.specs.Inner.Growing.{Growing}
-use Rattle.flags.specs.Inner.Flags.{FlagsWritten, SmallWants, start_flag}
+use Rattle.flags.specs.Inner.Flags.{FlagsWritten, start_flag}
 use Rattle.flags.proofs.FlagLaws.{start_flags}
 use Rattle.growth.specs.Inner.Growth as growth
 use Rattle.growth.specs.Inner.Growth.{Gains, NoWay, Way}

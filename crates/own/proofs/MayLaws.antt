@@ -1,7 +1,7 @@
 -- A request on a fact of the query's person is permitted exactly where the fact may be added: the rule that permits it is the fact's, by
 -- "at most one rule for each op, a and v".
 use mathlib.Core.Path.{◌≡◌, refl, sym, ap, subst, ◌∙◌}
-use mathlib.Core.Logic.{◌⊎◌, inl, inr, ⊎_elim, dite}
+use mathlib.Core.Logic.{inl, inr, ⊎_elim, dite}
 use mathlib.Core.Bool.{Bool, true, not}
 use Prim.Native.Nat.{ℕ, ◌+◌, ◌-◌, ◌*◌, ◌/◌, ◌%◌, ◌<◌}
 use native.Mathlib.Decide.{dec_lt}

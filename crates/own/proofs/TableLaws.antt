@@ -12,7 +12,7 @@ use borrow.Author.Tests.{lt-ltb, le-ltb}
 use Rattle.facts.specs.Facts.{holds}
 use Rattle.frames.specs.declared.Rule.{Rule}
 use Rattle.frames.specs.declared.Rules.{Rules}
-use Rattle.frames.specs.Book.{Contents, listed, no_rule}
+use Rattle.frames.specs.Book.{Contents, listed}
 use Rattle.shown.specs.Inner.Shown.{direct}
 use Rattle.level.specs.declared.Move.{Move}
 use Rattle.level.specs.Inner.Moves.{Moves, move_at}

@@ -1,15 +1,14 @@
 -- A way in a book that only grows is a plan that works, and there are no more requests in it than the person has facts.
-use mathlib.Core.Path.{◌≡◌, refl, ap, sym, subst, ◌∙◌}
+use mathlib.Core.Path.{◌≡◌, ap, sym, subst, ◌∙◌}
 use mathlib.Core.Bool.{Bool, true, false, true≢false}
 use mathlib.Core.List.{List, [], ◌++◌, map, append-nil}
 use Prim.Native.Nat.{ℕ, ◌+◌, ◌-◌, ◌*◌, ◌≤◌}
 use native.Mathlib.Omega.{arith}
 use lib.ListN.{length, length-map}
-use Rattle.facts.specs.Facts.{holds}
-use Rattle.sizes.specs.Sizes.{fact_count, value_count}
+use Rattle.sizes.specs.Sizes.{value_count}
 use Rattle.sizes.proofs.SizeLaws.{facts_are}
 use Rattle.frames.specs.Book.{Contents}
-use Rattle.theory.specs.Inner.Plan.{Req, req, end, Runs, Step, add_then_delete}
+use Rattle.theory.specs.Inner.Plan.{req, end, Runs, Step, add_then_delete}
 use Rattle.level.specs.Inner.Notes.{asks}
 use Rattle.level.proofs.NoteLaws.{asks-length}
 use Rattle.reach.specs.Inner.Tracked.{bytes_of}

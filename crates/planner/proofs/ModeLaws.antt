@@ -1,6 +1,5 @@
 -- What the mode says of an accepted book: mode 03 is that of books that only grow, and any other is planned by levels.
 use mathlib.Core.Path.{◌≡◌}
-use Prim.Native.Nat.{ℕ, ◌≤◌}
 use native.Mathlib.Omega.{arith}
 use lib.Dec.{leb}
 use borrow.Author.Tests.{le-leb, ne_eqb}

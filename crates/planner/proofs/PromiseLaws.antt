@@ -17,7 +17,7 @@ use Rattle.replay.specs.Met.{met}
 use Rattle.theory.specs.Inner.Facts.{State, ◌⊆◌, update, Clear}
 use Rattle.theory.specs.Inner.Plan.{Ask, Req, req, end, Runs, add_then_delete, Absent, Distinct, Step, Best}
 use Rattle.theory.proofs.PlanLaws.{runs_map, not_self}
-use Rattle.reach.specs.Inner.Tracked.{number_of, lift, track, bytes_of, asked, May}
+use Rattle.reach.specs.Inner.Tracked.{number_of, lift, track, bytes_of, asked}
 use Rattle.reach.proofs.Chained.{Kept, tracked_of, five_of}
 use Rattle.reach.specs.Inner.Goal.{goal, bad}
 use Rattle.reach.proofs.TrackLaws.{lift_mono, track_at}

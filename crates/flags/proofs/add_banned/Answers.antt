@@ -1,7 +1,6 @@
 -- `flags::add_banned` meets its contract: the invariant says that what the first j sets lack is added; the measure is how many sets are left.
 -- Assumes nothing.
 use mathlib.Core.Path.{◌≡◌, ◌∙◌}
-use Prim.Native.Nat.{◌-◌}
 use native.Mathlib.Omega.{arith}
 use Rattle.frames.specs.Inner.Fits.{want_of}
 use Rattle.flags.proofs.BadLaws.{banned-none, banned_more}
@@ -18,12 +17,11 @@ add_want-requires c = c.loop-j.invariant.1.size ∙ c.requires.1
 
 pub loop-j-preserved : goal.loop-j-preserved
 unfolding want_of
-loop-j-preserved c =
-    (
-      omega arith,
-      banned_more c.args.q c.loop-j.j c.loop-j.invariant.1
-          c.add_want.ensures,
-    )
+loop-j-preserved c = (
+  omega arith,
+  banned_more c.args.q c.loop-j.j c.loop-j.invariant.1
+      c.add_want.ensures,
+)
 
 pub shape_of-bad : goal.shape_of-bad
 shape_of-bad c = c.loop-j.invariant.1.size

@@ -1,7 +1,7 @@
 -- `flags::add_lacking` meets its contract: the first v flags have what the set lacks, the others are as they were; the measure is how
 -- many are left. Assumes nothing.
 use mathlib.Core.Path.{refl}
-use Prim.Native.Nat.{◌+◌, ◌-◌}
+use Prim.Native.Nat.{◌+◌}
 use native.Mathlib.Omega.{arith}
 use Rattle.flags.proofs.FlagLaws.{written_none, written_more, written-end}
 use Rattle.sets.specs.Sets.{member, bit}

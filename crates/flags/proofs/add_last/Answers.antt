@@ -2,7 +2,7 @@
 -- are left. Assumes nothing.
 use mathlib.Core.Path.{refl}
 use mathlib.Core.Bool.{false, ◌||◌}
-use Prim.Native.Nat.{◌+◌, ◌*◌, ◌-◌}
+use Prim.Native.Nat.{◌+◌, ◌*◌}
 use native.Mathlib.Omega.{arith}
 use lib.ListN.{get_or}
 use Rattle.flags.proofs.FlagLaws.{written_none, written_more, written-end}

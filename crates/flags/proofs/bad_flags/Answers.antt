@@ -20,16 +20,15 @@ add_banned-requires c =
     (c.requires.0, c.clear_flags.ensures.size ∙ c.requires.1)
 
 pub add_lacking-requires : goal.add_lacking-requires
-add_lacking-requires c =
-    (
-      omega arith,
-      omega (
-        arith,
-        c.add_banned.ensures.size,
-        c.clear_flags.ensures.size,
-        c.requires.1,
-      ),
-    )
+add_lacking-requires c = (
+  omega arith,
+  omega (
+    arith,
+    c.add_banned.ensures.size,
+    c.clear_flags.ensures.size,
+    c.requires.1,
+  ),
+)
 
 pub shape_of-bad-then-k-crews : goal.shape_of-bad-then-k-crews
 shape_of-bad-then-k-crews c =

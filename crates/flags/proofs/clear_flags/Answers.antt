@@ -1,7 +1,7 @@
 -- `flags::clear_flags` meets its contract: the invariant says that the first f flags are cleared; the measure is how many are left.
 -- Assumes nothing.
 use mathlib.Core.Path.{refl}
-use Prim.Native.Nat.{◌+◌, ◌-◌}
+use Prim.Native.Nat.{◌+◌}
 use native.Mathlib.Omega.{arith}
 use Rattle.flags.proofs.FlagLaws.{written_none, written_more, written-end}
 use mathlib.Core.Bool.{false}

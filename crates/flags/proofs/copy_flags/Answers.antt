@@ -1,10 +1,9 @@
 -- `flags::copy_flags` meets its contract: the invariant says that the first f flags are copied; the measure is how many are left.
 -- Assumes nothing.
 use mathlib.Core.Path.{refl}
-use Prim.Native.Nat.{◌+◌, ◌-◌}
+use Prim.Native.Nat.{◌+◌}
 use native.Mathlib.Omega.{arith}
 use Rattle.flags.proofs.FlagLaws.{written_none, written_more, written-end}
-use mathlib.Core.Bool.{false}
 use Rattle.flags.proofs.copy_flags.Goals as goal
 
 pub loop-f-init : goal.loop-f-init

@@ -1,6 +1,5 @@
 -- `flags::crew_table` meets its contract: the last row has what the juniors below j give; the measure is what is left of k. Assumes nothing.
 use mathlib.Core.Path.{◌≡◌, sym, ◌∙◌}
-use Prim.Native.Nat.{◌-◌}
 use native.Mathlib.Omega.{arith}
 use Rattle.inherit.proofs.InheritanceLaws.{junior_member}
 use Rattle.flags.proofs.FlagLaws.{juniors_none, juniors_add, juniors_skip, written_over, crew_table-all}
@@ -15,14 +14,13 @@ loop-j-init c =
     (omega arith, juniors_none start.juniors.now start.k start.rows.now c.clear_flags.ensures)
 
 pub add_last-requires : goal.add_last-requires
-add_last-requires c =
-    (
-      omega (arith, c.loop-j-test.true, c.requires.0),
-      (
-        c.requires.1.1.0,
-        c.loop-j.invariant.1.size ∙ c.clear_flags.ensures.size ∙ c.requires.1.1.1,
-      ),
-    )
+add_last-requires c = (
+  omega (arith, c.loop-j-test.true, c.requires.0),
+  (
+    c.requires.1.1.0,
+    c.loop-j.invariant.1.size ∙ c.clear_flags.ensures.size ∙ c.requires.1.1.1,
+  ),
+)
 
 pub loop-j-preserved-then-has : goal.loop-j-preserved-then-has
 loop-j-preserved-then-has c =

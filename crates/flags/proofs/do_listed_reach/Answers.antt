@@ -1,7 +1,5 @@
 -- `flags::do_listed_reach` meets its contract: the invariant says that no listed crew below d reaches c; the measure is how many are left. Assumes nothing.
 use mathlib.Core.Path.{◌≡◌, ap, sym, ◌∙◌}
-use mathlib.Core.Bool.{false}
-use Prim.Native.Nat.{◌-◌}
 use Rattle.quantifiers.specs.Quantifiers.{any_below}
 use Rattle.quantifiers.proofs.BelowLaws.{any-zero, any_next, any_from_lem}
 use Rattle.flags.specs.Inner.Flags.{listed_reaches}

@@ -9,11 +9,10 @@ pub copy_flags-requires : goal.copy_flags-requires
 copy_flags-requires c = (omega (arith, c.requires.1.0), omega (arith, c.requires.0, c.requires.1.1.1))
 
 pub copy_flags-requires-2 : goal.copy_flags-requires-2
-copy_flags-requires-2 c =
-    (
-      omega (arith, c.requires.1.1.0),
-      omega (arith, c.requires.0, c.requires.1.1.1, c.copy_flags.ensures.size),
-    )
+copy_flags-requires-2 c = (
+  omega (arith, c.requires.1.1.0),
+  omega (arith, c.requires.0, c.requires.1.1.1, c.copy_flags.ensures.size),
+)
 
 pub bounds-rows-row : goal.bounds-rows-row
 bounds-rows-row c =

@@ -1,7 +1,6 @@
 -- `flags::first_rows` meets its contract: all is cleared; the invariant says that the rows below row c have their own crew and nothing
 -- else; the measure is how many rows are left. Assumes nothing.
 use mathlib.Core.Path.{◌≡◌, ◌∙◌}
-use Prim.Native.Nat.{◌-◌}
 use native.Mathlib.Omega.{arith}
 use Rattle.flags.proofs.FlagLaws.{own-none, own_more, first_rows_all}
 use Rattle.flags.proofs.first_rows.Goals as goal
@@ -22,12 +21,11 @@ bounds-rows-c c =
     )
 
 pub loop-c-preserved : goal.loop-c-preserved
-loop-c-preserved c =
-    (
-      omega arith,
-      own_more c.loop-c.c c.loop-c-test.true
-          (c.clear_flags.ensures.size ∙ c.requires) c.loop-c.invariant.1,
-    )
+loop-c-preserved c = (
+  omega arith,
+  own_more c.loop-c.c c.loop-c-test.true
+      (c.clear_flags.ensures.size ∙ c.requires) c.loop-c.invariant.1,
+)
 
 pub shape_of-rows : goal.shape_of-rows
 shape_of-rows c = c.loop-c.invariant.1.size ∙ c.clear_flags.ensures.size

@@ -41,19 +41,18 @@ write_values-requires-2 c =
     (omega (arith, c.if-p-ge64.false), c.clear_flags.ensures.size ∙ c.requires)
 
 pub write_set-requires : goal.write_set-requires
-write_set-requires c =
-    (
-      omega (arith, c.if-p-ge64.false),
-      (
-        omega arith,
-        omega (
-          arith,
-          c.write_values-2.ensures.size,
-          c.clear_flags.ensures.size,
-          c.requires,
-        ),
-      ),
-    )
+write_set-requires c = (
+  omega (arith, c.if-p-ge64.false),
+  (
+    omega arith,
+    omega (
+      arith,
+      c.write_values-2.ensures.size,
+      c.clear_flags.ensures.size,
+      c.requires,
+    ),
+  ),
+)
 
 pub shape_of-s : goal.shape_of-s
 shape_of-s c =

@@ -1,7 +1,7 @@
 -- `flags::write_bits` meets its contract: the invariant says that the first v flags are written; the measure is how many are left.
 -- Assumes nothing.
 use mathlib.Core.Path.{refl}
-use Prim.Native.Nat.{◌+◌, ◌-◌}
+use Prim.Native.Nat.{◌+◌}
 use native.Mathlib.Omega.{arith}
 use Rattle.flags.proofs.FlagLaws.{written_none, written_more, written-end}
 use Rattle.sets.specs.Sets.{member, bit}

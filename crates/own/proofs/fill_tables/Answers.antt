@@ -1,6 +1,5 @@
 -- `own::fill_tables` meets its contract: the first `k` moves are entered (`Entered`); the measure is how many are left. Assumes nothing.
 use mathlib.Core.Path.{sym, ◌∙◌}
-use Prim.Native.Nat.{◌-◌}
 use Rattle.level.proofs.MoveLaws.{listed_room}
 use Rattle.own.proofs.EnteredLaws.{listed_fine, entered_none, entered_more, entered_all}
 use native.Mathlib.Omega.{arith}
@@ -10,16 +9,14 @@ pub loop-k-init : goal.loop-k-init
 loop-k-init c = (omega arith, entered_none _ c.requires.1)
 
 pub move_at-m-requires : goal.move_at-m-requires
-move_at-m-requires c =
-    (
+move_at-m-requires c = (
   omega (arith, c.requires.0.few, c.loop-k-test.true),
   listed_room c.requires.0
       c.loop-k-test.true,
 )
 
 pub enter_terms-requires : goal.enter_terms-requires
-enter_terms-requires c =
-    (
+enter_terms-requires c = (
   listed_fine c.requires.0 c.loop-k-test.true
       c.move_at-m.ensures,
   c.loop-k.invariant.1.size_ts,
@@ -61,8 +58,7 @@ pub loop-k-smaller : goal.loop-k-smaller
 loop-k-smaller c = omega (arith, c.loop-k-test.true)
 
 pub loop-k-preserved : goal.loop-k-preserved
-loop-k-preserved c =
-    (
+loop-k-preserved c = (
   omega (arith, c.loop-k-test.true),
   entered_more c.loop-k.invariant.1
       c.move_at-m.ensures

@@ -1,5 +1,4 @@
 -- `own::wanted` meets its contract: the first `f` flags are written (`FlagsWritten`); the measure is how many are left. Assumes nothing.
-use Prim.Native.Nat.{◌-◌}
 use Rattle.flags.proofs.FlagLaws.{written_none, written_more, written-end}
 use native.Mathlib.Omega.{arith}
 use Rattle.own.proofs.wanted.Goals as goal
@@ -14,8 +13,7 @@ pub bounds-w-f : goal.bounds-w-f
 bounds-w-f c = omega (arith, c.loop-f.invariant.1.size, c.requires.1)
 
 pub loop-f-preserved : goal.loop-f-preserved
-loop-f-preserved c =
-    (
+loop-f-preserved c = (
   omega arith,
   written_more _ _ c.loop-f.invariant.1 (omega arith) (omega (arith, c.requires.1))
       c.is_wanted.ensures,

@@ -1,7 +1,5 @@
 -- `own::wants_value` meets its contract: none of the first `j` sets has the value; the measure is how many are left. Assumes nothing.
 use mathlib.Core.Path.{◌≡◌, sym}
-use mathlib.Core.Bool.{false}
-use Prim.Native.Nat.{◌-◌}
 use Rattle.quantifiers.proofs.BelowLaws.{any-zero, any_next, any_from_lem}
 use Rattle.frames.specs.Inner.Fits.{want_of}
 use Rattle.own.specs.Inner.Wanted.{has_value}
@@ -26,14 +24,13 @@ returns-then-w-a c =
 
 pub loop-j-preserved : goal.loop-j-preserved
 unfolding want_of
-loop-j-preserved c =
-    (
-      omega arith,
-      any_next (has_value c.args.q c.args.a
-          c.args.v) c.loop-j.j c.loop-j.invariant.1
-          (value_test c.args.q c.args.a
-          c.args.v c.loop-j.j c.has.ensures c.if-w-a.false),
-    )
+loop-j-preserved c = (
+  omega arith,
+  any_next (has_value c.args.q c.args.a
+      c.args.v) c.loop-j.j c.loop-j.invariant.1
+      (value_test c.args.q c.args.a
+      c.args.v c.loop-j.j c.has.ensures c.if-w-a.false),
+)
 
 pub returns : goal.returns
 returns c =

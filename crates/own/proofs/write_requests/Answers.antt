@@ -1,5 +1,4 @@
 -- `own::write_requests` meets its contract: the requests of the first `i` facts are written (`Writing`); the measure is how many are left. Assumes nothing.
-use Prim.Native.Nat.{◌-◌}
 use Rattle.own.proofs.RequestLaws.{writing_none, writing_more, writing_all, fact_known, move-stands, move-fine}
 use native.Mathlib.Omega.{arith}
 use Rattle.own.proofs.write_requests.Goals as goal
@@ -27,12 +26,11 @@ move_at-requires c =
     move-stands c.requires c.loop-i-test.true c.wide-f.ensures c.wide-k.ensures
 
 pub note-requires : goal.note-requires
-note-requires c =
-    (
-      move-fine c.requires c.loop-i-test.true c.wide-f.ensures
-          c.wide-k.ensures c.move_at.ensures,
-      omega (arith, c.requires.room, c.loop-i.invariant.size),
-    )
+note-requires c = (
+  move-fine c.requires c.loop-i-test.true c.wide-f.ensures
+      c.wide-k.ensures c.move_at.ensures,
+  omega (arith, c.requires.room, c.loop-i.invariant.size),
+)
 
 pub loop-i-preserved : goal.loop-i-preserved
 loop-i-preserved c =
