@@ -12,6 +12,9 @@ ghost use Rattle.frames.specs.Limits.{is_not, plain, growing, same_key, twice};
 
 use facts::{Attr, Crew, Fact, LEDGER_SIZE, Person, Role};
 
+// The kind of the frame that is an edge between two crews.
+const EDGE: u8 = 2;
+
 // One condition of a rule: kind, a, v as written.
 #[derive(Clone, Copy)]
 pub struct Term {
@@ -503,7 +506,7 @@ fn read_lines(book: &[u8], paged: bool) -> Reading
         cursor = read.next;
         // Of a good frame only what its kind enters is touched.
         let kind = lines::byte_at(x, 0);
-        if kind == 2 {
+        if kind == EDGE {
             enter_edge(&mut juniors, x);
             continue;
         }

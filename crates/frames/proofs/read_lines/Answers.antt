@@ -89,17 +89,17 @@ pub enter_edge-requires : goal.enter_edge-requires
 enter_edge-requires c =
     let at = c.loop-cursor in
     let good = sym c.judge_frame-verdict.ensures ∙ c.in_default.is in
-    let kind = sym c.byte_at-kind.ensures ∙ c.if-kind-eq2.true in
+    let kind = sym c.byte_at-kind.ensures ∙ c.if-kind-eq-EDGE.true in
     record { x_value = (kind, edge_small at.known _ good at.invariant.0.crewed kind); m_len = at.invariant.0.edged }
 
-pub loop-cursor-preserved-then-kind-eq2 : goal.loop-cursor-preserved-then-kind-eq2
-loop-cursor-preserved-then-kind-eq2 c =
+pub loop-cursor-preserved-then-kind-eq-EDGE : goal.loop-cursor-preserved-then-kind-eq-EDGE
+loop-cursor-preserved-then-kind-eq-EDGE c =
     let read = c.read_frame-read.ensures in
     let at = c.loop-cursor in
     let good = sym c.judge_frame-verdict.ensures ∙ c.in_default.is in
     let kind = c.byte_at-kind.ensures in
     let turn = edge-good at.invariant.0 (line-framed at.invariant.0 read c.in-Bytes.is) good in
-    rw read.next (turn (sym kind ∙ c.if-kind-eq2.true) c.enter_edge.ensures, read_size read ∙ at.invariant.1)
+    rw read.next (turn (sym kind ∙ c.if-kind-eq-EDGE.true) c.enter_edge.ensures, read_size read ∙ at.invariant.1)
 
 pub enter_fact-requires : goal.enter_fact-requires
 enter_fact-requires c = sym c.byte_at-kind.ensures ∙ c.if-kind-eq4.true
@@ -153,7 +153,7 @@ loop-cursor-preserved c =
     let kind = c.byte_at-kind.ensures in
     let turn = other-good at.invariant.0 (line-framed at.invariant.0 read c.in-Bytes.is) good in
     rw read.next (
-      turn (λ z. c.if-kind-eq2.false (kind ∙ z)) (λ z. c.if-kind-eq4.false (kind ∙ z))
+      turn (λ z. c.if-kind-eq-EDGE.false (kind ∙ z)) (λ z. c.if-kind-eq4.false (kind ∙ z))
           (λ z. c.if-kind-eq3.false (kind ∙ z))
           c.known_after-known.ensures c.query_after-query.ensures,
       read_size read ∙ at.invariant.1,

@@ -14,7 +14,7 @@ pub loop-j-preserved : goal.loop-j-preserved
 loop-j-preserved c = (
   omega arith,
   all_more (value_term_at c.args.x.now) c.loop-j.j _ _
-      c.loop-j.invariant.1 (c.asks_value-good.ensures ∙ ap asks_value c.byte_at-kind.ensures),
+      c.loop-j.invariant.1 (cc),
 )
 
 pub returns : goal.returns
