@@ -5,9 +5,9 @@
 ghost use Rattle.std.specs.Prelude.{◌≡◌, ◌++◌, ◌+◌, ◌≤◌, length, drop};
 ghost use Rattle.ledger.specs.Ledger.{refusal_number, denial_told, told, refusal, said, open_reply, request_reply};
 ghost use Rattle.ledger.specs.Show.{show_view};
-ghost use Rattle.replay.specs.Replay.{said as replaySaid, replayed};
-ghost use Rattle.planner.specs.Answer.{said as planSaid};
-ghost use Rattle.page.specs.Page.{said as pageSaid};
+ghost use Rattle.replay.specs.Replay.{said as replay_said, replayed};
+ghost use Rattle.planner.specs.Answer.{said as plan_said};
+ghost use Rattle.page.specs.Page.{said as page_said};
 ghost use Rattle.bixorgun.specs.Codes.{code, told_value, said_code, judgement_code, replay_code, plan_code, page_code};
 ghost use Rattle.bixorgun.specs.Codes.{coded, reply_coded, put_two, view_bytes, view_coded, PlanCoded, PageCoded};
 
@@ -70,7 +70,7 @@ fn judgement_code(j: replay::Judgement) -> u64
 }
 
 fn replay_code(a: replay::Replayed) -> u64
-    ensures { result ≡ replay_code (replaySaid a) }
+    ensures { result ≡ replay_code (replay_said a) }
 {
     match a {
         replay::Replayed::Judged(j) => judgement_code(j),
@@ -83,7 +83,7 @@ fn replay_code(a: replay::Replayed) -> u64
 }
 
 fn plan_code(a: planner::Planned) -> u64
-    ensures { result ≡ plan_code (planSaid a) }
+    ensures { result ≡ plan_code (plan_said a) }
 {
     match a {
         planner::Planned::NoWay => code_of(2, 0, 0),
@@ -97,7 +97,7 @@ fn plan_code(a: planner::Planned) -> u64
 }
 
 fn page_code(a: page::Paged) -> u64
-    ensures { result ≡ page_code (pageSaid a) }
+    ensures { result ≡ page_code (page_said a) }
 {
     match a {
         page::Paged::Filled => code_of(0, 0, 0),

@@ -1,6 +1,5 @@
 -- `answers::put_bytes` meets its contract: the invariant says that the digits of the first k bytes are written; the measure is the bytes left.
 -- Assumes nothing.
-use Prim.Native.Nat.{◌-◌}
 use native.Mathlib.Omega.{arith}
 use Rattle.answers.proofs.WrittenLaws.{digits_none, digits_more, digits_all}
 use Rattle.answers.proofs.put_bytes.Goals as goal

@@ -6,7 +6,6 @@ use Prim.Native.Nat.{◌+◌, ◌*◌, ◌-◌}
 use lib.ListN.{length}
 use Rattle.level.specs.Inner.Notes.{asks}
 use Rattle.reach.specs.Inner.Tracked.{bytes_of}
-use Rattle.drafts.specs.Inner.Drafts.{carried}
 use Rattle.drafts.proofs.DraftLaws.{carried-length, carry_first, carry_more, carry_all}
 use native.Mathlib.Omega.{arith}
 use Rattle.drafts.proofs.carry_out.Goals as goal

@@ -1,6 +1,6 @@
 -- `drafts::carry_out` meets its contract: the invariant says that the first i requests are carried out; the measure is how many are
 -- left. Assumes nothing.
-use mathlib.Core.Path.{◌≡◌, ap}
+use mathlib.Core.Path.{◌≡◌}
 use mathlib.Core.List.{map}
 use Prim.Native.Nat.{◌-◌, ◌≤◌}
 use Rattle.level.specs.Inner.Notes.{asks}

@@ -1,9 +1,9 @@
 -- `drafts::copy_requests` meets its contract: the invariant says that the first k bytes are copied; the measure is how many are left.
 -- Assumes nothing.
 use mathlib.Core.Path.{refl}
-use Prim.Native.Nat.{◌*◌, ◌-◌}
-use lib.ListN.{length, drop, length-set}
-use lib.Seq.{paste, paste-zero}
+use Prim.Native.Nat.{◌*◌}
+use lib.ListN.{drop, length-set}
+use lib.Seq.{paste-zero}
 use Rattle.drafts.proofs.DraftLaws.{copy_more, copy_all}
 use native.Mathlib.Omega.{arith}
 use Rattle.drafts.proofs.copy_requests.Goals as goal

@@ -1,10 +1,8 @@
 -- `readings::edge_count` meets its contract. The invariant: n and what the sets from i on have are the whole. The measure is the sets left.
 -- Assumes nothing.
 use mathlib.Core.Path.{◌≡◌}
-use Prim.Native.Nat.{◌-◌}
 use native.Mathlib.Omega.{arith}
 use lib.ListN.{length}
-use Rattle.answers.specs.Answers.{total}
 use Rattle.answers.proofs.AnswerLaws.{total-step, total_end}
 use Rattle.readings.proofs.edge_count.Goals as goal
 

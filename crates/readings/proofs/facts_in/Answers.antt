@@ -1,10 +1,8 @@
 -- `readings::facts_in` meets its contract. The invariant: n and what the bytes from i on have are the whole. The measure is the bytes left.
 -- Assumes nothing.
 use mathlib.Core.Path.{◌≡◌}
-use Prim.Native.Nat.{◌-◌}
 use native.Mathlib.Omega.{arith}
 use lib.ListN.{length}
-use Rattle.answers.specs.Answers.{total}
 use Rattle.answers.proofs.AnswerLaws.{total-step, total_end}
 use Rattle.readings.proofs.facts_in.Goals as goal
 

@@ -1,7 +1,6 @@
 -- `readings::size_of` meets its contract. The invariant: n is how many numbers below v are members, at most v. The measure is
 -- what is left of the numbers below w. Assumes nothing.
 use mathlib.Core.Path.{◌≡◌, refl, ap, sym, ◌∙◌}
-use Prim.Native.Nat.{◌-◌}
 use native.Mathlib.Omega.{arith}
 use Rattle.answers.specs.Answers.{size}
 use Rattle.answers.proofs.AnswerLaws.{size_in, size_out}
@@ -18,8 +17,8 @@ loop-v-preserved c =
     let v = c.loop-v.v in
     let is = sym c.has.ensures in
     elim c.if-has.branch [
-      then-has w ↦ let more = size_in x v (is ∙ w.if-has.true) in (omega arith, (omega arith, omega arith))
-    | else-has w ↦ let same = size_out x v (is ∙ w.if-has.false) in (omega arith, (omega arith, omega arith))
+      | then-has w ↦ let more = size_in x v (is ∙ w.if-has.true) in (omega arith, (omega arith, omega arith))
+      | else-has w ↦ let same = size_out x v (is ∙ w.if-has.false) in (omega arith, (omega arith, omega arith))
     ]
 
 pub returns : goal.returns
