@@ -15,7 +15,6 @@ ghost use Rattle.plan.specs.Inner.Tried.{is_short, PrintedIfRoom};
 use std::io;
 use std::io::{Read, Write};
 
-
 // Plans the book in the first n bytes of `text`, and puts all that the program prints in its place: the first bytes, as many as returned.
 // The buffer of the plan is long enough for every book.
 fn answer(text: &mut [u8], n: usize) -> usize

@@ -1,7 +1,7 @@
 -- `bixorgun::write_view` meets its contract: the first i sets are written; the measure is how many are left. Assumes nothing.
 use mathlib.Core.Path.{◌≡◌, ap, ◌∙◌}
 use mathlib.Core.List.{List}
-use Prim.Native.Nat.{ℕ, ◌-◌}
+use Prim.Native.Nat.{ℕ}
 use native.Mathlib.Omega.{arith}
 use lib.ListN.{length, length-set}
 use Rattle.bixorgun.specs.Codes.{put_two}

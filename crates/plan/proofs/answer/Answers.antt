@@ -15,7 +15,7 @@ slice_bounds-plan-end-2 c =
 
 pub put_answer-requires : goal.put_answer-requires
 put_answer-requires c =
-    let size : length c.plan-planned.new.1.0 ≡ 42560 = omega arith in
+    let size : length c.plan-planned.new.out ≡ 42560 = omega arith in
     record {
       first = omega (arith, c.requires.1);
       requests = λ n e. let room = plan_room n e c.plan-planned.ensures in (room, omega (arith, c.requires.1, room, size));

@@ -1,6 +1,5 @@
 -- `plan::put_front` meets its contract: the invariant says that the first k characters are put; the measure is how many are left.
 -- Assumes nothing.
-use Prim.Native.Nat.{◌-◌}
 use native.Mathlib.Omega.{arith}
 use Rattle.answers.proofs.WrittenLaws.{written_none}
 use Rattle.plan.proofs.FrontLaws.{front_more, front-all}

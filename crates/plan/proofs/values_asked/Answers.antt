@@ -1,5 +1,4 @@
 -- `plan::values_asked` is safe: the invariant bounds the sum by 4,335 for each count; the measure is how many are left. Assumes nothing.
-use Prim.Native.Nat.{◌-◌}
 use native.Mathlib.Omega.{arith}
 use Rattle.plan.proofs.values_asked.Goals as goal
 
