@@ -14,14 +14,14 @@ slice_bounds-page-end-2 c =
 pub returns-in-Filled : goal.returns-in-Filled
 returns-in-Filled c =
     let paged = c.page-paged in
-    let written = filled_written paged.last.1.0 c.enum_told-1.given.1
+    let written = filled_written paged.new.out c.in-Filled.is
     c.put_table.ensures in
     (end-within written, printed paged.result (length-replicate {A = ℕ} 1024 0) paged.ensures written.upto)
 
 pub returns-in-Refused : goal.returns-in-Refused
 returns-in-Refused c =
     let paged = c.page-paged in
-    let written = refused-written paged.last.1.0 _ c.paged-1.given.1
+    let written = refused-written paged.new.out _ c.in-Refused.is
     c.refusal_number-number.ensures c.refusal_line-line.ensures
     c.put_refused.ensures in
     (end-within written, printed paged.result (length-replicate {A = ℕ} 1024 0) paged.ensures written.upto)

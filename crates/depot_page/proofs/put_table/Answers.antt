@@ -9,9 +9,6 @@ use Rattle.depot_page.proofs.put_table.Goals as goal
 pub loop-p-init : goal.loop-p-init
 loop-p-init c = (omega arith, lines_none _ _)
 
--- TODO need slice-bounds-put-line-end
--- part-put-line-end c = omega (arith, (entry c).requires.1.0, c.loop-test.true)
-
 pub put_line-end-requires : goal.put_line-end-requires
 put_line-end-requires c =
     let at-loop = c.loop-p in
