@@ -1,14 +1,14 @@
 -- Answers as numbers, for programs in other languages.
 use Rattle.std.specs.Prelude.{◌≡◌, cond, List, [], ◌∷◌, ◌++◌, ℕ, ◌+◌, ◌*◌, ◌/◌, ◌%◌, leb, length, drop, set}
-use Rattle.ledger.specs.Ledger.{Reply, Told, no_place, on_line, at_term, Said, done as doneSaid, refusal}
+use Rattle.ledger.specs.Ledger.{Reply, Told, no_place, on_line, at_term, Said, done as done_said, refusal}
 use Rattle.ledger.specs.Show.{View}
 use Rattle.replay.specs.declared.Judgement.{Judgement}
 use Rattle.replay.specs.declared.Judgement.TheVariants.{Reaches, Stops, EndsShort}
-use Rattle.replay.specs.Replay.{Said as ReplaySaid, judged, refusal as replayRefusal}
+use Rattle.replay.specs.Replay.{Said as ReplaySaid, judged, refusal as replay_refusal}
 use Rattle.planner.specs.declared.Planned.{Planned}
-use Rattle.planner.specs.Answer.{Said as PlanSaid, said80, said81, said8_f, said as planSaid, PlanPromise}
+use Rattle.planner.specs.Answer.{Said as PlanSaid, said80, said81, said8_f, said as plan_said, PlanPromise}
 use Rattle.page.specs.declared.Paged.{Paged}
-use Rattle.page.specs.Page.{Said as PageSaid, done as pageDone, refusal as pageRefusal, said as pageSaid, PagePromise}
+use Rattle.page.specs.Page.{Said as PageSaid, done as page_done, refusal as page_refusal, said as page_said, PagePromise}
 
 -- ---------------------------------------------------------------- one number
 
@@ -51,7 +51,7 @@ told_value (on_line n) = n
 told_value (at_term rule term) = 256 * rule + term
 
 abbrev pub said_code : Said → ℕ
-said_code doneSaid = code done 0 0
+said_code done_said = code done 0 0
 said_code (refusal number t) = code refused number (told_value t)
 
 abbrev pub judgement_code : Judgement → ℕ
@@ -61,7 +61,7 @@ judgement_code EndsShort = code ends_short 0 0
 
 abbrev pub replay_code : ReplaySaid → ℕ
 replay_code (judged j) = judgement_code j
-replay_code (replayRefusal number line) = code refused number line
+replay_code (replay_refusal number line) = code refused number line
 
 abbrev pub plan_code : PlanSaid → ℕ
 plan_code said80 = code no_way 0 0
@@ -69,8 +69,8 @@ plan_code (said81 n) = code plan 0 n
 plan_code (said8_f number line) = code refused number line
 
 abbrev pub page_code : PageSaid → ℕ
-page_code pageDone = code done 0 0
-page_code (pageRefusal number line) = code refused number line
+page_code page_done = code done 0 0
+page_code (page_refusal number line) = code refused number line
 
 -- ---------------------------------------------------------------- answers with a lent buffer
 
@@ -109,7 +109,7 @@ view_bytes sets crews = twos sets ++ four crews
 -- show: the view fills the buffer's front; a buffer under 20 bytes, and one lent on a refusal, keeps its bytes.
 abbrev pub view_coded_for : Said → List ℕ → ℕ → List ℕ → Coded
 view_coded_for (refusal number t) sets crews before = coded (code refused number (told_value t)) before
-view_coded_for doneSaid sets crews before =
+view_coded_for done_said sets crews before =
     cond (leb 20 (length before)) (coded (code done 0 0) (view_bytes sets crews ++ drop 20 before)) (coded (code no_room 0 0) before)
 
 abbrev pub view_coded : View → List ℕ → Coded
@@ -118,11 +118,11 @@ view_coded v before = view_coded_for v.answer v.sets v.crews before
 -- plan: the number of an answer that keeps the promise of plan.
 pub record PlanCoded (chars before : List ℕ) (n : ℕ) (out : List ℕ) : Type 0 where
   pub answer : Planned
-  pub is : n ≡ plan_code (planSaid answer)
+  pub is : n ≡ plan_code (plan_said answer)
   pub kept : PlanPromise chars before answer out
 
 -- page: the number of an answer that keeps the promise of page.
 pub record PageCoded (chars before : List ℕ) (n : ℕ) (out : List ℕ) : Type 0 where
   pub answer : Paged
-  pub is : n ≡ page_code (pageSaid answer)
+  pub is : n ≡ page_code (page_said answer)
   pub kept : PagePromise chars before answer out

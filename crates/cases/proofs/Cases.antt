@@ -4,7 +4,7 @@ use mathlib.Core.Path.{◌≡◌, refl}
 use mathlib.Core.Bool.{true}
 use Rattle.quantifiers.specs.Inner.Lists.{Each}
 use Rattle.cases.specs.Claims.{Meant}
-use Rattle.cases.specs.Table.{d1, d2, d3, d4, d5, d6, d7, d8, d9, d10-senior, d10-junior, d11, d12, table, customs, customs-late, each-without, growing_table}
+use Rattle.cases.specs.Table.{d1, d2, d3, d4, d5, d6, d7, d8, d9, d10_senior, d10_junior, d11, d12, table, customs, customs_late, each_without, growing_table}
 use Rattle.sets.specs.Sets.{bit, member, put, within, subset, member_at, put_at, number_at}
 use Rattle.facts.specs.Facts.{fits, set_at, set_width, member_of, holds, put_fact, no_facts}
 use Rattle.lines.specs.Digits.{digit, is_digit, malformed, frame_of, byte_at}
@@ -30,7 +30,7 @@ use Rattle.cases.proofs.Tests.{is_reaches, shows_in, done_in, passes, passes_on,
 
 -- Every row passes: computed, of both tables.
 computed : (all test table ≡ true) × (all test growing_table ≡ true)
-unfolding table growing_table customs customs-late each-without d1 d2 d3 d4 d5 d6 d7 d8 d9 d10-senior d10-junior d11 d12 codes written five fives_of
+unfolding table growing_table customs customs_late each_without d1 d2 d3 d4 d5 d6 d7 d8 d9 d10_senior d10_junior d11 d12 codes written five fives_of
     test passes_on passes is_reaches shows_in done_in same_bytes among named named_below all_named candidates join stepped spread reached stays closed unmet shut
     bit member put within subset member_at put_at number_at fits set_at set_width member_of holds put_fact no_facts
     digit is_digit malformed frame_of byte_at extend lines

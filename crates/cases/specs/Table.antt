@@ -68,12 +68,12 @@ d9 =
     }
 
 -- D10: "in senior crew 1, junior crew 0 holds 0: effective"
-unfoldable pub d10-senior : Row
-d10-senior = record { book = "0101020102" ∷ "020100" ∷ "0403000100" ∷ "0402000000" ∷ "050100FFFF01000001" ∷ []; claim = shows 0b01 0b11 }
+unfoldable pub d10_senior : Row
+d10_senior = record { book = "0101020102" ∷ "020100" ∷ "0403000100" ∷ "0402000000" ∷ "050100FFFF01000001" ∷ []; claim = shows 0b01 0b11 }
 
 -- D10: "in crew 0, crew 1 holds 0: not"
-unfoldable pub d10-junior : Row
-d10-junior = record { book = "0101020102" ∷ "020100" ∷ "0403000000" ∷ "0402010000" ∷ "050100FFFF01000001" ∷ []; claim = shows 0b00 0b01 }
+unfoldable pub d10_junior : Row
+d10_junior = record { book = "0101020102" ∷ "020100" ∷ "0403000000" ∷ "0402010000" ∷ "050100FFFF01000001" ∷ []; claim = shows 0b00 0b01 }
 
 -- D11: "remove from a crew held only through a senior, rule present: permitted, ledger equal"
 unfoldable pub d11 : Row
@@ -92,7 +92,7 @@ d12 =
     }
 
 unfoldable pub table : List Row
-table = d1 ∷ d2 ∷ d3 ∷ d4 ∷ d5 ∷ d6 ∷ d7 ∷ d8 ∷ d9 ∷ d10-senior ∷ d10-junior ∷ d11 ∷ d12 ∷ []
+table = d1 ∷ d2 ∷ d3 ∷ d4 ∷ d5 ∷ d6 ∷ d7 ∷ d8 ∷ d9 ∷ d10_senior ∷ d10_junior ∷ d11 ∷ d12 ∷ []
 
 -- ---------------------------------------------------------------- books that only grow
 
@@ -106,20 +106,20 @@ customs =
     }
 
 -- Who is in returns at the start never joins customs, since nobody is removed.
-unfoldable pub customs-late : Row
-customs-late =
+unfoldable pub customs_late : Row
+customs_late =
     record {
       book = "0101020102" ∷ "030500010001830000" ∷ "030500000000" ∷ "0403000000" ∷ "05030000010000000002" ∷ [];
       claim = no_way;
     }
 
 -- Value 0 for who lacks 1, and 1 for who lacks 0: nobody comes to hold both.
-unfoldable pub each-without : Row
-each-without =
+unfoldable pub each_without : Row
+each_without =
     record {
       book = "0101000102" ∷ "030100000001810001" ∷ "030100000101810000" ∷ "05030000010100000300000000" ∷ [];
       claim = no_way;
     }
 
 unfoldable pub growing_table : List Row
-growing_table = customs ∷ customs-late ∷ each-without ∷ []
+growing_table = customs ∷ customs_late ∷ each_without ∷ []

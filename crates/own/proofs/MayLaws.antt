@@ -176,11 +176,11 @@ module _ (b : Contents) (ok : Growing b) where
 
   module _ {R : growth.Rules} (rules : RulesOf b R) where
     -- The request of a fact that may be added.
-    abbrev pub ruleAsk : (f : ℕ) → R.usable f → Ask
-    ruleAsk f u = ask_of_rule b (book_rule b (rules.rule f u).at)
+    abbrev pub rule_ask : (f : ℕ) → R.usable f → Ask
+    rule_ask f u = ask_of_rule b (book_rule b (rules.rule f u).at)
 
     -- It is permitted.
-    pub own-may : (S : State) (f : ℕ) (may : growth.May R (own b S) f) → May b S true (ruleAsk f may.rule)
+    pub own-may : (S : State) (f : ℕ) (may : growth.May R (own b S) f) → May b S true (rule_ask f may.rule)
     own-may S f may =
         let x = rules.rule f may.rule in
         let j = x.at in
@@ -220,7 +220,7 @@ module _ (b : Contents) (ok : Growing b) where
         }
 
     -- Its fact is the person's fact f.
-    pub ask-fact : (f : ℕ) (u : R.usable f) → ((ruleAsk f u).fact / 160 ≡ person_level b) × ((ruleAsk f u).fact % 160 ≡ f)
+    pub ask-fact : (f : ℕ) (u : R.usable f) → ((rule_ask f u).fact / 160 ≡ person_level b) × ((rule_ask f u).fact % 160 ≡ f)
     ask-fact f u =
         let x = rules.rule f u in
         let low = (own-at-rule x.at x.is.listed x.is.op).low in

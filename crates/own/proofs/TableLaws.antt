@@ -30,7 +30,7 @@ use Rattle.own.specs.Inner.Entered.{term_of, Entered, EnteredAt}
 use Rattle.own.specs.Inner.Requests.{request_of}
 use Rattle.own.specs.Inner.Own.{own, wanted_by, code_at, HasTerm, book_rule, place_of_rule, IsRule, RulesOf}
 use Rattle.own.proofs.EnteredLaws.{term-own, term-none}
-use Rattle.own.proofs.MayLaws.{ruleAsk}
+use Rattle.own.proofs.MayLaws.{rule_ask}
 
 -- ---------------------------------------------------------------- flags
 
@@ -124,7 +124,7 @@ module _ (b : Contents) (rs : Rules) (same-rules : b.rules ≡ listed rs) (few :
 
     -- The request of a fact by its rule has the bytes of its move's.
     pub request-bytes : (ok : Growing b) (f : ℕ) (u : (rules_in us ts).usable f)
-        → bytes_of (ruleAsk b ok rules_in_lem f u) ≡ bytes_of (request_of ms by b.query.person.0 f)
+        → bytes_of (rule_ask b ok rules_in_lem f u) ≡ bytes_of (request_of ms by b.query.person.0 f)
     unfolding rules_in_lem
     request-bytes ok f u =
         let at = entered.each f u.0 u.1 in

@@ -43,7 +43,7 @@ use Rattle.search.specs.Inner.Drive.{starts}
 use Rattle.search.specs.Inner.Scan.{to_person}
 use Rattle.search.proofs.StepLaws.{PersonEnds}
 use Rattle.planner.specs.Promise.{NoWay, Works}
-use Rattle.planner.proofs.PromiseLaws.{lastLedger, done, best-leads, best-works}
+use Rattle.planner.proofs.PromiseLaws.{last_ledger, done, best-leads, best-works}
 use Rattle.page.specs.Page.{asking, Reachable}
 use Rattle.page.specs.Inner.Rows.{roaming, Roams}
 
@@ -147,7 +147,7 @@ module _ (b : Contents) (p : ℕ) where
 
   module _ (ok : Admitted (roaming b p)) {us ds : List Ask} (best : Best (depot (roaming b p)) (bad (roaming b p)) (starts (roaming b p)) us ds) where
     abbrev last : List ℕ
-    last = lastLedger (roaming b p) ok best
+    last = last_ledger (roaming b p) ok best
 
     -- What the person effectively holds in a ledger, by its tracked facts.
     by_state : (l : List ℕ) → ((f : Fact) → holds l f ≡ true → in_sizes b.sizes f ≡ true) → (a v : ℕ)
@@ -205,7 +205,7 @@ module _ (b : Contents) (p : ℕ) (ok : Admitted (roaming b p)) {x : List Bool} 
     (value : is_value b.sizes a v ≡ true) where
   -- The flag of a value is what the person effectively holds in the last ledger.
   flag_held : get_or x (160 + (16 * a + v)) false
-      ≡ person_holds b.juniors (holds (lastLedger (roaming b p) ok ended.best)) (record { 0 = p }) (record { 0 = a }) v
+      ≡ person_holds b.juniors (holds (last_ledger (roaming b p) ok ended.best)) (record { 0 = p }) (record { 0 = a }) v
   unfolding roaming with_query
   flag_held = let low = value_bounds b.sizes a v ok.sized value in ended.shows a v low.0 low.1 ∙ sym (at_end b p ok ended.best a v)
 

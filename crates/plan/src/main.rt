@@ -143,7 +143,7 @@ fn put_front(front: &[u8], text: &mut [u8])
 fn read_on<R: Read>(reader: &mut R, front: &[u8], text: &mut [u8]) -> io::Result<usize>
     requires { length front.now ≤ length text.old }
     ensures ok { IfOk result (λ n. Begins front.now n text.new) }
-    ensures err { OnErr result (length text.new ≡ length text.old) }
+    ensures err { OnErr result (take (length front.now) text.new ≡ front.now) }
 {
     put_front(front, text);
     let k = front.len();

@@ -31,7 +31,7 @@ use Rattle.planner.specs.declared.Refusal.TheVariants.{BadBook}
 use Rattle.planner.specs.Answer.{front, Said, said80, said81, said8_f, said, PlanGiven, Decided, Answered, PlanPromise}
 use Rattle.planner.specs.Inner.Found.{PlanFound, PlanReply, plan_reply, given}
 use Rattle.planner.proofs.CountLaws.{plan-few}
-use Rattle.planner.proofs.PromiseLaws.{lastLedger, no_run-no_way, best-no-way, best-leads, best-works}
+use Rattle.planner.proofs.PromiseLaws.{last_ledger, no_run-no_way, best-no-way, best-leads, best-works}
 
 -- ---------------------------------------------------------------- the requests written
 
@@ -58,10 +58,10 @@ module _ (b : Contents) (leveled : Leveled b) {up down : List ℕ} {ups at : ℕ
       )
 
   -- Carried out, they end at the best plan's last ledger.
-  last_is : carried b.facts (drafted up ups down at) ≡ lastLedger b ok w.best
+  last_is : carried b.facts (drafted up ups down at) ≡ last_ledger b ok w.best
   last_is =
       ap (carried b.facts) drafted_is ∙ run-carried b b.query.roles b.facts 1 (map bytes_of w.us ++ map bytes_of w.ds)
-      (lastLedger b ok w.best) (best-leads b ok w.best).led
+      (last_ledger b ok w.best) (best-leads b ok w.best).led
 
   -- That decides: where it meets the query they work, and where it does not there is no way.
   pub found_best : (found : Bool) → found ≡ met b (holds (carried b.facts (drafted up ups down at))) → PlanFound b up down found ups at
@@ -74,7 +74,7 @@ module _ (b : Contents) (leveled : Leveled b) {up down : List ℕ} {ups at : ℕ
         few = written_few;
       }
     where
-      meets : found ≡ met b (holds (lastLedger b ok w.best))
+      meets : found ≡ met b (holds (last_ledger b ok w.best))
       meets = e ∙ ap (λ (l : List ℕ). met b (holds l)) last_is
 
 -- No run ends clear of the forbidden facts: nothing is found.

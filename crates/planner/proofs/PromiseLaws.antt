@@ -146,13 +146,13 @@ module _ (b : Contents) (ok : Admitted b) where
     abbrev pub done : Chained b ok b.facts 1 (add_then_delete us ds)
     done = run-done us ds best.way.runs
 
-    abbrev pub lastLedger : List ℕ
-    lastLedger = done.last
+    abbrev pub last_ledger : List ℕ
+    last_ledger = done.last
 
-    pub best-leads : Leads b (map bytes_of us ++ map bytes_of ds) lastLedger
+    pub best-leads : Leads b (map bytes_of us ++ map bytes_of ds) last_ledger
     best-leads = run-leads us ds best.way.runs
 
-    pub best-works : met b (holds lastLedger) ≡ true → Works b (map bytes_of us ++ map bytes_of ds)
+    pub best-works : met b (holds last_ledger) ≡ true → Works b (map bytes_of us ++ map bytes_of ds)
     best-works meets = run-works us ds best.way.runs best.way.once-up best.way.once-down meets
 
 -- ---------------------------------------------------------------- no way
@@ -178,7 +178,7 @@ module _ (b : Contents) (leveled : Leveled b) where
 
   module _ {us ds : List Ask} (best : Best (depot b) (bad b) (starts b) us ds) where
     abbrev last : List ℕ
-    last = lastLedger b ok best
+    last = last_ledger b ok best
 
     clear-last : Clear (bad b) (track b (holds last))
     clear-last = subst (Clear (bad b)) (sym (done b ok best).ends_at) best.way.clear

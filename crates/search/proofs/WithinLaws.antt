@@ -95,16 +95,16 @@ module _ (b : Contents) (ok : Leveled b) (rs : Rules) (same-rules : b.rules ≡ 
     zero-value r parts five = (crew_low b.sizes ok.book.sized r.a r.v (rule_crew b.sizes ok.book.sized r parts five)).1
 
     -- A rule as the depot's request.
-    wholeAsk : Rule → Ask
-    wholeAsk r = record { fact = 160 * k + place_of r.op r.a r.v; op = r.op; role = r.role.0; subject = p; a = r.a; v = r.v }
+    whole_ask : Rule → Ask
+    whole_ask r = record { fact = 160 * k + place_of r.op r.a r.v; op = r.op; role = r.role.0; subject = p; a = r.a; v = r.v }
 
     -- The depot's request with a rule's fields.
-    rule-asked : (r : Rule) → asked (wholeAsk r) ≡ record { op = r.op; role = r.role; fact = aimed r.op p r.a r.v }
-    unfolding wholeAsk
-    rule-asked r = request_parts (bytes_of (wholeAsk r))
+    rule-asked : (r : Rule) → asked (whole_ask r) ≡ record { op = r.op; role = r.role; fact = aimed r.op p r.a r.v }
+    unfolding whole_ask
+    rule-asked r = request_parts (bytes_of (whole_ask r))
 
     permits-rule : (S : State) (r : Rule) → Parts b.sizes r → GoodRule r → plain r ≡ true → Op r.op → rule_shown T S r ≡ true
-        → PermittedBy b.juniors (lift b (on_level k R S)) (asked (wholeAsk r)) r
+        → PermittedBy b.juniors (lift b (on_level k R S)) (asked (whole_ask r)) r
     permits-rule S r parts good no-not op shows =
         rw (rule-asked r)
         (record {
@@ -117,20 +117,20 @@ module _ (b : Contents) (ok : Leveled b) (rs : Rules) (same-rules : b.rules ≡ 
 
     may-rule : (S : State) (j : ℕ) (on : Bool) → j < rs.count → Op (rule_at rs j).op → adds (rule_at rs j).op ≡ on
         → member b.query.roles (rule_at rs j).role.0 ≡ true
-        → rule_shown T S (rule_at rs j) ≡ true → May b (on_level k R S) on (wholeAsk (rule_at rs j))
-    unfolding wholeAsk
+        → rule_shown T S (rule_at rs j) ≡ true → May b (on_level k R S) on (whole_ask (rule_at rs j))
+    unfolding whole_ask
     may-rule S j on l op add role shows =
         let r = rule_at rs j in
         let parts = rule_parts b.sizes r (fits_at j l) in
         let good = all_good.good j l in
         record {
-          formed = well_formed_from b.sizes (bytes_of (wholeAsk r)) refl (level.good r parts op);
+          formed = well_formed_from b.sizes (bytes_of (whole_ask r)) refl (level.good r parts op);
           role = role;
           adding = add;
           of_fact = rw (rule-asked r) (level.tracks r parts op);
           number = rw (rule-asked r) (level.number r parts op);
           bounded = omega (arith, level.low, good.aims);
-          allows = permitted_from b.juniors (lift b (on_level k R S)) (asked (wholeAsk r)) b.rules no_rule j (rw (listed-length rs same-rules few room) l)
+          allows = permitted_from b.juniors (lift b (on_level k R S)) (asked (whole_ask r)) b.rules no_rule j (rw (listed-length rs same-rules few room) l)
               (rw (listed_at rs same-rules j l) (permits-rule S r parts good (plain_rule j l) op shows));
         }
 
@@ -160,7 +160,7 @@ module _ (b : Contents) (ok : Leveled b) (rs : Rules) (same-rules : b.rules ≡ 
     module _ {one two : ℕ} {on : Bool} (side : SideIs Op one two on) (ms : Moves) (moves : MovesOf rs one two b.query.roles ms rs.count) where
       -- What a move permits at the level, the depot permits.
       side-into : (S : State) (q : Ask) → Some T ms p S q → May b (on_level k R S) on (to_whole k q)
-      unfolding wholeAsk
+      unfolding whole_ask
       side-into S q some =
           let from = moves.each some.index some.listed in
           let j = from.0 in
@@ -168,7 +168,7 @@ module _ (b : Contents) (ok : Leveled b) (rs : Rules) (same-rules : b.rules ≡ 
           let move = from.3 in
           let parts = chosen_parts one two b.query.roles (rule_at rs j) from.2 in
           let op = side.to (rule_at rs j).op parts.0 in
-          let whole : to_whole k q ≡ wholeAsk (rule_at rs j) = rw (some.same, move.fine.aim, move.op, move.role, move.a, move.v) refl in
+          let whole : to_whole k q ≡ whole_ask (rule_at rs j) = rw (some.same, move.fine.aim, move.op, move.role, move.a, move.v) refl in
           subst (May b (on_level k R S) on) (sym whole)
           (may-rule S j on l op.0 op.1 parts.1 (sym (move_met T S (all_good.good j l) (plain_rule j l) move) ∙ some.holds))
 
@@ -177,15 +177,15 @@ module _ (b : Contents) (ok : Leveled b) (rs : Rules) (same-rules : b.rules ≡ 
       some_of S q here may j l named =
           let r = rule_at rs j in
           let fact_of = ap (λ (x : Request). x.fact) (request_parts (bytes_of q)) in
-          let on_level = sym (ap (number_of b) fact_of) ∙ may.number in
+          let numbered = sym (ap (number_of b) fact_of) ∙ may.number in
           let parts = rule_parts b.sizes r (fits_at j l) in
           let good = all_good.good j l in
           let of_fact = sym (ap (tracked b) fact_of) ∙ may.of_fact in
-          let at_level = ap (λ (n : ℕ). n / 160) on_level ∙ here in
+          let at_level = ap (λ (n : ℕ). n / 160) numbered ∙ here in
           let where-at = level.from_number q.op q.subject q.a q.v q.role (fields-of q may.formed) of_fact at_level in
           let op : Op r.op = subst Op (sym named.op) where-at.0 in
           let aim : aimed q.op q.subject q.a q.v ≡ aimed r.op p r.a r.v = rw (named.op, named.a, named.v, where-at.1) refl in
-          let number : q.fact ≡ 160 * k + place_of r.op r.a r.v = sym on_level ∙ ap (number_of b) aim ∙ level.number r parts op in
+          let number : q.fact ≡ 160 * k + place_of r.op r.a r.v = sym numbered ∙ ap (number_of b) aim ∙ level.number r parts op in
           let on-side = side.from r.op op (ap adds named.op ∙ may.adding) in
           let chosen = chosen_from one two b.query.roles r on-side (ap (member b.query.roles) named.role ∙ may.role) in
           let found = moves.every j l chosen in

@@ -1,3 +1,3 @@
-// What the proofs that walk code by hand have in common: laws, no code.
+// Laws of the logic for proofs that walk code by hand, of slices and arrays that are lent: no code.
 
 #![tactic(auto)]

@@ -1,4 +1,4 @@
--- `sizes::count_at_lem` meets its contract: the counts begin behind the A. Assumes nothing.
+-- `sizes::count_at` meets its contract: the counts begin behind the A. Assumes nothing.
 use Rattle.sizes.proofs.count_at.Goals as goal
 
 pub returns : goal.returns
