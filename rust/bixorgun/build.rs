@@ -42,7 +42,7 @@ fn link() -> Result<(), String> {
 fn missing(archive: &Path, whence: &str) -> String {
     format!(
         "{} is not there ({whence}).\n\
-         Make it with `rt lib bixorgun` in the repository's root, which writes crates/bixorgun/out/{ARCHIVE},\n\
+         Make it with `rt lib` in the repository's crates/bixorgun, which writes out/{ARCHIVE} there,\n\
          or name the directory that has it: {VARIABLE}=DIRECTORY cargo build",
         archive.display()
     )

@@ -1,4 +1,4 @@
-//! The programs `plan`, `depot_page` and `judge` as `rt run` builds them, run on the stored books and on books around
+//! The programs `plan`, `depot_page` and `judge` as `rt run` in their folders builds them, run on the stored books and on books around
 //! the lengths of their buffers. What they print is proved but for the few lines that read and write; these lines are what is tried here.
 
 use std::fs;
@@ -24,7 +24,7 @@ fn output(program: &str, parts: &[&[u8]]) -> String {
         .stdin(Stdio::piped())
         .stdout(Stdio::piped())
         .spawn()
-        .unwrap_or_else(|error| panic!("{}: {error}; `rt run {program}` builds it", path.display()));
+        .unwrap_or_else(|error| panic!("{}: {error}; `rt run` in crates/{program} builds it", path.display()));
     let mut input = child.stdin.take().expect("a pipe");
     for (k, part) in parts.iter().enumerate() {
         if k > 0 {
