@@ -1,9 +1,13 @@
--- `streams::read_full` meets its contract: the bytes read so far lie within the buffer, whose length stays. The measure is the room left.
-use Rattle.std.proofs.Common.{length, ◌-◌, ◌≡◌, ◌≤◌}
+-- `streams::read_full` meets its contract: the bytes read so far stand in the front of the buffer, are the next of the input, and lie within
+-- the buffer, whose length stays. The measure is the room left.
+use Rattle.std.proofs.Common.{length, take, ◌-◌, ◌≡◌, ◌≤◌}
+use Rattle.std.specs.Io.KnownBytes.{Consumes}
 use Rattle.streams.proofs.read_full.Given as goal
 
 abbrev pub invariant-loop-done : goal.invariant-loop-done
-invariant-loop-done g l = (l.done ≤ length l.buf) × (length l.buf ≡ length l.initial.buf)
+invariant-loop-done g l =
+    (l.done ≤ length l.buf) × (length l.buf ≡ length l.initial.buf)
+    × Consumes (g.R.Read.remaining l.initial.reader) (g.R.Read.remaining l.reader) (take l.done l.buf)
 
 abbrev pub decreases-loop-done : goal.decreases-loop-done
 decreases-loop-done g l = length l.initial.buf - l.done
