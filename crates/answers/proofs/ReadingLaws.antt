@@ -5,8 +5,8 @@ use Prim.Native.Nat.{ℕ, ◌+◌, ◌<◌}
 use lib.ListN.{length, set}
 use Rattle.frames.specs.Book.{Contents, contents_of, told_by, refusal_number, refusal_line}
 use Rattle.frames.specs.declared.Refusal.{Refusal}
-use Rattle.frames.specs.declared.Outcome.TheVariants.{Accepted, Refused}
-use Rattle.frames.specs.declared.Reading.{Reading}
+use Rattle.frames.specs.declared.Book.{Book}
+use Rattle.std.specs.Prelude.{Ok, Err}
 use Rattle.answers.specs.Answers.{hex, hex_line, refused_bytes, total, count, sizes_bytes, book_line, answer_line}
 use Rattle.answers.specs.Inner.Written.{Written}
 use Rattle.answers.proofs.WrittenLaws.{written_char, written_as, written_more}
@@ -25,13 +25,13 @@ book_written b {counted = counted} {l = l} sizes e edges rules f facts room aske
     let counted-all = written_more (written_more edged rules) (written_as facts (ap count f)) in
     written_more counted-all (written_more (written_char counted l 32 room) asked)
 
-module _ (r : Reading) {before after : List ℕ} {end : ℕ} where
-  pub refused_answered : (f : Refusal) {number line : ℕ} → r.outcome ≡ Refused f → number ≡ refusal_number f → line ≡ refusal_line f
-      → Written before 0 (hex_line (refused_bytes number line)) after end → Written before 0 (answer_line (told_by r).answer) after end
-  unfolding answer_line told_by
-  refused_answered f e n k w = rw e (rw (n, k) at w)
+module _ {before after : List ℕ} {end : ℕ} where
+  pub refused_answered : (f : Refusal) {number line : ℕ} → number ≡ refusal_number f → line ≡ refusal_line f
+      → Written before 0 (hex_line (refused_bytes number line)) after end → Written before 0 (answer_line (told_by (Err f))) after end
+  unfolding answer_line
+  refused_answered f n k w = rw (n, k) at w
 
-  pub accepted_answered : r.outcome ≡ Accepted → Written before 0 (book_line (contents_of r.book)) after end
-      → Written before 0 (answer_line (told_by r).answer) after end
-  unfolding answer_line told_by
-  accepted_answered e w = rw e w
+  pub accepted_answered : (b : Book) → Written before 0 (book_line (contents_of b)) after end
+      → Written before 0 (answer_line (told_by (Ok b))) after end
+  unfolding answer_line
+  accepted_answered b w = w

@@ -9,8 +9,8 @@ use lib.Seq.{take-suc, take-suc-set, take_all, drop-set-lt, drop-drop, length-ta
 use Rattle.lines.specs.Digits.{character}
 use Rattle.replay.specs.Chains.{fives}
 use Rattle.replay.proofs.ReplayLaws.{fives_step, fives-none}
-use Rattle.planner.specs.declared.Planned.{Planned}
-use Rattle.planner.specs.declared.Planned.TheVariants.{NoWay, Plan, Refused}
+use Rattle.planner.specs.Answer.{Planned}
+use Rattle.std.specs.Prelude.{Ok, Err, Some, None}
 use Rattle.planner.specs.declared.Refusal.{Refusal}
 use Rattle.planner.specs.Answer.{refusal_number, refusal_line, said}
 use Rattle.answers.specs.Answers.{hex, hex_line, no_way_bytes, count_bytes, refused_bytes, request_lines, count, answer_text}
@@ -169,18 +169,18 @@ module _ {before : List ℕ} {at : ℕ} {plan : List ℕ} {from : ℕ} {text : L
 -- ---------------------------------------------------------------- an answer, case by case
 
 module _ {answer : Planned} (plan : List ℕ) {before : List ℕ} where
-  pub no_way-written : {after : List ℕ} {end : ℕ} → answer ≡ NoWay → Written before 0 (hex_line (128 ∷ [])) after end
+  pub no_way-written : {after : List ℕ} {end : ℕ} → answer ≡ Ok None → Written before 0 (hex_line (128 ∷ [])) after end
       → Written before 0 (answer_text (said answer) plan) after end
   unfolding no_way_bytes
   no_way-written e w = rw e w
 
-  pub plan-written : {middle after : List ℕ} {first end : ℕ} (n : ℕ) {high low : ℕ} → answer ≡ Plan n → high ≡ n / 256 % 256 → low ≡ n % 256
+  pub plan-written : {middle after : List ℕ} {first end : ℕ} (n : ℕ) {high low : ℕ} → answer ≡ Ok (Some n) → high ≡ n / 256 % 256 → low ≡ n % 256
       → Written before 0 (hex_line (129 ∷ high ∷ low ∷ [])) middle first → Written middle first (request_lines (fives (take (5 * n) plan))) after end
       → Written before 0 (answer_text (said answer) plan) after end
   unfolding count_bytes
   plan-written n e h l w below = rw e (written_more (rw (h, l) at w) below)
 
-  pub refused-written : {after : List ℕ} {end : ℕ} (r : Refusal) {number line : ℕ} → answer ≡ Refused r
+  pub refused-written : {after : List ℕ} {end : ℕ} (r : Refusal) {number line : ℕ} → answer ≡ Err r
       → number ≡ refusal_number r → line ≡ refusal_line r
       → Written before 0 (hex_line (refused_bytes number line)) after end → Written before 0 (answer_text (said answer) plan) after end
   refused-written r e n k w = rw e (rw (n, k) at w)

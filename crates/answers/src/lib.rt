@@ -9,36 +9,36 @@ ghost use Rattle.planner.specs.Answer.{said};
 ghost use Rattle.answers.specs.Answers.{hex, hex_line, refused_bytes, request_lines, answer_text};
 ghost use Rattle.answers.specs.Inner.Written.{Written, Room};
 
+use lines::Characters;
+
 // One byte in a lent text, as its two digits, by the table of the values' characters. Each of these functions returns the place behind
 // what it wrote.
-fn put_byte(b: u8, characters: &[u8; 16], text: &mut [u8], at: usize) -> usize
-    requires { Encodings characters.now × (at + 2 ≤ length text.old) }
+fn put_byte(b: u8, characters: &Characters, text: &mut [u8], at: usize) -> usize
+    requires { at + 2 ≤ length text.old }
     ensures { Written text.old at (hex (b ∷ [])) text.new result }
 {
     let high = (b / 16) as usize;
     let low = (b % 16) as usize;
-    text[at] = characters[high];
-    text[at + 1] = characters[low];
+    text[at] = characters.table[high];
+    text[at + 1] = characters.table[low];
     at + 2
 }
 
 // The digits of bytes in a lent text.
-pub fn put_bytes(bytes: &[u8], characters: &[u8; 16], text: &mut [u8], at: usize) -> usize
-    requires { Encodings characters.now × (at + 2 * length bytes.now ≤ length text.old) }
+pub fn put_bytes(bytes: &[u8], characters: &Characters, text: &mut [u8], at: usize) -> usize
+    requires { at + 2 * length bytes.now ≤ length text.old }
     ensures { Written text.old at (hex bytes.now) text.new result }
 {
     let mut end = at;
-    let mut k: usize = 0;
-    while k < bytes.len() {
-        end = put_byte(bytes[k], characters, text, end);
-        k += 1;
+    for b in bytes {
+        end = put_byte(*b, characters, text, end);
     }
     end
 }
 
 // A line in a lent text.
-pub fn put_line(bytes: &[u8], characters: &[u8; 16], text: &mut [u8], at: usize) -> usize
-    requires { Encodings characters.now × (at + 2 * length bytes.now + 1 ≤ length text.old) }
+pub fn put_line(bytes: &[u8], characters: &Characters, text: &mut [u8], at: usize) -> usize
+    requires { at + 2 * length bytes.now + 1 ≤ length text.old }
     ensures { Written text.old at (hex_line bytes.now) text.new result }
 {
     let end = put_bytes(bytes, characters, text, at);
@@ -47,20 +47,19 @@ pub fn put_line(bytes: &[u8], characters: &[u8; 16], text: &mut [u8], at: usize)
 }
 
 // The requests of a plan in a lent text, one a line.
-fn put_requests(plan: &[u8], characters: &[u8; 16], text: &mut [u8], at: usize) -> usize
-    requires { Encodings characters.now × (5 * at + 11 * length plan.now ≤ 5 * length text.old) }
+fn put_requests(plan: &[u8], characters: &Characters, text: &mut [u8], at: usize) -> usize
+    requires { 5 * at + 11 * length plan.now ≤ 5 * length text.old }
     ensures { Written text.old at (request_lines (fives plan.now)) text.new result }
 {
     let mut end = at;
-    let mut from: usize = 0;
-    while from + 5 <= plan.len() {
-        let next = from + 5;
-        end = put_line(&plan[from..next], characters, text, end);
-        from = next;
+    for i in 0..plan.len() / 5 {
+        let from = 5 * i;
+        end = put_line(&plan[from..from + 5], characters, text, end);
     }
     end
 }
 
+// Kept: two functions in the definitions' words, here and `low_byte`, which `readings` calls too, not `to_be_bytes` after a cast.
 pub fn high_byte(n: usize) -> u8
     ensures { result ≡ n / 256 % 256 }
 {
@@ -74,35 +73,42 @@ pub fn low_byte(n: usize) -> u8
 }
 
 // 8F, the number and the line of a refusal, in the front of a lent text.
+// Kept: the table and its fact as a clause, not `Characters`: docs/PROMISES.md names this function, so its parameters may not change.
 pub fn put_refused(number: u8, line: usize, characters: &[u8; 16], text: &mut [u8]) -> usize
     requires { Encodings characters.now × (9 ≤ length text.old) }
     ensures { Written text.old 0 (hex_line (refused_bytes number line)) text.new result }
 {
     let high = high_byte(line);
     let low = low_byte(line);
-    put_line(&[0x8F, number, high, low], characters, text, 0)
+    let characters = Characters { table: *characters };
+    put_line(&[0x8F, number, high, low], &characters, text, 0)
 }
 
 // The planner's answer in the front of a lent text, with the plan in the front of `plan`.
-pub fn put_answer(answer: planner::Planned, plan: &[u8], text: &mut [u8]) -> usize
+pub fn put_answer(
+    answer: Result<Option<usize>, planner::Refusal>,
+    plan: &[u8],
+    text: &mut [u8],
+) -> usize
     requires { Room answer plan.now text.old }
     ensures { Written text.old 0 (answer_text (said answer) plan.now) text.new result }
 {
-    let mut characters = [0u8; 16];
-    lines::fill_characters(&mut characters);
+    let characters = Characters::new();
     match answer {
-        planner::Planned::NoWay => put_line(&[0x80], &characters, text, 0),
-        planner::Planned::Plan(n) => {
-            let high = high_byte(n);
-            let low = low_byte(n);
-            let first = put_line(&[0x81, high, low], &characters, text, 0);
-            let end = 5 * n;
-            put_requests(&plan[..end], &characters, text, first)
-        }
-        planner::Planned::Refused(r) => {
+        Ok(planned) => match planned {
+            None => put_line(&[0x80], &characters, text, 0),
+            Some(n) => {
+                let high = high_byte(n);
+                let low = low_byte(n);
+                let first = put_line(&[0x81, high, low], &characters, text, 0);
+                let end = 5 * n;
+                put_requests(&plan[..end], &characters, text, first)
+            }
+        },
+        Err(r) => {
             let number = planner::refusal_number(r);
             let line = planner::refusal_line(r);
-            put_refused(number, line, &characters, text)
+            put_refused(number, line, &characters.table, text)
         }
     }
 }

@@ -8,11 +8,10 @@ use borrow.Author.Tests.{le-leb, lt-leb}
 use lib.ListN.{length, get_or, take, drop, set, length-append, length-drop}
 use lib.Seq.{take-suc, take_all, drop-drop, length-take-le}
 use Rattle.ledger.specs.declared.Refusal.{Refusal}
-use Rattle.ledger.specs.declared.Outcome.{Outcome}
-use Rattle.ledger.specs.declared.Outcome.TheVariants.{Done, Refused}
+use Rattle.ledger.specs.Ledger.{refusal, at_term, told, refusal_number}
+use Rattle.ledger.specs.Show.{View, view_of, shown}
 use Rattle.ledger.specs.declared.Shown.{Shown}
-use Rattle.ledger.specs.Ledger.{refusal, at_term, told, said, refusal_number}
-use Rattle.ledger.specs.Show.{View, shown, view_of}
+use Rattle.std.specs.Prelude.{Result, Err}
 use Rattle.bixorgun.specs.Codes.{code, told_value, said_code, two, put_two, twos, view_bytes, coded, view_coded}
 
 -- ---------------------------------------------------------------- one number read back
@@ -110,23 +109,17 @@ module _ {sets before : List ℕ} {i : ℕ} {view : List ℕ} (eight : length se
 
 -- ---------------------------------------------------------------- what show answers
 
-module _ (s : Shown) (v : View) (e : view_of s ≡ v) where
-  pub view_hidden : (r : Refusal) → s.outcome ≡ Refused r → v.answer ≡ refusal (refusal_number r) (told r)
-  unfolding view_of
-  view_hidden r o = ap (λ (x : View). x.answer) (sym e) ∙ ap said o
-
-  pub view_shown : s.outcome ≡ Done → v ≡ shown s.sets s.crews
-  unfolding view_of
-  view_shown o = sym e ∙ ap (λ (w : Outcome). record { answer = said w; sets = s.sets; crews = s.crews }) o
+pub view_hidden : (s : Result Shown Refusal) (v : View) → view_of s ≡ v → (r : Refusal) → s ≡ Err r → v.answer ≡ refusal (refusal_number r) (told r)
+view_hidden s v e r o = ap (λ (x : View). x.answer) (sym e ∙ ap view_of o)
 
 module _ (v : View) (before : List ℕ) (n : ℕ) where
   pub hidden-coded : (r : Refusal) → v.answer ≡ refusal (refusal_number r) (told r) → n ≡ said_code (refusal (refusal_number r) (told r))
       → coded n before ≡ view_coded v before
   hidden-coded r e is = rw (e, is) refl
 
-  pub no_room-coded : (sets : List ℕ) (crews : ℕ) → v ≡ shown sets crews → length before < 20 → n ≡ code 7 0 0 → coded n before ≡ view_coded v before
-  no_room-coded sets crews e short is = rw (e, is, lt-leb 20 (length before) short) refl
+  pub no_room-coded : (sets : List ℕ) (crews : ℕ) → shown sets crews ≡ v → length before < 20 → n ≡ code 7 0 0 → coded n before ≡ view_coded v before
+  no_room-coded sets crews e short is = rw (← e, is, lt-leb 20 (length before) short) refl
 
-  pub shown-coded : (sets : List ℕ) (crews : ℕ) (after : List ℕ) → v ≡ shown sets crews → 20 ≤ length before → n ≡ code 0 0 0 →
+  pub shown-coded : (sets : List ℕ) (crews : ℕ) (after : List ℕ) → shown sets crews ≡ v → 20 ≤ length before → n ≡ code 0 0 0 →
       after ≡ view_bytes sets crews ++ drop 20 before → coded n after ≡ view_coded v before
-  shown-coded sets crews after e room is written = rw (e, is, written, le-leb 20 (length before) room) refl
+  shown-coded sets crews after e room is written = rw (← e, is, written, le-leb 20 (length before) room) refl

@@ -5,9 +5,9 @@ use Rattle.ledger.specs.Show.{View}
 use Rattle.replay.specs.declared.Judgement.{Judgement}
 use Rattle.replay.specs.declared.Judgement.TheVariants.{Reaches, Stops, EndsShort}
 use Rattle.replay.specs.Replay.{Said as ReplaySaid, judged, refusal as replay_refusal}
-use Rattle.planner.specs.declared.Planned.{Planned}
+use Rattle.planner.specs.Answer.{Planned}
 use Rattle.planner.specs.Answer.{Said as PlanSaid, said80, said81, said8_f, said as plan_said, PlanPromise}
-use Rattle.page.specs.declared.Paged.{Paged}
+use Rattle.page.specs.Page.{Paged}
 use Rattle.page.specs.Page.{Said as PageSaid, done as page_done, refusal as page_refusal, said as page_said, PagePromise}
 
 -- ---------------------------------------------------------------- one number

@@ -4,15 +4,33 @@
 
 ghost use Rattle.std.specs.Prelude.{◌≡◌, ◌++◌, ◌+◌, ◌≤◌, length, drop};
 ghost use Rattle.ledger.specs.Ledger.{refusal_number, denial_told, told, refusal, said, open_reply, request_reply};
-ghost use Rattle.ledger.specs.Show.{show_view};
+ghost use Rattle.ledger.specs.Show.{shown, show_view};
 ghost use Rattle.replay.specs.Replay.{said as replay_said, replayed};
 ghost use Rattle.planner.specs.Answer.{said as plan_said};
 ghost use Rattle.page.specs.Page.{said as page_said};
-ghost use Rattle.bixorgun.specs.Codes.{code, told_value, said_code, judgement_code, replay_code, plan_code, page_code};
+ghost use Rattle.bixorgun.specs.Codes.{code, refused, told_value, said_code, judgement_code, replay_code, plan_code, page_code};
 ghost use Rattle.bixorgun.specs.Codes.{coded, reply_coded, put_two, view_bytes, view_coded, PlanCoded, PageCoded};
 
 use denials::Denial;
 use facts::Person;
+
+// What an answer says, in its lowest byte.
+// Kept: numbers, since the C interface has them.
+const DONE: u8 = 0;
+
+const REFUSED: u8 = 1;
+
+const NO_WAY: u8 = 2;
+
+const PLAN: u8 = 3;
+
+const REACHES: u8 = 4;
+
+const STOPS: u8 = 5;
+
+const ENDS_SHORT: u8 = 6;
+
+const NO_ROOM: u8 = 7;
 
 // A result, a refusal's number and what is told beside it as one number.
 fn code_of(res: u8, number: u8, value: usize) -> u64
@@ -22,13 +40,20 @@ fn code_of(res: u8, number: u8, value: usize) -> u64
     (res as u64) + 256 * (number as u64) + 65536 * v
 }
 
+// A refusal, by its number and what is told beside it.
+fn refused_code(number: u8, value: usize) -> u64
+    ensures { result ≡ code refused number value }
+{
+    code_of(REFUSED, number, value)
+}
+
 // The value beside 13 and 15.
 fn denial_value(d: Denial) -> usize
     ensures { result ≡ told_value (denial_told d) }
 {
     match d {
         Denial::NoRule => 0,
-        Denial::Unmet(rule, term) => 256 * (rule as usize) + (term as usize),
+        Denial::Unmet(rule, term) => 256 * usize::from(rule) + usize::from(term),
     }
 }
 
@@ -38,8 +63,7 @@ fn told_value(r: ledger::Refusal) -> usize
 {
     match r {
         ledger::Refusal::BadBook(b) => frames::refusal_line(b),
-        ledger::Refusal::BadLedger => 0,
-        ledger::Refusal::BadRequest => 0,
+        ledger::Refusal::BadLedger | ledger::Refusal::BadRequest => 0,
         ledger::Refusal::NotPermitted(d) => denial_value(d),
     }
 }
@@ -47,15 +71,15 @@ fn told_value(r: ledger::Refusal) -> usize
 fn refusal_code(r: ledger::Refusal) -> u64
     ensures { result ≡ said_code (refusal (refusal_number r) (told r)) }
 {
-    code_of(1, ledger::refusal_number(r), told_value(r))
+    refused_code(ledger::refusal_number(r), told_value(r))
 }
 
-fn outcome_code(o: ledger::Outcome) -> u64
+fn outcome_code(o: Result<(), ledger::Refusal>) -> u64
     ensures { result ≡ said_code (said o) }
 {
     match o {
-        ledger::Outcome::Done => code_of(0, 0, 0),
-        ledger::Outcome::Refused(r) => refusal_code(r),
+        Ok(()) => code_of(DONE, 0, 0),
+        Err(r) => refusal_code(r),
     }
 }
 
@@ -63,45 +87,37 @@ fn judgement_code(j: replay::Judgement) -> u64
     ensures { result ≡ judgement_code j }
 {
     match j {
-        replay::Judgement::Reaches => code_of(4, 0, 0),
-        replay::Judgement::Stops(k) => code_of(5, 0, k),
-        replay::Judgement::EndsShort => code_of(6, 0, 0),
+        replay::Judgement::Reaches => code_of(REACHES, 0, 0),
+        replay::Judgement::Stops(k) => code_of(STOPS, 0, k),
+        replay::Judgement::EndsShort => code_of(ENDS_SHORT, 0, 0),
     }
 }
 
-fn replay_code(a: replay::Replayed) -> u64
+fn replay_code(a: Result<replay::Judgement, replay::Refusal>) -> u64
     ensures { result ≡ replay_code (replay_said a) }
 {
     match a {
-        replay::Replayed::Judged(j) => judgement_code(j),
-        replay::Replayed::Refused(r) => code_of(
-            1,
-            replay::refusal_number(r),
-            replay::refusal_line(r),
-        ),
+        Ok(j) => judgement_code(j),
+        Err(r) => refused_code(replay::refusal_number(r), replay::refusal_line(r)),
     }
 }
 
-fn plan_code(a: planner::Planned) -> u64
+fn plan_code(a: Result<Option<usize>, planner::Refusal>) -> u64
     ensures { result ≡ plan_code (plan_said a) }
 {
     match a {
-        planner::Planned::NoWay => code_of(2, 0, 0),
-        planner::Planned::Plan(n) => code_of(3, 0, n),
-        planner::Planned::Refused(r) => code_of(
-            1,
-            planner::refusal_number(r),
-            planner::refusal_line(r),
-        ),
+        Ok(None) => code_of(NO_WAY, 0, 0),
+        Ok(Some(n)) => code_of(PLAN, 0, n),
+        Err(r) => refused_code(planner::refusal_number(r), planner::refusal_line(r)),
     }
 }
 
-fn page_code(a: page::Paged) -> u64
+fn page_code(a: Result<(), page::Refusal>) -> u64
     ensures { result ≡ page_code (page_said a) }
 {
     match a {
-        page::Paged::Filled => code_of(0, 0, 0),
-        page::Paged::Refused(r) => code_of(1, page::refusal_number(r), page::refusal_line(r)),
+        Ok(()) => code_of(DONE, 0, 0),
+        Err(r) => refused_code(page::refusal_number(r), page::refusal_line(r)),
     }
 }
 
@@ -126,6 +142,7 @@ fn put_two(view: &mut [u8], at: usize, x: u32)
     requires { (at ≤ 18) × (at + 2 ≤ length view.old) }
     ensures { view.new ≡ put_two view.old at x }
 {
+    // Kept: a set of 32 bits by its lower half; `to_be_bytes` after a cast and `copy_from_slice` is no plainer.
     view[at] = (x / 256 % 256) as u8;
     view[at + 1] = (x % 256) as u8;
 }
@@ -135,13 +152,22 @@ fn write_view(sets: [u32; 8], crews: u32, view: &mut [u8])
     requires { 20 ≤ length view.old }
     ensures { view.new ≡ view_bytes sets crews ++ drop 20 view.old }
 {
-    let mut i: usize = 0;
-    while i < 8 {
-        put_two(view, 2 * i, sets[i]);
-        i += 1;
+    for (i, set) in sets.iter().enumerate() {
+        put_two(view, 2 * i, *set);
     }
     put_two(view, 16, crews / 65536);
     put_two(view, 18, crews);
+}
+
+// What show gives, in the buffer's front where there is room.
+fn put_view(s: ledger::Shown, view: &mut [u8]) -> u64
+    ensures { coded result view.new ≡ view_coded (shown s.sets s.crews) view.old }
+{
+    if view.len() < 20 {
+        return code_of(NO_ROOM, 0, 0);
+    }
+    write_view(s.sets, s.crews, view);
+    code_of(DONE, 0, 0)
 }
 
 // Shows a person's effective sets and crews.
@@ -149,17 +175,10 @@ fn write_view(sets: [u32; 8], crews: u32, view: &mut [u8])
 pub extern "C" fn bixorgun_show(book: &[u8], state: &[u8], person: u8, view: &mut [u8]) -> u64
     ensures { coded result view.new ≡ view_coded (show_view book.now state.now (record { 0 = person })) view.old }
 {
-    let s = ledger::show(book, state, Person(person));
-    let outcome = s.outcome;
-    if let ledger::Outcome::Refused(r) = outcome {
-        return refusal_code(r);
+    match ledger::show(book, state, Person(person)) {
+        Ok(s) => put_view(s, view),
+        Err(r) => refusal_code(r),
     }
-    if view.len() < 20 {
-        return code_of(7, 0, 0);
-    }
-    let sets = s.sets;
-    write_view(sets, s.crews, view);
-    code_of(0, 0, 0)
 }
 
 // Judges a list of requests from the starting facts.

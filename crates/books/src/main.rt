@@ -19,10 +19,13 @@ fn write_judgement<W: Write>(writer: &mut W, j: replay::Judgement) -> io::Result
     }
 }
 
-fn write_replayed<W: Write>(writer: &mut W, r: replay::Replayed) -> io::Result<()> {
+fn write_replayed<W: Write>(
+    writer: &mut W,
+    r: Result<replay::Judgement, replay::Refusal>,
+) -> io::Result<()> {
     match r {
-        replay::Replayed::Judged(j) => write_judgement(writer, j),
-        replay::Replayed::Refused(_) => writer.write_all(b" refused "),
+        Ok(j) => write_judgement(writer, j),
+        Err(_) => writer.write_all(b" refused "),
     }
 }
 
@@ -35,13 +38,12 @@ fn plan<W: Write>(writer: &mut W, book: &[u8]) -> io::Result<()> {
     let end = lines::line_end(&text, 0);
     writer.write_all(&text[..end])?;
     match answer {
-        planner::Planned::NoWay => writer.write_all(b" - "),
-        planner::Planned::Plan(count) => {
+        Ok(Some(count)) => {
             let requests = 5 * count;
             let r = replay::replay(book, &out[..requests]);
             write_replayed(writer, r)
         }
-        planner::Planned::Refused(_) => writer.write_all(b" - "),
+        Ok(None) | Err(_) => writer.write_all(b" - "),
     }
 }
 

@@ -7,8 +7,9 @@ use Prim.Native.Nat.{ℕ, ◌+◌, ◌-◌, ◌≤◌, ◌<◌}
 use native.Mathlib.Decide.{dec_lt}
 use native.Mathlib.Omega.{arith}
 use lib.Dec.{ltb}
-use lib.ListN.{length, get_or, set, length-set}
-use lib.Seq.{get_or-set_same, get_or-set_other}
+use lib.ListN.{length, get_or, take}
+use Rattle.std.proofs.lemmas.List.{get_or-take}
+use Rattle.std.specs.Prelude.{Option, Some, None, is_some, IfSome}
 use borrow.Author.Tests.{lt-ltb, le-ltb}
 use Rattle.quantifiers.proofs.BelowLaws.{any_false}
 use Rattle.theory.specs.Inner.Facts.{State, update, minus}
@@ -16,32 +17,7 @@ use Rattle.theory.proofs.FactLaws.{update_same, update_other, minus_in, antisym,
 use Rattle.shown.specs.Inner.Shown.{row, inherited, visible_fact, direct, touches_fact, Extended, More, Whole, WholeFacts}
 use Rattle.shown.proofs.ShownLaws.{direct_low, direct_high, direct_in, put_fact-direct, put_whole_facts}
 use Rattle.shown.proofs.HigherLaws.{extended-direct, extended_whole}
-use Rattle.build.specs.Inner.Build.{Blank, Built, Copied, Lacks, Stripped}
-
--- The first `i` places are blank.
-pub record BlankSoFar (T x : List Bool) (i : ℕ) : Type 0 where
-  pub size : length x ≡ 448
-  pub fits : i ≤ 160
-  pub low : (k : ℕ) → k < i → get_or x k false ≡ false
-  pub high : (k : ℕ) → k < i → get_or x (160 + k) false ≡ get_or T (5120 + k) false
-
--- Before the first place.
-pub blank_first : (T : List Bool) {x : List Bool} → length x ≡ 448 → BlankSoFar T x 0
-blank_first T e = record { size = e; fits = omega arith; low = λ k l. absurd (omega arith); high = λ k l. absurd (omega arith) }
-
--- One place more.
-pub blank_more : {T x : List Bool} {i : ℕ} (b : Bool) → BlankSoFar T x i → i < 160 → b ≡ get_or T (5120 + i) false
-    → BlankSoFar T (set (set x i false) (160 + i) b) (i + 1)
-blank_more {T} {x} {i} b r h e = record {
-  size = simp length-set r.size;
-  fits = omega arith;
-  low = λ k l. get_or-set_other (set x i false) (160 + i) k b false (omega arith) ∙ at (λ k. k < i + 1 → get_or (set x i false) k false ≡ false) i k
-      (λ _. get_or-set_same x i false false (omega (arith, r.size))) (λ n l'. get_or-set_other x i k false false n ∙ r.low k (omega arith)) l;
-  high = λ k l. at (λ k. k < i + 1 → get_or (set (set x i false) (160 + i) b) (160 + k) false ≡ get_or T (5120 + k) false) i k
-      (λ _. get_or-set_same (set x i false) (160 + i) b false (simp length-set (omega (arith, r.size))) ∙ e)
-      (λ n l'. get_or-set_other (set x i false) (160 + i) (160 + k) b false (omega arith) ∙ get_or-set_other x i (160 + k) false false (omega arith)
-      ∙ r.high k (omega arith)) l;
-}
+use Rattle.build.specs.Inner.Build.{Blank, Built, Copied, Lacks, Stripped, lacked}
 
 visible-none : (T : List Bool) (S : State) (k : ℕ) → ((f : ℕ) → S f ≡ false) → visible_fact T S k ≡ cond (ltb k 160) false (row T 32 (k - 160))
 unfolding visible_fact inherited
@@ -57,28 +33,25 @@ row_at : (T : List Bool) (k : ℕ) → row T 32 k ≡ get_or T (5120 + k) false
 unfolding row
 row_at T k = refl
 
--- After the last place.
-pub blank_all : {T x : List Bool} {i : ℕ} → BlankSoFar T x i → 160 ≤ i → length T ≡ 5280 → Blank T x
-blank_all {T} {x} {i} r h e = record { whole = record { size = r.size; rows = e; shows = shows }; none = none }
+-- No direct fact, and behind them the last row of the table.
+pub blank_made : {T x : List Bool} → length x ≡ 448 → length T ≡ 5280 → ((k : ℕ) → k < 160 → get_or x k false ≡ false)
+    → ((k : ℕ) → k < 160 → get_or x (160 + k) false ≡ get_or T (5120 + k) false) → Blank T x
+blank_made {T} {x} size rows low high = record { whole = record { size = size; rows = rows; shows = shows }; none = none }
   where
     none : (f : ℕ) → direct x f ≡ false
-    none f = dite (dec_lt f 160) (λ (l : f < 160). direct_low x f l ∙ r.low f (omega arith)) (λ (l : f < 160 → ⊥). direct_high x f (omega arith))
+    none f = dite (dec_lt f 160) (λ (l : f < 160). direct_low x f l ∙ low f l) (λ (l : f < 160 → ⊥). direct_high x f (omega arith))
 
     shows : (k : ℕ) → k < 320 → get_or x k false ≡ visible_fact T (direct x) k
-    shows k l = sym (visible-none T (direct x) k none ∙ dite (dec_lt k 160) (λ (m : k < 160). rw (lt-ltb k 160 m) (sym (r.low k (omega arith))))
+    shows k l = sym (visible-none T (direct x) k none ∙ dite (dec_lt k 160) (λ (m : k < 160). rw (lt-ltb k 160 m) (sym (low k m)))
         (λ (m : k < 160 → ⊥).
         let q : 160 + (k - 160) ≡ k = omega arith in
-        rw (le-ltb k 160 (omega arith)) (row_at T (k - 160) ∙ sym (r.high (k - 160) (omega arith)) ∙ ap (λ j. get_or x j false) q)))
+        rw (le-ltb k 160 (omega arith)) (row_at T (k - 160) ∙ sym (high (k - 160) (omega arith)) ∙ ap (λ j. get_or x j false) q)))
 
 -- The direct facts below `f` are put in.
 pub record BuiltSoFar (T d x : List Bool) (f : ℕ) : Type 0 where
   pub whole : WholeFacts T x
   pub fits : f ≤ 160
   pub so_far : (g : ℕ) → direct x g ≡ ltb g f && direct d g
-
--- Before the first fact.
-pub build_first : {T x : List Bool} (d : List Bool) → Blank T x → BuiltSoFar T d x 0
-build_first d b = record { whole = b.whole; fits = omega arith; so_far = λ g. b.none g ∙ sym (rw (le-ltb g 0 (omega arith))) }
 
 module _ {T d x : List Bool} {f : ℕ} (r : BuiltSoFar T d x f) (h : f < 160) where
   -- A fact of `d` is put in.
@@ -129,19 +102,6 @@ pub record SoFar (p : ℕ → Bool) (d : List Bool) (i : ℕ) : Type 0 where
   pub fits : i ≤ 160
   pub below : (k : ℕ) → k < i → get_or d k false ≡ p k
 
--- Before the first place.
-pub so_far_first : (p : ℕ → Bool) {d : List Bool} → length d ≡ 160 → SoFar p d 0
-so_far_first p e = record { size = e; fits = omega arith; below = λ k l. absurd (omega arith) }
-
--- One place more.
-pub so_far_more : {p : ℕ → Bool} {d : List Bool} {i : ℕ} (b : Bool) → SoFar p d i → i < 160 → b ≡ p i → SoFar p (set d i b) (i + 1)
-so_far_more {p} {d} {i} b r h e = record {
-  size = simp length-set r.size;
-  fits = omega arith;
-  below = λ k l. at (λ k. k < i + 1 → get_or (set d i b) k false ≡ p k) i k (λ _. get_or-set_same d i b false (omega (arith, r.size)) ∙ e)
-      (λ n l'. get_or-set_other d i k b false n ∙ r.below k (omega arith)) l;
-}
-
 -- After the last place the set is the state.
 pub so_far_all : {p : ℕ → Bool} {d : List Bool} {i : ℕ} (S : State) → SoFar p d i → 160 ≤ i → ((k : ℕ) → k < 160 → p k ≡ S k)
     → ((k : ℕ) → 160 ≤ k → S k ≡ false) → direct d ≡ S
@@ -157,9 +117,14 @@ strip_all {x} {bad} r h =
       same = so_far_all (minus (direct x) (direct bad)) r h (λ k l. rw (direct_low x k l, direct_low bad k l)) (λ k l. rw (direct_high x k l));
     }
 
--- After the last place all is copied.
-pub copy_all : {y u : List Bool} {i : ℕ} → SoFar (λ k. get_or y k false) u i → 160 ≤ i → Copied y u
-copy_all {y} r h = record { size = r.size; same = so_far_all (direct y) r h (λ k l. sym (direct_low y k l)) (direct_high y) }
+-- The first places, copied.
+pub copied_facts : (y : List Bool) {u : List Bool} → length u ≡ 160 → u ≡ take 160 y → Copied y u
+copied_facts y {u} size e = record {
+  size = size;
+  same = fun_ext λ f. dite (dec_lt f 160)
+      (λ (l : f < 160). direct_low u f l ∙ ap (λ (v : List Bool). get_or v f false) e ∙ get_or-take 160 y f false l ∙ sym (direct_low y f l))
+      (λ (l : f < 160 → ⊥). direct_high u f (omega arith) ∙ sym (direct_high y f (omega arith)));
+}
 
 -- None of the first `i` facts is lacking.
 pub record NoneSoFar (a b : List Bool) (i : ℕ) : Type 0 where
@@ -168,10 +133,6 @@ pub record NoneSoFar (a b : List Bool) (i : ℕ) : Type 0 where
 
 minus_low : (a b : List Bool) (k : ℕ) → k < 160 → get_or a k false && not (get_or b k false) ≡ minus (direct a) (direct b) k
 minus_low a b k l = rw (direct_low a k l, direct_low b k l)
-
--- Before the first fact.
-pub none_first : (a b : List Bool) → NoneSoFar a b 0
-none_first a b = record { fits = omega arith; before = λ f l. absurd (omega arith) }
 
 module _ {a b : List Bool} {i : ℕ} (r : NoneSoFar a b i) where
   -- One fact more that is not lacking.
@@ -187,9 +148,14 @@ module _ {a b : List Bool} {i : ℕ} (r : NoneSoFar a b i) where
   pub none_found : i < 160 → get_or a i false && not (get_or b i false) ≡ true → Lacks a b i
   none_found h e = record { fits = omega arith; before = r.before; here = λ _. sym (minus_low a b i h) ∙ e }
 
-  -- No fact is lacking.
-  pub none_left : 160 ≤ i → Lacks a b i
-  none_left h = record { fits = r.fits; before = r.before; here = λ l. absurd (omega arith) }
+-- Where none is lacking, the number is 160; where one is, it is that of a fact.
+pub none_lacked : (r : Option ℕ) → is_some r ≡ false → lacked r ≡ 160
+none_lacked (Some f) e = cc
+none_lacked None e = refl
+
+pub some_lacked : (r : Option ℕ) → is_some r ≡ true → IfSome r (λ f. f < 160) → lacked r < 160
+some_lacked (Some f) e h = h
+some_lacked None e h = cc
 
 -- A fact before the first that is lacking is there.
 pub not_lacking : {a b : List Bool} {r : ℕ} → Lacks a b r → (f : ℕ) → f < r → direct a f ≡ true → direct b f ≡ true

@@ -10,8 +10,9 @@ use Rattle.lines.specs.Digits.{frame_of}
 use Rattle.lines.specs.Lines.{Line, ended, unended, lines}
 use Rattle.gate.specs.Gate.{line_verdict}
 use Rattle.gate.specs.declared.Fault.TheVariants.{Misplaced, BeyondNot, WrongMode}
-use Rattle.gate.specs.declared.Verdict.{Verdict}
-use Rattle.gate.specs.declared.Verdict.TheVariants.{Good, Bad}
+use Rattle.std.specs.Prelude.{Ok, Err}
+use Rattle.gate.specs.Gate.{Verdict}
+use Rattle.gate.specs.Gate.{Good, Bad}
 use Rattle.frames.specs.Limits.{all_plain, beyond_not, wrong_mode}
 use Rattle.frames.specs.declared.Refusal.{Refusal}
 use Rattle.frames.specs.declared.Refusal.TheVariants.{TooLong, BadLine}
@@ -31,8 +32,8 @@ last_refused true false false nots k b missing r e = accepted_refused b r e
 
 line_refused : (v : Verdict) (k : ℕ) (rest paged : Answer) (r : Refusal) → (rest ≡ refused r → paged ≡ refused r)
     → onward v k rest ≡ refused r → onward v k paged ≡ refused r
-line_refused Good k rest paged r next e = next e
-line_refused (Bad f) k rest paged r next e = e
+line_refused (Ok _) k rest paged r next e = next e
+line_refused (Err f) k rest paged r next e = e
 
 walk_refused : (s : Entered) (k : ℕ) (ls : List Line) (r : Refusal) → walk false s k ls ≡ refused r → walk true s k ls ≡ refused r
 unfolding walk last_fault

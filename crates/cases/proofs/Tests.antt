@@ -19,7 +19,7 @@ use Rattle.requests.specs.Requests.{request_of, well_formed}
 use Rattle.requests.specs.Suitable.{suitable}
 use Rattle.requests.proofs.RequestLaws.{suitable_from, well_formed_fact}
 use Rattle.quantifiers.specs.Quantifiers.{all}
-use Rattle.ledger.specs.declared.Outcome.TheVariants.{Done}
+use Rattle.ledger.specs.Ledger.{Done}
 use Rattle.ledger.specs.Ledger.{reply, after, allowed, request_in, request_reply}
 use Rattle.ledger.specs.Show.{value_sets, crew_set, show_in, show_view}
 use Rattle.ledger.proofs.LedgerLaws.{open_starts, after-suitable}

@@ -6,7 +6,7 @@ use Rattle.facts.specs.Facts.{holds, no_facts}
 use Rattle.facts.specs.declared.Person.{Person}
 use Rattle.frames.specs.Book.{Contents, accepted, book_of}
 use Rattle.requests.specs.Requests.{request_of}
-use Rattle.ledger.specs.declared.Outcome.TheVariants.{Done}
+use Rattle.ledger.specs.Ledger.{Done}
 use Rattle.ledger.specs.Ledger.{reply, open_reply, request_reply}
 use Rattle.ledger.specs.Show.{shown, show_view}
 use Rattle.replay.specs.declared.Judgement.TheVariants.{Reaches}

@@ -8,9 +8,9 @@ use Rattle.ledger.specs.Ledger.{Reply, Told, no_place, on_line, at_term, refusal
 use Rattle.ledger.specs.Show.{hidden, show_view}
 use Rattle.replay.specs.Replay as replay
 use Rattle.replay.specs.Replay.{replayed}
-use Rattle.planner.specs.declared.Planned.{Planned}
+use Rattle.planner.specs.Answer.{Planned}
 use Rattle.planner.specs.Answer.{said, said8_f, PlanPromise}
-use Rattle.page.specs.declared.Paged.{Paged}
+use Rattle.page.specs.Page.{Paged}
 use Rattle.page.specs.Page as page
 use Rattle.page.specs.Page.{PagePromise}
 use Rattle.cases.specs.Text.{codes, written, five}

@@ -1,4 +1,4 @@
--- What 13 and 15 tell, and the search of a rule's terms.
+-- What 13 and 15 tell, and what std's searches of the rules and of a rule's terms give.
 use mathlib.Core.Path.{◌≡◌, refl, ap, sym, ◌∙◌, subst}
 use mathlib.Core.Logic.{dite}
 use mathlib.Core.Bool.{Bool, true, false, not}
@@ -9,22 +9,22 @@ use native.Mathlib.Omega.{arith}
 use lib.Dec.{ltb}
 use lib.ListN.{length, get_or, take}
 use lib.Seq.{get_or-take, length-take-le}
+use Rattle.std.specs.Prelude.{Option, None, Some, position}
+use Rattle.std.specs.Option.{unwrap_or}
 use borrow.Author.Tests.{lt-ltb, le-ltb, ltb-true}
 use Rattle.facts.specs.declared.Fact.{Fact}
 use Rattle.frames.specs.declared.Term.{Term}
 use Rattle.frames.specs.declared.Rule.{Rule}
-use Rattle.frames.specs.declared.Rules.{Rules}
-use Rattle.frames.specs.Book.{no_term, no_rule, listed}
+use Rattle.frames.specs.Book.{no_term, no_rule}
 use Rattle.frames.specs.Inner.Fits.{Short}
 use Rattle.requests.specs.declared.Request.{Request}
 use Rattle.quantifiers.specs.Quantifiers.{first}
 use Rattle.quantifiers.specs.Inner.Lists.{Each}
 use Rattle.quantifiers.proofs.ListLaws.{within-any}
 use Rattle.quantifiers.proofs.FirstLaws.{first-within, first_passes, first-none_before, first_is, first-none, all_first}
-use Rattle.quantifiers.proofs.FirstLaws.{Seeks, seek-start, seek-end, seek-inside, seek-miss, seek_hit}
-use Rattle.rules.specs.Rules.{names, permits, permitted}
-use Rattle.rules.proofs.RuleLaws.{decided, none-permits}
-use Rattle.rules.proofs.TrialLaws.{at_place, holds_of}
+use Rattle.quantifiers.proofs.PositionLaws.{found-first, none-first, place_or-length}
+use Rattle.rules.specs.Rules.{subject_of, term_holds, names, permits, permitted}
+use Rattle.rules.proofs.RuleLaws.{at_place, decided, none-permits}
 use Rattle.denials.specs.declared.Denial.{Denial}
 use Rattle.denials.specs.declared.Denial.TheVariants.{NoRule, Unmet}
 use Rattle.denials.specs.Denials.{first_named, first_unmet, why_not, denial_number}
@@ -34,10 +34,9 @@ pub named_first : (q : Request) (rs : List Rule) → first_named q rs ≡ first 
 unfolding first_named
 named_first q rs = refl
 
--- A rule of the list by value is that at its place in the room.
-pub listed_at : (rs : Rules) → rs.count ≤ length rs.rules → (i : ℕ) (d : Rule) → i < rs.count → get_or (listed rs) i no_rule ≡ get_or rs.rules i d
-unfolding listed
-listed_at rs few i d h = get_or-take rs.count rs.rules i no_rule h ∙ within-any rs.rules i no_rule d (omega arith)
+-- A term holds of whom the request is about.
+abbrev pub holds_of : List ℕ → (Fact → Bool) → Request → Term → Bool
+holds_of js S q = term_holds js S (subject_of q.fact)
 
 -- What is not so is the opposite.
 opposite : (x : Bool) {b : Bool} → not x ≡ b → x ≡ not b
@@ -53,10 +52,6 @@ module _ (js : List ℕ) (S : Fact → Bool) (q : Request) (r : Rule) where
   -- A term that does not hold of whom the request is about.
   abbrev pub fails : Term → Bool
   fails t = not (holds_of js S q t)
-
-  -- A search of the terms, at term j, that keeps f: all before j hold, or f is the first that does not.
-  abbrev pub SeeksUnmet : ℕ → ℕ → Type 0
-  SeeksUnmet = Seeks fails terms
 
   unmet_first : first_unmet js S q r ≡ first fails terms
   unfolding first_unmet
@@ -86,26 +81,15 @@ module _ (js : List ℕ) (S : Fact → Bool) (q : Request) (r : Rule) where
         holds_at (first_unmet js S q r) true l
         (ap (λ (j : ℕ). fails (get_or terms j no_term)) unmet_first ∙ first_passes fails terms no_term (omega (arith, unmet_first, counted)))
 
-    -- At first the count of the terms is kept.
-    pub terms-start : SeeksUnmet 0 r.n
-    terms-start = subst (SeeksUnmet 0) counted (seek-start fails terms)
+    -- What std's search of the terms gives, and their count where it finds none.
+    module _ (o : Option ℕ) (e : o ≡ position fails terms) (j : ℕ) (f : j ≡ unwrap_or o r.n) where
+      pub unmet_place : j ≡ first_unmet js S q r
+      unmet_place =
+          f ∙ ap (λ (p : Option ℕ). unwrap_or p r.n) e ∙ ap (unwrap_or (position fails terms)) (sym counted)
+          ∙ place_or-length fails terms ∙ sym unmet_first
 
-    module _ (j f : ℕ) (s : SeeksUnmet j f) where
-      -- The search ends: what is kept is the first unmet term, or the count where all hold.
-      pub terms-end : f ≤ j → f ≡ first_unmet js S q r
-      terms-end l = seek-end fails terms j f l s ∙ sym unmet_first
-
-      module _ (l : j < f) where
-        pub term-inside : j < r.n
-        term-inside = omega (arith, counted, seek-inside fails terms j f s no_term l)
-
-        -- Term j holds: the search goes on.
-        pub term-met : holds_of js S q (get_or r.terms j no_term) ≡ true → SeeksUnmet (j + 1) f
-        term-met e = seek-miss fails terms j f s no_term l (fails-at j true term-inside e)
-
-        -- Term j does not hold: it is kept.
-        pub term-unmet : holds_of js S q (get_or r.terms j no_term) ≡ false → SeeksUnmet (j + 1) j
-        term-unmet e = seek_hit fails terms j f s no_term l (fails-at j false term-inside e)
+      pub unmet_few : j ≤ 8
+      unmet_few = omega (arith, unmet_place, unmet-at-most, short.few)
 
     -- A rule that has the request's op, role, a and v and does not permit it has an unmet term.
     pub unmet-below : names q r ≡ true → permits js S q r ≡ false → first_unmet js S q r < r.n
@@ -140,6 +124,22 @@ module _ (js : List ℕ) (S : Fact → Bool) (q : Request) (rs : List Rule) wher
   pub why_none : length rs ≤ first_named q rs → why_not js rs S q ≡ NoRule
   unfolding why_not
   why_none l = rw (le-ltb (first_named q rs) (length rs) l) refl
+
+  -- std's search of the list finds none: that there is none is told.
+  pub told_none : position (names q) rs ≡ None → NoRule ≡ why_not js rs S q
+  told_none e = sym (why_none (omega (arith, named_first q rs, none-first (names q) rs e)))
+
+  -- It finds rule i, which is one of the list, and it is told.
+  module _ (i : ℕ) (e : Some i ≡ position (names q) rs) (d : Rule) where
+    pub found_place : (first_named q rs ≡ i) × (i < length rs)
+    found_place = let found = found-first (names q) rs i (sym e) in (named_first q rs ∙ found.0, found.1)
+
+    pub found-short : Each Short rs → Short (get_or rs i d)
+    found-short short = at_place Short rs i d found_place.1 short
+
+    pub told_some : (j : ℕ) → j ≡ first_unmet js S q (get_or rs i d) → Unmet (i + 1) (j + 1) ≡ why_not js rs S q
+    told_some j at =
+        sym (why_unmet (omega (arith, found_place.0, found_place.1)) ∙ rw (found_place.0, within-any rs i no_rule d found_place.1, ← at) refl)
 
   -- "13 stays for a request whose op, role, a and v match no rule": exactly there.
   pub no_rule_exactly : (why_not js rs S q ≡ NoRule → (k : ℕ) → k < length rs → names q (rule_at_lem k) ≡ false)

@@ -11,8 +11,8 @@ use Rattle.answers.specs.Answers.{hex_line, refused_bytes}
 use Rattle.answers.specs.Inner.Written.{Written}
 use Rattle.answers.proofs.AnswerLaws.{line_long}
 use Rattle.answers.proofs.WrittenLaws.{written_none, written_more, written_as}
-use Rattle.page.specs.declared.Paged.{Paged}
-use Rattle.page.specs.declared.Paged.TheVariants.{Filled, Refused}
+use Rattle.page.specs.Page.{Paged}
+use Rattle.std.specs.Prelude.{Ok, Err}
 use Rattle.page.specs.declared.Refusal.{Refusal}
 use Rattle.page.specs.Page.{Said, done, refusal, refusal_number, refusal_line, said, PageAnsweredFor, page_book, PagePromise}
 use Rattle.depot_page.specs.Printed.{person_lines, PrintedFor, Printed}
@@ -63,9 +63,9 @@ printed {chars} {before} {table} {text} answer size promise e = record { answers
 
 -- The text of each answer, as it is written.
 module _ {answer : Paged} (table : List ℕ) {before after : List ℕ} {end : ℕ} where
-  pub filled_written : answer ≡ Filled → Written before 0 (person_lines 64 table) after end → Written before 0 (page_text (said answer) table) after end
+  pub filled_written : answer ≡ Ok tt → Written before 0 (person_lines 64 table) after end → Written before 0 (page_text (said answer) table) after end
   filled_written e w = rw e w
 
-  pub refused-written : (r : Refusal) {number line : ℕ} → answer ≡ Refused r → number ≡ refusal_number r → line ≡ refusal_line r
+  pub refused-written : (r : Refusal) {number line : ℕ} → answer ≡ Err r → number ≡ refusal_number r → line ≡ refusal_line r
       → Written before 0 (hex_line (refused_bytes number line)) after end → Written before 0 (page_text (said answer) table) after end
   refused-written r e n k w = rw e (rw (n, k) at w)

@@ -3,25 +3,22 @@
 #![tactic(auto)]
 
 ghost use Rattle.std.specs.Prelude.{◌≤◌, ◌≡◌, length, take};
-ghost use Rattle.lines.specs.Inner.Tables.{Encodings};
 ghost use Rattle.answers.specs.Inner.Written.{Written};
 ghost use Rattle.depot_page.specs.Printed.{person_lines, Printed};
 
+use lines::Characters;
 use std::io;
 use std::io::Write;
 
 // The table in the front of a lent text, sixteen bytes a line. Returns the place behind what it wrote.
-fn put_table(table: &[u8], characters: &[u8; 16], text: &mut [u8]) -> usize
-    requires { Encodings characters.now × ((length table.now ≡ 1024) × (2112 ≤ length text.old)) }
+fn put_table(table: &[u8], characters: &Characters, text: &mut [u8]) -> usize
+    requires { (length table.now ≡ 1024) × (2112 ≤ length text.old) }
     ensures { Written text.old 0 (person_lines 64 table.now) text.new result }
 {
     let mut end: usize = 0;
-    let mut p: usize = 0;
-    while p < 64 {
+    for p in 0..64 {
         let from = 16 * p;
-        let next = from + 16;
-        end = answers::put_line(&table[from..next], characters, text, end);
-        p += 1;
+        end = answers::put_line(&table[from..from + 16], characters, text, end);
     }
     end
 }
@@ -33,14 +30,13 @@ fn answer(text: &mut [u8], n: usize) -> usize
 {
     let mut table = [0u8; 1024];
     let paged = page::page(&text[..n], &mut table);
-    let mut characters = [0u8; 16];
-    lines::fill_characters(&mut characters);
+    let characters = Characters::new();
     match paged {
-        page::Paged::Filled => put_table(&table, &characters, text),
-        page::Paged::Refused(r) => {
+        Ok(()) => put_table(&table, &characters, text),
+        Err(r) => {
             let number = page::refusal_number(r);
             let line = page::refusal_line(r);
-            answers::put_refused(number, line, &characters, text)
+            answers::put_refused(number, line, &characters.table, text)
         }
     }
 }

@@ -2,16 +2,17 @@
 use mathlib.Core.Path.{◌≡◌, refl, ap, sym, ◌∙◌}
 use mathlib.Core.Bool.{Bool}
 use mathlib.Core.List.{List, [], ◌∷◌, ◌++◌, map, append_assoc}
-use Prim.Native.Nat.{ℕ, zero, suc, ◌+◌, ◌*◌, ◌≤◌, ◌<◌}
+use Prim.Native.Nat.{ℕ, zero, suc, ◌+◌, ◌*◌, ◌≤◌}
 use native.Mathlib.Omega.{arith}
-use lib.ListN.{length, get_or, set, take, drop, length-drop}
-use lib.Seq.{drop-drop, take-add, get_or-drop, paste, paste-suc}
+use lib.ListN.{length, get_or, take, drop, length-drop}
+use lib.Seq.{drop-drop, take-add, get_or-drop}
+use borrow.Rule.Slice.PartMut.{put_mid}
 use Rattle.frames.specs.Book.{Contents}
 use Rattle.facts.specs.Facts.{put_fact}
 use Rattle.requests.specs.declared.Request.{Request}
 use Rattle.requests.specs.Requests.{adds, request_of}
 use Rattle.ledger.specs.Ledger.{after}
-use Rattle.ledger.proofs.LedgerLaws.{after-put, after-length}
+use Rattle.ledger.proofs.LedgerLaws.{after-put}
 use Rattle.quantifiers.proofs.ListLaws.{map-append}
 use Rattle.theory.specs.Inner.Plan.{Ask}
 use Rattle.level.specs.Inner.Notes.{ask_at, asks}
@@ -39,12 +40,6 @@ carried-append l (p ∷ ps) qs = carried-append (after l (request_of p)) ps qs
 pub carried_one : (l q : List ℕ) → carried l (q ∷ []) ≡ after l (request_of q)
 unfolding carried
 carried_one l q = refl
-
--- The ledger keeps its length.
-pub carried-length : (l : List ℕ) (qs : List (List ℕ)) → length (carried l qs) ≡ length l
-unfolding carried
-carried-length l [] = refl
-carried-length l (q ∷ qs) = carried-length (after l (request_of q)) qs ∙ after-length l (request_of q)
 
 -- ---------------------------------------------------------------- requests as bytes
 
@@ -126,23 +121,12 @@ carry_more l₀ l m d k i t r on h five is turn left so_far =
 pub carry_all : (l₀ l d : List ℕ) (k i n : ℕ) → i ≡ n → l ≡ carried l₀ (map bytes_of (asks d k i)) → l ≡ carried l₀ (map bytes_of (asks d k n))
 carry_all l₀ l d k i n all e = e ∙ ap (λ (j : ℕ). carried l₀ (map bytes_of (asks d k j))) all
 
--- One byte more is copied.
-pub copy_more : (o₀ o d : List ℕ) (to from i : ℕ) → to + i < length o₀ → from + i < length d → o ≡ paste o₀ to (drop from d) i
-    → set o (to + i) (get_or d (from + i) 0) ≡ paste o₀ to (drop from d) (i + 1)
-copy_more o₀ o d to from i h k e =
-    let same : suc i ≡ i + 1 = omega arith in
-    ap (λ (x : List ℕ). set x (to + i) (get_or d (from + i) 0)) e
-    ∙ ap (λ (x : ℕ). set (paste o₀ to (drop from d) i) (to + i) x) (sym (get_or-drop from d i 0))
-    ∙ paste-suc o₀ to (drop from d) i 0 h (omega (arith, length-drop from d))
-    ∙ ap (λ (j : ℕ). paste o₀ to (drop from d) j) same
+-- ---------------------------------------------------------------- requests copied
 
--- All bytes are copied.
-pub copy_all : (o₀ o d : List ℕ) (at from n i : ℕ) → 5 * (from + n) ≤ length d → i ≡ 5 * n → o ≡ paste o₀ (5 * at) (drop (5 * from) d) i
-    → o ≡ take (5 * at) o₀ ++ (flat (map bytes_of (asks d from n)) ++ drop (5 * (at + n)) o₀)
-copy_all o₀ o d at from n i h all e =
+-- The bytes of n requests put over the same number of bytes of another buffer.
+pub copied : (o d : List ℕ) (at from n k m : ℕ) → 5 * (from + n) ≤ length d → k ≡ 5 * n → m ≡ 5 * n → {part : List ℕ}
+    → part ≡ take m (drop (5 * from) d)
+    → put_mid (5 * at) k o part ≡ take (5 * at) o ++ (flat (map bytes_of (asks d from n)) ++ drop (5 * (at + n)) o)
+copied o d at from n k m h over all part =
     let same : 5 * at + 5 * n ≡ 5 * (at + n) = omega arith in
-    e
-    ∙ ap (λ (j : ℕ). paste o₀ (5 * at) (drop (5 * from) d) j) all
-    ∙ ap (λ (x : List ℕ). take (5 * at) o₀ ++ x ++ drop (5 * at + 5 * n) o₀) (bytes_from d from n h)
-    ∙ append_assoc (take (5 * at) o₀) (flat (map bytes_of (asks d from n))) (drop (5 * at + 5 * n) o₀)
-    ∙ ap (λ (j : ℕ). take (5 * at) o₀ ++ (flat (map bytes_of (asks d from n)) ++ drop j o₀)) same
+    rw (part, over, all, bytes_from d from n h, drop-drop (5 * n) (5 * at) o, same)

@@ -12,15 +12,11 @@ pub fn carry_out(ledger: &mut [u8], draft: &[u8], from: usize, n: usize)
     requires { 5 * (from + n) ≤ length draft.now }
     ensures { ledger.new ≡ carried ledger.old (map bytes_of (asks draft.now from n)) }
 {
-    let mut i: usize = 0;
-    while i < n {
+    for i in 0..n {
         let at = 5 * (from + i);
-        let q = &draft[at..at + 5];
-        let request = requests::request_of(q);
+        let request = requests::request_of(&draft[at..at + 5]);
         let on = requests::is_adding(request.op);
-        let f = request.fact;
-        facts::put_fact(ledger, f, on);
-        i += 1;
+        facts::put_fact(ledger, request.fact, on);
     }
 }
 
@@ -30,12 +26,5 @@ pub fn copy_requests(draft: &[u8], from: usize, n: usize, out: &mut [u8], at: us
     ensures { out.new ≡ take (5 * at) out.old ++
         (flat (map bytes_of (asks draft.now from n)) ++ drop (5 * (at + n)) out.old) }
 {
-    let source = 5 * from;
-    let target = 5 * at;
-    let count = 5 * n;
-    let mut k: usize = 0;
-    while k < count {
-        out[target + k] = draft[source + k];
-        k += 1;
-    }
+    out[5 * at..5 * (at + n)].copy_from_slice(&draft[5 * from..5 * (from + n)]);
 }

@@ -6,18 +6,19 @@ ghost use Rattle.std.specs.Prelude.{◌≡◌, ◌*◌};
 ghost use Rattle.quantifiers.specs.Quantifiers.{any_from};
 ghost use Rattle.facts.specs.Facts.{fits, set_at, set_width, member_of, holds, put_fact};
 ghost use Rattle.facts.specs.Inner.Numbered.{numbered};
+ghost use Rattle.facts.specs.Inner.Places.{place_of};
 
 // A person, a crew, an attribute and a role, each by its number: the disjoint sets U, UG, UA and AR of GURA_G.
-#[derive(Clone, Copy)]
+#[derive(Clone, Copy, PartialEq, Eq)]
 pub struct Person(pub u8);
 
-#[derive(Clone, Copy)]
+#[derive(Clone, Copy, PartialEq, Eq)]
 pub struct Crew(pub u8);
 
-#[derive(Clone, Copy)]
+#[derive(Clone, Copy, PartialEq, Eq)]
 pub struct Attr(pub u8);
 
-#[derive(Clone, Copy)]
+#[derive(Clone, Copy, PartialEq, Eq)]
 pub struct Role(pub u8);
 
 // A person directly holds a value of an attribute; a crew does; a person is directly in a crew.
@@ -44,21 +45,26 @@ struct Place {
 }
 
 // Whether a ledger has a place for the fact.
+#[tactic(auto, unfolding(crate::specs::Facts::fits))]
 pub fn fact_fits(f: Fact) -> bool
     ensures { result ≡ fits f }
 {
     match f {
-        Fact::Holds(p, a, v) => (p.0 < 64) & (a.0 < 8) & (v < 16),
-        Fact::CrewHolds(c, a, v) => (c.0 < 32) & (a.0 < 8) & (v < 16),
-        Fact::Member(p, c) => (p.0 < 64) & (c.0 < 32),
+        Fact::Holds(p, a, v) => p.0 < 64 && a.0 < 8 && v < 16,
+        Fact::CrewHolds(c, a, v) => c.0 < 32 && a.0 < 8 && v < 16,
+        Fact::Member(p, c) => p.0 < 64 && c.0 < 32,
     }
 }
 
-// The place of a fact.
-fn place_of(f: Fact) -> Place
-    ensures { (result.at ≡ set_at f) × ((result.w ≡ set_width f) × (result.v ≡ member_of f)) }
+// The place of a fact, where the ledger has one for it.
+#[tactic(auto, unfolding(crate::specs::Facts::set_at, crate::specs::Facts::set_width, crate::specs::Facts::member_of))]
+fn place_of(f: Fact) -> Option<Place>
+    ensures { result ≡ place_of f }
 {
-    match f {
+    if !fact_fits(f) {
+        return None;
+    }
+    Some(match f {
         Fact::Holds(p, a, v) => Place {
             at: 16 * p.0 as usize + 2 * a.0 as usize,
             w: 2,
@@ -74,18 +80,17 @@ fn place_of(f: Fact) -> Place
             w: 4,
             v: c.0,
         },
-    }
+    })
 }
 
 // Whether the fact is in the ledger. A fact without a place is in none.
 pub fn fact_holds(ledger: &[u8], f: Fact) -> bool
     ensures { result ≡ holds ledger.now f }
 {
-    if !fact_fits(f) {
-        return false;
+    match place_of(f) {
+        Some(place) => sets::has_at(ledger, place.at, place.w, place.v),
+        None => false,
     }
-    let place = place_of(f);
-    sets::has_at(ledger, place.at, place.w, place.v)
 }
 
 // Whether the fact, or one of the same set with a higher number, is in the ledger: of a value, whether it or a higher one of its attribute is held. The
@@ -93,20 +98,17 @@ pub fn fact_holds(ledger: &[u8], f: Fact) -> bool
 pub fn holds_from(ledger: &[u8], f: Fact) -> bool
     ensures { result ≡ any_from (λ w. holds ledger.now (numbered f w)) (member_of f) (8 * set_width f) }
 {
-    if !fact_fits(f) {
-        return false;
+    match place_of(f) {
+        Some(place) => sets::has_from_at(ledger, place.at, place.w, place.v),
+        None => false,
     }
-    let place = place_of(f);
-    sets::has_from_at(ledger, place.at, place.w, place.v)
 }
 
 // The fact put into the ledger, or taken out. A fact without a place changes nothing.
 pub fn put_fact(ledger: &mut [u8], f: Fact, on: bool)
     ensures { ledger.new ≡ put_fact ledger.old f on }
 {
-    if !fact_fits(f) {
-        return;
+    if let Some(place) = place_of(f) {
+        sets::put_at(ledger, place.at, place.w, place.v, on);
     }
-    let place = place_of(f);
-    sets::put_at(ledger, place.at, place.w, place.v, on);
 }

@@ -35,27 +35,6 @@ banned_same b w a v =
     rw (wants-front b) (sym (any-front (λ x. eqb x.attr.0 a && not (member x.set v)) no_want b.query.wants b.query.q
     (omega (arith, w.few, w.room))))
 
--- What the set of an attribute lacks is added at its values.
-pub want_added : {before x : List Bool} (w : Want) → w.attr.0 < 8 → FlagsWritten before (16 * w.attr.0) (lacking_flag before (16 * w.attr.0) w.set) 16 x
-    → FlagsWritten before 0 (want_flag before w) 128 x
-want_added {before} w h v =
-    written_part (16 * w.attr.0) (want_flag before w) (written_self before 128) v (omega arith) (omega arith)
-    (λ f l. other f (λ (e : w.attr.0 ≡ f / 16). omega arith))
-    (λ f l.
-    let d : (16 * w.attr.0 + f) / 16 ≡ w.attr.0 = omega arith in
-    let m : (16 * w.attr.0 + f) % 16 ≡ f = omega arith in
-    rw (d, m, eq-eqb w.attr.0 w.attr.0 refl))
-    (λ f m l. other f (λ (e : w.attr.0 ≡ f / 16). omega arith))
-  where
-    other : (f : ℕ) → (w.attr.0 ≡ f / 16 → ⊥) → get_or before f false ≡ want_flag before w f
-    other f ne = sym (rw (ne_eqb w.attr.0 (f / 16) ne) (or-false (get_or before f false)))
-
--- A level has eight attributes.
-pub want_past : (before : List Bool) (w : Want) → 8 ≤ w.attr.0 → FlagsWritten before 0 (want_flag before w) 128 before
-want_past before w h =
-    written_same (written_self before 128)
-    (λ f l. sym (rw (ne_eqb w.attr.0 (f / 16) (λ (e : w.attr.0 ≡ f / 16). omega arith)) (or-false (get_or before f false))))
-
 -- At first no set is looked at.
 pub banned-none : (before : List Bool) (q : Query) → FlagsWritten before 0 (banned_flag before q 0) 128 before
 banned-none before q = written_same (written_self before 128) (λ f l. sym (rw (any-zero (lacks_value q (f / 16) (f % 16))) (or-false (get_or before f false))))

@@ -226,11 +226,6 @@ module _ (js : List ℕ) (k : ℕ) (rows : List Bool) {before : List Bool} where
       → FlagsWritten before 5120 (juniors_below js k rows (j + 1)) 160 x
   juniors_skip j e w = written_same w (λ f l. sym (rw (add-one, any_step (junior_has js k rows f) j, e) (or-false (any_below (junior_has js k rows f) j))))
 
-  -- What the last row says when all juniors are looked at.
-  pub crew_table-all : {table : List Bool} → length before ≡ 5280 → FlagsWritten before 5120 (juniors_below js k rows k) 160 table
-      → CrewTable js k rows before table
-  crew_table-all e w = record { size = w.size ∙ e; kept = w.below; last = w.at }
-
 -- The rows are copied, and nothing is in the row behind them.
 pub person_table-all : {rows before x table : List Bool} → length before ≡ 5280
     → FlagsWritten before 0 (λ i. get_or rows (0 + i) false) 5120 x → FlagsWritten x 5120 (λ _. false) 160 table → PersonTable rows table
@@ -284,39 +279,6 @@ is_own i = eqb (i % 160) (128 + i / 160)
 -- The same in the rows below row c alone.
 abbrev pub is_own_below : ℕ → ℕ → Bool
 is_own_below c i = ltb (i / 160) c && is_own i
-
--- At first in none.
-pub own-none : {before x : List Bool} → FlagsWritten before 0 (λ _. false) 5120 x → FlagsWritten x 0 (is_own_below 0) 5120 x
-own-none w = written_now (written_same w (λ i l. rw (le-ltb (i / 160) 0 (omega arith))))
-
--- One row more.
-pub own_more : {before x : List Bool} (c : ℕ) → c < 32 → length before ≡ 5120 → FlagsWritten before 0 (is_own_below c) 5120 x
-    → FlagsWritten before 0 (is_own_below (c + 1)) 5120 (set x (161 * c + 128) true)
-own_more c h e w =
-    written-set (161 * c + 128) (161 * c + 128) true (is_own_below (c + 1)) w (omega arith) (omega arith) (omega arith)
-    (let d : (161 * c + 128) / 160 ≡ c = omega arith in
-    let m : (161 * c + 128) % 160 ≡ 128 + c = omega arith in
-    rw (d, m, lt-ltb c (c + 1) (omega arith), eq-eqb (128 + c) (128 + c) refl))
-    (λ i l ne. dite (dec_lt (i / 160) c)
-    (λ (below : i / 160 < c). rw (lt-ltb (i / 160) c below, lt-ltb (i / 160) (c + 1) (omega arith)))
-    (λ (below : i / 160 < c → ⊥). dite (dec_lt c (i / 160))
-    (λ (above : c < i / 160). rw (le-ltb (i / 160) c (omega arith), le-ltb (i / 160) (c + 1) (omega arith)))
-    (λ (above : c < i / 160 → ⊥).
-    rw (
-      le-ltb (i / 160) c (omega arith),
-      lt-ltb (i / 160) (c + 1) (omega arith),
-      ne_eqb (i % 160) (128 + i / 160) (λ (q : i % 160 ≡ 128 + i / 160). ne (omega arith)),
-    ))))
-
--- What the rows say where all 32 have their own crew.
-pub first_rows_all : {before rows : List Bool} → length before ≡ 5120 → FlagsWritten before 0 (is_own_below 32) 5120 rows → FirstRows rows
-first_rows_all {before} {rows} e w = record {
-  size = w.size ∙ e;
-  at = λ c h f l.
-      let d : (160 * c + f) / 160 ≡ c = omega arith in
-      let m : (160 * c + f) % 160 ≡ f = omega arith in
-      written_at w (160 * c + f) (omega arith) ∙ rw (d, m, lt-ltb c 32 h);
-}
 
 -- ---------------------------------------------------------------- what the query forbids
 

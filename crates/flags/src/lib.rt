@@ -12,18 +12,14 @@ ghost use Rattle.widths.specs.Inner.Widths.{level_size, flags_size, rows_size, t
 
 use facts::{CREWS_AT, MEMBERS_AT, Person};
 use frames::{Query, Want};
-use widths::{LEVEL_SIZE, ROWS_SIZE};
+use widths::{LEVEL_SIZE, ROWS_SIZE, VALUES_SIZE};
 
 // Clears n flags from a place on.
 fn clear_flags(s: &mut [bool], at: usize, n: usize)
     requires { at + n ≤ length s.old }
     ensures { FlagsWritten s.old at (λ _. false) n s.new }
 {
-    let mut f: usize = 0;
-    while f < n {
-        s[at + f] = false;
-        f += 1;
-    }
+    s[at..at + n].fill(false);
 }
 
 // Copies n flags from a place of one list to a place of another.
@@ -31,11 +27,7 @@ fn copy_flags(src: &[bool], from: usize, n: usize, dst: &mut [bool], to: usize)
     requires { (from + n ≤ length src.now) × (to + n ≤ length dst.old) }
     ensures { FlagsWritten dst.old to (λ f. get_or src.now (from + f) false) n dst.new }
 {
-    let mut f: usize = 0;
-    while f < n {
-        dst[to + f] = src[from + f];
-        f += 1;
-    }
+    dst[to..to + n].copy_from_slice(&src[from..from + n]);
 }
 
 // Writes n flags from a place on: whether each number below n is a member of the set.
@@ -43,10 +35,8 @@ fn write_bits(x: u32, n: usize, s: &mut [bool], at: usize)
     requires { (n ≤ 32) × (at + n ≤ length s.old) }
     ensures { FlagsWritten s.old at (member x) n s.new }
 {
-    let mut v: usize = 0;
-    while v < n {
+    for v in 0..n {
         s[at + v] = (x >> v) % 2 == 1;
-        v += 1;
     }
 }
 
@@ -55,11 +45,9 @@ fn write_set(facts: &[u8], place: usize, w: usize, s: &mut [bool], at: usize)
     requires { (place < 65536) × ((w ≤ 4) × (at + 8 * w ≤ length s.old)) }
     ensures { FlagsWritten s.old at (member_at facts.now place w) (8 * w) s.new }
 {
-    let mut m: usize = 0;
-    while m < w {
+    for m in 0..w {
         let byte = lines::byte_at(facts, place + (w - 1 - m));
         write_bits(byte as u32, 8, s, at + 8 * m);
-        m += 1;
     }
 }
 
@@ -68,10 +56,8 @@ fn write_values(facts: &[u8], place: usize, s: &mut [bool])
     requires { (place < 32768) × (length s.old ≡ level_size) }
     ensures { FlagsWritten s.old 0 (value_at facts.now place) 128 s.new }
 {
-    let mut a: usize = 0;
-    while a < 8 {
+    for a in 0..8 {
         write_set(facts, place + 2 * a, 2, s, 16 * a);
-        a += 1;
     }
 }
 
@@ -81,19 +67,15 @@ pub fn start_flags(facts: &[u8], crews: u8, person: Person, k: u8, s: &mut [bool
     ensures { FlagsWritten s.old 0 (start_flag facts.now crews person k) level_size s.new }
 {
     clear_flags(s, 0, LEVEL_SIZE);
-    if k < crews {
-        if k >= 32 {
-            return;
-        }
-        write_values(facts, CREWS_AT + 16 * (k as usize), s);
-        return;
-    }
     let p = person.0 as usize;
-    if p >= 64 {
-        return;
+    if k < crews {
+        if k < 32 {
+            write_values(facts, CREWS_AT + 16 * (k as usize), s);
+        }
+    } else if p < 64 {
+        write_values(facts, 16 * p, s);
+        write_set(facts, MEMBERS_AT + 4 * p, 4, s, VALUES_SIZE);
     }
-    write_values(facts, 16 * p, s);
-    write_set(facts, MEMBERS_AT + 4 * p, 4, s, 128);
 }
 
 // Adds row j of the crews to row 32 of the table.
@@ -102,12 +84,8 @@ fn add_last(rows: &[bool], j: u8, table: &mut [bool])
     ensures { FlagsWritten table.old rows_size (added_flag rows.now j table.old) level_size table.new }
 {
     let row = LEVEL_SIZE * (j as usize);
-    let mut f: usize = 0;
-    while f < LEVEL_SIZE {
-        let has = table[ROWS_SIZE + f];
-        let more = rows[row + f];
-        table[ROWS_SIZE + f] = has | more;
-        f += 1;
+    for f in 0..LEVEL_SIZE {
+        table[ROWS_SIZE + f] |= rows[row + f];
     }
 }
 
@@ -118,13 +96,9 @@ pub fn crew_table(juniors: &[u32], k: u8, rows: &[bool], table: &mut [bool])
 {
     let direct = juniors[k as usize];
     clear_flags(table, ROWS_SIZE, LEVEL_SIZE);
-    let mut j: u8 = 0;
-    while j < k {
+    for j in 0..k {
         if sets::has(direct, j) {
             add_last(rows, j, table);
-            j += 1;
-        } else {
-            j += 1;
         }
     }
 }
@@ -145,9 +119,9 @@ pub fn fill_row(table: &[bool], k: u8, x: &[bool], rows: &mut [bool])
 {
     let own = k as usize;
     let row = LEVEL_SIZE * own;
-    copy_flags(x, LEVEL_SIZE, 128, rows, row);
-    copy_flags(table, 5248, 32, rows, row + 128);
-    rows[row + (128 + own)] = true;
+    copy_flags(x, LEVEL_SIZE, VALUES_SIZE, rows, row);
+    copy_flags(table, ROWS_SIZE + VALUES_SIZE, 32, rows, row + VALUES_SIZE);
+    rows[row + (VALUES_SIZE + own)] = true;
 }
 
 // Each crew's row has the crew itself, and nothing else.
@@ -156,10 +130,8 @@ pub fn first_rows(rows: &mut [bool])
     ensures { FirstRows rows.new }
 {
     clear_flags(rows, 0, ROWS_SIZE);
-    let mut c: usize = 0;
-    while c < 32 {
-        rows[161 * c + 128] = true;
-        c += 1;
+    for c in 0..32 {
+        rows[LEVEL_SIZE * c + (VALUES_SIZE + c)] = true;
     }
 }
 
@@ -168,11 +140,8 @@ fn add_lacking(x: u32, n: usize, s: &mut [bool], at: usize)
     requires { (n ≤ 32) × (at + n ≤ length s.old) }
     ensures { FlagsWritten s.old at (lacking_flag s.old at x) n s.new }
 {
-    let mut v: usize = 0;
-    while v < n {
-        let has = s[at + v];
-        s[at + v] = has | !((x >> v) % 2 == 1);
-        v += 1;
+    for v in 0..n {
+        s[at + v] |= (x >> v) % 2 != 1;
     }
 }
 
@@ -182,10 +151,9 @@ fn add_want(w: Want, bad: &mut [bool])
     ensures { FlagsWritten bad.old 0 (want_flag bad.old w) 128 bad.new }
 {
     let a = w.attr.0 as usize;
-    if a >= 8 {
-        return;
+    if a < 8 {
+        add_lacking(w.set, 16, bad, 16 * a);
     }
-    add_lacking(w.set, 16, bad, 16 * a);
 }
 
 // Adds the values that some named set lacks.
@@ -193,12 +161,8 @@ fn add_banned(q: Query, bad: &mut [bool])
     requires { SmallWants q × (length bad.old ≡ level_size) }
     ensures { FlagsWritten bad.old 0 (banned_flag bad.old q q.q) 128 bad.new }
 {
-    let n = q.q;
-    let mut j: u8 = 0;
-    while j < n {
-        let w = q.wants[j as usize];
-        add_want(w, bad);
-        j += 1;
+    for w in &q.wants[..q.q as usize] {
+        add_want(*w, bad);
     }
 }
 
@@ -213,13 +177,10 @@ pub fn bad_flags(q: Query, crews: u8, k: u8, below: bool, bad: &mut [bool])
     }
     if k >= crews {
         add_banned(q, bad);
-        add_lacking(q.crews, 32, bad, 128);
-        return;
+        add_lacking(q.crews, 32, bad, VALUES_SIZE);
+    } else if below {
+        add_banned(q, bad);
     }
-    if !below {
-        return;
-    }
-    add_banned(q, bad);
 }
 
 // Whether the row of some listed crew reaches crew c.
@@ -227,14 +188,10 @@ pub fn do_listed_reach(listed: u32, rows: &[bool], c: u8) -> bool
     requires { (c < 32) × (length rows.now ≡ rows_size) }
     ensures { result ≡ listed_reach listed rows.now c }
 {
-    let mut d: u8 = 0;
-    while d < 32 {
-        let named = sets::has(listed, d);
-        let reached = rows[LEVEL_SIZE * (d as usize) + (128 + (c as usize))];
-        if named & reached {
+    for d in 0..32 {
+        if sets::has(listed, d) && rows[LEVEL_SIZE * (d as usize) + (VALUES_SIZE + (c as usize))] {
             return true;
         }
-        d += 1;
     }
     false
 }

@@ -1,15 +1,14 @@
 -- What the limits of a book with "not" terms come to: of a term, of a rule, of a list of rules, and of an accepted book.
+use Rattle.std.specs.List.{list_any}
 use mathlib.Core.Path.{◌≡◌, refl, ap, sym, ◌∙◌}
 use mathlib.Core.Bool.{Bool, true, false, not, ◌&&◌, ◌||◌, true≢false}
 use mathlib.Core.List.{List, [], ◌∷◌, ◌++◌}
-use mathlib.Core.Logic.{◌⊎◌, inl, inr, dite}
-use Prim.Native.Nat.{ℕ, zero, suc, ◌+◌, ◌≤◌, ◌<◌}
-use native.Mathlib.Decide.{dec_lt}
-use native.Mathlib.Numerals.{add-one}
+use mathlib.Core.Logic.{◌⊎◌, inl, inr}
+use Prim.Native.Nat.{ℕ, zero, suc, ◌-◌, ◌≤◌, ◌<◌}
 use native.Mathlib.Omega.{arith}
 use lib.Dec.{eqb}
-use lib.ListN.{length, get_or, take, drop, drop_of_length-le}
-use lib.Seq.{drop-cons, get_or-take, length-take-le}
+use lib.ListN.{length, get_or, take, drop}
+use lib.Seq.{get_or-take, length-take-le, take_all}
 use borrow.Author.Tests.{eqb-true, eq-eqb, not-true, not-false}
 use Rattle.quantifiers.specs.Quantifiers.{all, any}
 use Rattle.quantifiers.proofs.BoolLaws.{and_both, or_either, or_neither, or-none}
@@ -116,40 +115,23 @@ once_at (r ∷ rs) d e (suc i) zero h k s =
     (sym (key_turned (get_or rs i d) r s) ∙ any_get (same_key r) rs d i (or_neither (any (same_key r) rs) (twice rs) e) (omega arith)))
 once_at (r ∷ rs) d e (suc i) (suc j) h k s = ap suc (once_at rs d (or-none (any (same_key r) rs) (twice rs) e) i j (omega arith) (omega arith) s)
 
--- What is left of the search for a key given twice, where rule i was compared with those behind it up to j: whether one from j on has its
--- key, or one of those behind i is given twice.
-unfoldable pub twice_from : List Rule → Rule → ℕ → ℕ → Bool
-twice_from rs d i j = any (same_key (get_or rs i d)) (drop j rs) || twice (drop (i + 1) rs)
+-- Some one of a list passes a test, in the words of std and in those of the paper's definitions.
+pub any_list : {A : Type 0} (p : A → Bool) (xs : List A) → list_any p xs ≡ any p xs
+unfolding any
+any_list p [] = refl
+any_list p (x ∷ xs) = ap (λ (b : Bool). p x || b) (any_list p xs)
 
-module _ (rs : List Rule) (d : Rule) where
-  -- Of the rules from i on nothing was compared yet.
-  fresh : (i : ℕ) → twice (drop i rs) ≡ twice_from rs d i (i + 1)
-  unfolding twice_from twice any
-  fresh i =
-      dite (dec_lt i (length rs)) (λ (h : i < length rs). rw (add-one, drop-cons rs i d h) refl)
-      (λ (h : i < length rs → ⊥). rw (drop_of_length-le rs {i = i} (omega (arith, h)), drop_of_length-le rs {i = i + 1} (omega (arith, h))) refl)
+-- A key is given twice where the first rule's is, or one of those behind it; d stands for a rule past the list's end.
+pub twice_turn : (rs : List Rule) (d : Rule) → 1 ≤ length rs
+    → let behind = take (length rs - 1) (drop 1 rs) in twice rs ≡ (any (same_key (get_or rs 0 d)) behind || twice behind)
+unfolding twice
+twice_turn [] d h = absurd (omega arith)
+twice_turn (r ∷ rs) d h = rw (take_all (length (r ∷ rs) - 1) rs (omega arith)) refl
 
-  pub twice-first : twice rs ≡ twice_from rs d 0 1
-  twice-first = fresh 0
-
-  -- Rule j has rule i's key, or has not.
-  pub twice_found : (i j : ℕ) → j < length rs → same_key (get_or rs i d) (get_or rs j d) ≡ true → twice_from rs d i j ≡ true
-  unfolding twice_from any
-  twice_found i j h e = rw (drop-cons rs j d h, e) refl
-
-  pub twice_on : (i j : ℕ) → j < length rs → same_key (get_or rs i d) (get_or rs j d) ≡ false → twice_from rs d i j ≡ twice_from rs d i (j + 1)
-  unfolding twice_from any
-  twice_on i j h e = rw (drop-cons rs j d h, e, add-one j) refl
-
-  -- Rule i was compared with all behind it, and the next one's turn comes.
-  pub twice_next : (i j : ℕ) → length rs ≤ j → twice_from rs d i j ≡ twice_from rs d (i + 1) (i + 1 + 1)
-  unfolding twice_from any
-  twice_next i j h = rw (drop_of_length-le rs {i = j} h) (fresh (i + 1))
-
-  -- Nothing is left.
-  pub twice_out : (i j : ℕ) → length rs ≤ i → i < j → twice_from rs d i j ≡ false
-  unfolding twice_from any twice
-  twice_out i j h k = rw (drop_of_length-le rs {i = j} (omega arith), drop_of_length-le rs {i = i + 1} (omega arith)) refl
+pub twice_none : (rs : List Rule) → length rs < 1 → twice rs ≡ false
+unfolding twice
+twice_none [] h = refl
+twice_none (r ∷ rs) h = absurd (omega arith)
 
 -- ---------------------------------------------------------------- both refusals
 

@@ -1,5 +1,6 @@
 -- One turn of the walk over a book's lines, over plain values: what is left of the book decides the answer.
-use mathlib.Core.Path.{◌≡◌, refl, ap, sym, ◌∙◌}
+use Rattle.std.specs.Prelude.{Result, Ok, Err, Option, None, Some}
+use mathlib.Core.Path.{◌≡◌, refl, ap, sym, subst, ◌∙◌}
 use mathlib.Core.Bool.{Bool, true, false, not, cond, ◌&&◌, ◌||◌}
 use mathlib.Core.List.{List, [], ◌∷◌, ◌++◌}
 use mathlib.Core.Logic.{◌⊎◌, ⊎_elim, inl, inr, dite}
@@ -15,15 +16,16 @@ use Rattle.lines.specs.Digits.{byte_at, frame_of, malformed}
 use Rattle.lines.specs.Lines.{Line, ended, lines}
 use Rattle.lines.proofs.DigitLaws.{well_long}
 use Rattle.lines.proofs.LineLaws.{line_ended, line_unended}
-use Rattle.reader.specs.declared.Frame.TheVariants.{Malformed as NoFrame, Bytes, Long}
+use Rattle.reader.specs.declared.Frame.{Frame}
+use Rattle.reader.specs.declared.Frame.TheVariants.{Bytes, Long}
 use Rattle.reader.specs.declared.Read.{Read}
 use Rattle.reader.specs.Inner.Reading.{line_end, line_of, FrameRead}
 use Rattle.reader.proofs.ReadLaws.{read_bytes, read_long, read_malformed}
 use Rattle.gate.specs.Gate.{verdict, line_verdict}
 use Rattle.gate.specs.declared.Known.{Known}
 use Rattle.gate.specs.declared.Fault.{Fault}
-use Rattle.gate.specs.declared.Fault.TheVariants.{Malformed, Misplaced, BeyondNot, WrongMode}
-use Rattle.gate.specs.declared.Verdict.TheVariants.{Good, Bad}
+use Rattle.gate.specs.declared.Fault.TheVariants.{Malformed, Misplaced}
+use Rattle.gate.specs.Gate.{Verdict, Good, Bad}
 use Rattle.quantifiers.specs.Quantifiers.{all}
 use Rattle.gate.specs.Inner.Long.{long_fault}
 use Rattle.gate.proofs.LongLaws.{long_bad}
@@ -35,6 +37,7 @@ use Rattle.frames.specs.declared.Refusal.TheVariants.{BadLine}
 use Rattle.frames.specs.Limits.{plain, all_plain, growing, twice, beyond_not, wrong_mode}
 use Rattle.frames.specs.Book.{Entered, refused, accepted, contents, nothing, onward, last_fault, walk, enter, rule_of}
 use Rattle.frames.specs.Book.{known_after, juniors_after, rules_after, facts_after, query_after}
+use Rattle.frames.specs.Inner.Judged.{sized, judged, whole}
 use Rattle.frames.proofs.LimitLaws.{plain_more}
 
 -- The state that the reader's locals stand for.
@@ -150,12 +153,8 @@ module _ (paged : Bool) (s : Entered) (l : ℕ) (x : List ℕ) (ls : List Line) 
   unfolding walk line_verdict
   walk-malformed m = rw m refl
 
--- Rules that a book with "not" terms may not have; such a book has none, or there is no "not" term.
-abbrev pub breaks : List Rule → Bool
-breaks rs = not (all growing rs) || twice rs
-
-abbrev pub Kept : Bool → List Rule → Type 0
-Kept b rs = (b ≡ true) ⊎ ((b ≡ false) × (breaks rs ≡ false))
+never : (n : ℕ) (f : Fault) → ◌≡◌ {A = Result ℕ Fault} (Ok n) (Err f) → ⊥
+never n f e = cc
 
 -- The characters of the line at place i.
 abbrev line : List ℕ → ℕ → List ℕ
@@ -169,38 +168,23 @@ pub record Framed (book : List ℕ) (i : ℕ) (x : List ℕ) : Type 0 where
 
 module _ {paged : Bool} {book : List ℕ} {k : Known} {q : Query} {m fs : List ℕ} {rs : List Rule} {b : Bool} {i l : ℕ}
     (inv : Held paged book k q m fs rs b i l) where
-  -- The end of the book behind a query: the verdict on the whole; and without one.
-  at_end : length book ≤ i → k.asked ≡ true
-      → onward (last_fault paged (held k q m fs rs)) (l - 1) (accepted (contents (held k q m fs rs))) ≡ walk paged nothing 1 (lines book)
-  unfolding walk held lines
-  at_end h is = sym (inv.left ∙ rw (drop_of_length-le book {i = i} h, is) refl)
-
+  -- The end of the book without a query; and behind one, where the verdict on the whole decides.
   pub at_end-bad : length book ≤ i → k.asked ≡ false → refused (BadLine Misplaced l) ≡ walk paged nothing 1 (lines book)
   unfolding walk held lines
   at_end-bad h is = sym (inv.left ∙ rw (drop_of_length-le book {i = i} h, is) refl)
 
-  -- The limits are broken.
-  pub at_end_beyond : length book ≤ i → k.asked ≡ true → b ≡ false → breaks (take k.count rs) ≡ true
-      → refused (BadLine BeyondNot (l - 1)) ≡ walk paged nothing 1 (lines book)
-  unfolding last_fault held beyond_not
-  at_end_beyond h is e f = rw (sym inv.unmarked ∙ e, f) at (at_end h is)
+  at_end : length book ≤ i → k.asked ≡ true
+      → onward (whole paged (take k.count rs) q.mode) (l - 1) (accepted (contents (held k q m fs rs))) ≡ walk paged nothing 1 (lines book)
+  unfolding walk held lines last_fault
+  at_end h is = sym (inv.left ∙ rw (drop_of_length-le book {i = i} h, is) refl)
 
-  -- They are kept.
-  kept : Kept b (take k.count rs) → beyond_not (take k.count rs) ≡ false
-  unfolding beyond_not
-  kept (inl e) = rw (sym inv.unmarked ∙ e) refl
-  kept (inr w) = rw (sym inv.unmarked ∙ w.0, w.1) refl
+  pub at_end-whole : length book ≤ i → k.asked ≡ true → (f : Fault) → whole paged (take k.count rs) q.mode ≡ Bad f
+      → refused (BadLine f (l - 1)) ≡ walk paged nothing 1 (lines book)
+  at_end-whole h is f e = ap (λ (v : Verdict). onward v (l - 1) (accepted (contents (held k q m fs rs)))) (sym e) ∙ at_end h is
 
-  -- Then the mode is wrong, or all is good.
-  pub at_end_mode : length book ≤ i → k.asked ≡ true → Kept b (take k.count rs)
-      → (cond (eqb q.mode 3) b (not b) || (paged && not b)) ≡ true → refused (BadLine WrongMode (l - 1)) ≡ walk paged nothing 1 (lines book)
-  unfolding last_fault held wrong_mode
-  at_end_mode h is w e = rw (kept w, rw inv.unmarked at e) at (at_end h is)
-
-  pub at_end_good : length book ≤ i → k.asked ≡ true → Kept b (take k.count rs)
-      → (cond (eqb q.mode 3) b (not b) || (paged && not b)) ≡ false → accepted (contents (held k q m fs rs)) ≡ walk paged nothing 1 (lines book)
-  unfolding last_fault held wrong_mode
-  at_end_good h is w e = rw (kept w, rw inv.unmarked at e) at (at_end h is)
+  pub at_end-good : length book ≤ i → k.asked ≡ true → whole paged (take k.count rs) q.mode ≡ Good
+      → accepted (contents (held k q m fs rs)) ≡ walk paged nothing 1 (lines book)
+  at_end-good h is e = ap (λ (v : Verdict). onward v (l - 1) (accepted (contents (held k q m fs rs)))) (sym e) ∙ at_end h is
 
   -- The line at i: unended, malformed, bad, or good.
   unended_bad : i < length book → length book ≤ line_end book i → refused (BadLine Malformed l) ≡ walk paged nothing 1 (lines book)
@@ -271,14 +255,14 @@ module _ {paged : Bool} {book : List ℕ} {k : Known} {q : Query} {m fs : List �
 
   module _ {before : List ℕ} {r : Read} {after : List ℕ} (p : FrameRead book (record { at = i; line = l }) before r after) where
     -- A frame was read of the line at i: the line is ended, and the reader's next place is behind its 0A.
-    pub line-framed : {n : ℕ} → r.frame ≡ Bytes n → Framed book i (take n after)
+    pub line-framed : {n : ℕ} → r.frame ≡ Some (Bytes n) → Framed book i (take n after)
     line-framed e = let read = read_bytes p e in record { ended = read.0; well = read.1.0; frame = read.1.1.front }
 
-    pub line-less : {n : ℕ} → r.frame ≡ Bytes n → i < length book → length book - r.next.at < length book - i
+    pub line-less : {n : ℕ} → r.frame ≡ Some (Bytes n) → i < length book → length book - r.next.at < length book - i
     line-less e h = rw p.next (omega (arith, (read_bytes p e).0, h))
 
     -- Only the front of its frame was read: no frame as long is good.
-    pub long-refused : {n : ℕ} → r.frame ≡ Long n → length after ≡ 64 → refused (BadLine (long_fault k after n) l) ≡ walk paged nothing 1 (lines book)
+    pub long-refused : {n : ℕ} → r.frame ≡ Some (Long n) → length after ≡ 64 → refused (BadLine (long_fault k after n) l) ≡ walk paged nothing 1 (lines book)
     long-refused {n} e size =
         let read = read_long p e in
         let front = read.1.1 in
@@ -290,7 +274,41 @@ module _ {paged : Bool} {book : List ℕ} {k : Known} {q : Query} {m fs : List �
         (long_bad k x (omega (arith, front.over, front.count)) ∙ ap Bad same)
 
     -- No frame was read of it: it is unended or malformed.
-    pub unread-bad : i < length book → r.frame ≡ NoFrame → refused (BadLine Malformed l) ≡ walk paged nothing 1 (lines book)
+    pub unread-bad : i < length book → r.frame ≡ None → refused (BadLine Malformed l) ≡ walk paged nothing 1 (lines book)
     unread-bad h none =
         dite (dec_lt (line_end book i) (length book)) (λ (k : line_end book i < length book). line_malformed k (read_malformed p none k))
         (λ (k : line_end book i < length book → ⊥). unended_bad h (omega (arith, k)))
+
+    -- What the line is judged to be: bad by a fault, or good, and then its frame was read.
+    pub judged-bad : (f : Fault) → judged k r.frame after ≡ Err f → length after ≡ 64 → i < length book
+        → refused (BadLine f l) ≡ walk paged nothing 1 (lines book)
+    judged-bad f e size h = by-frame r.frame refl e
+      where
+        by_verdict : (n : ℕ) → r.frame ≡ Some (Bytes n) → (v : Verdict) → verdict k (take n after) ≡ v → sized n v ≡ Err f
+            → refused (BadLine f l) ≡ walk paged nothing 1 (lines book)
+        by_verdict n w (Ok tt) is g = absurd (never n f g)
+        by_verdict n w (Err x) is g = line-bad (line-framed w) f (is ∙ g_of x g)
+          where
+            g_of : (x : Fault) → sized n (Err x) ≡ Err f → Bad x ≡ Bad f
+            g_of x g = let same : x ≡ f = cc in ap Bad same
+
+        by-frame : (w : Option Frame) → r.frame ≡ w → judged k w after ≡ Err f → refused (BadLine f l) ≡ walk paged nothing 1 (lines book)
+        by-frame None w g = let same : Malformed ≡ f = cc in ap (λ (x : Fault). refused (BadLine x l)) (sym same) ∙ unread-bad h w
+        by-frame (Some (Bytes n)) w g = by_verdict n w (verdict k (take n after)) refl g
+        by-frame (Some (Long n)) w g =
+            let same : long_fault k after n ≡ f = cc in ap (λ (x : Fault). refused (BadLine x l)) (sym same) ∙ long-refused w size
+
+    pub judged-good : (n : ℕ) → judged k r.frame after ≡ Ok n → (r.frame ≡ Some (Bytes n)) × (verdict k (take n after) ≡ Good)
+    judged-good n e = by-frame r.frame refl e
+      where
+        by_verdict : (j : ℕ) → r.frame ≡ Some (Bytes j) → (v : Verdict) → verdict k (take j after) ≡ v → sized j v ≡ Ok n
+            → (r.frame ≡ Some (Bytes n)) × (verdict k (take n after) ≡ Good)
+        by_verdict j w (Ok tt) is g =
+            let same : j ≡ n = cc in
+            subst (λ (x : ℕ). (r.frame ≡ Some (Bytes x)) × (verdict k (take x after) ≡ Good)) same (w, is)
+        by_verdict j w (Err x) is g = absurd (never n x (sym g))
+
+        by-frame : (w : Option Frame) → r.frame ≡ w → judged k w after ≡ Ok n → (r.frame ≡ Some (Bytes n)) × (verdict k (take n after) ≡ Good)
+        by-frame None w g = absurd (never n Malformed (sym g))
+        by-frame (Some (Bytes j)) w g = by_verdict j w (verdict k (take j after)) refl g
+        by-frame (Some (Long j)) w g = absurd (never n (long_fault k after j) (sym g))

@@ -2,20 +2,32 @@
 
 #![tactic(auto)]
 
-ghost use Rattle.std.specs.Prelude.{◌≡◌, true, not, cond, ◌&&◌, ◌||◌, ◌+◌, ◌-◌, ◌*◌, ◌<◌, ◌≤◌, length, eqb, ltb};
+ghost use Rattle.std.specs.Prelude.{◌≡◌, true, not, cond, ◌&&◌, ◌||◌, ◌+◌, ◌-◌, ◌*◌, ◌<◌, ◌≤◌, length, eqb};
 ghost use Rattle.quantifiers.specs.Quantifiers.{all};
 ghost use Rattle.lines.specs.Digits.{byte_at};
 ghost use Rattle.lines.specs.Lines.{lines};
 ghost use Rattle.frames.specs.Book.{refusal_number, refusal_line, term_at, terms_of, rule_of, known_after, juniors_after, fact_of, facts_after, want_at, wants_of};
-ghost use Rattle.frames.specs.Book.{query_of, query_after, no_query, no_rule, nothing, walk, book_for, book_of, listed, alone, told_by, refused};
-ghost use Rattle.frames.specs.Limits.{is_not, plain, growing, same_key, twice};
+ghost use Rattle.frames.specs.Book.{query_of, query_after, nothing, walk, book_for, book_of, told_by};
+ghost use Rattle.frames.specs.Limits.{is_not, plain, all_plain, growing, same_key, twice};
+ghost use Rattle.frames.specs.Inner.Judged.{Fits, judged, whole};
 
 use facts::{Attr, Crew, Fact, LEDGER_SIZE, Person, Role};
+use gate::{Fault, Known};
+use reader::Frame;
 
-// The kind of the frame that is an edge between two crews.
+// The most characters that a book may have.
+const MOST: usize = 65536;
+
+// The kinds of the frames that are an edge between two crews, a rule and a starting fact.
 const EDGE: u8 = 2;
 
+const RULE: u8 = 3;
+
+const FACT: u8 = 4;
+
 // One condition of a rule: kind, a, v as written.
+// Kept: a kind, an op and a mode are numbers and no enums: `term_at`, `rule_of` and `query_of` of specs/Book give each byte as it is written,
+// whatever it is, also behind a rule's n terms.
 #[derive(Clone, Copy)]
 pub struct Term {
     pub kind: u8,
@@ -24,6 +36,7 @@ pub struct Term {
 }
 
 // A rule as written; a is the attribute, in ops 05 and 06 the crew. The first n terms count.
+// Kept: an array with its count beside it, here, in `Rules` and in `Query`: the library has no heap, and an accepted book is one value.
 #[derive(Clone, Copy)]
 pub struct Rule {
     pub op: u8,
@@ -73,20 +86,7 @@ pub struct Book {
 #[derive(Clone, Copy)]
 pub enum Refusal {
     TooLong,
-    BadLine(gate::Fault, usize),
-}
-
-#[derive(Clone, Copy)]
-pub enum Outcome {
-    Accepted,
-    Refused(Refusal),
-}
-
-// What reading gives. The book counts only where the outcome is Accepted.
-#[derive(Clone, Copy)]
-pub struct Reading {
-    pub outcome: Outcome,
-    pub book: Book,
+    BadLine(Fault, usize),
 }
 
 // The table's number of a refusal.
@@ -109,108 +109,85 @@ pub fn refusal_line(r: Refusal) -> usize
     }
 }
 
+#[tactic(auto, unfolding(crate::specs::Book::term_at))]
 fn term_at(x: &[u8], j: usize) -> Term
     requires { j < 256 }
     ensures { result ≡ term_at x.now j }
 {
-    let kind = lines::byte_at(x, 6 + 3 * j);
-    let a = lines::byte_at(x, 7 + 3 * j);
-    let v = lines::byte_at(x, 8 + 3 * j);
-    Term { kind, a, v }
+    Term {
+        kind: lines::byte_at(x, 6 + 3 * j),
+        a: lines::byte_at(x, 7 + 3 * j),
+        v: lines::byte_at(x, 8 + 3 * j),
+    }
 }
 
 fn terms_of(x: &[u8]) -> [Term; 8]
     ensures { result ≡ terms_of x.now }
 {
-    let t0 = term_at(x, 0);
-    let t1 = term_at(x, 1);
-    let t2 = term_at(x, 2);
-    let t3 = term_at(x, 3);
-    let t4 = term_at(x, 4);
-    let t5 = term_at(x, 5);
-    let t6 = term_at(x, 6);
-    let t7 = term_at(x, 7);
-    [t0, t1, t2, t3, t4, t5, t6, t7]
+    let mut terms = [NO_TERM; 8];
+    for j in 0..8 {
+        terms[j] = term_at(x, j);
+    }
+    terms
 }
 
 // The rule that a 03 frame writes.
+#[tactic(auto, unfolding(crate::specs::Book::rule_of))]
 fn rule_of(x: &[u8]) -> Rule
     ensures { result ≡ rule_of x.now }
 {
-    let op = lines::byte_at(x, 1);
-    let role = lines::byte_at(x, 2);
-    let a = lines::byte_at(x, 3);
-    let v = lines::byte_at(x, 4);
-    let n = lines::byte_at(x, 5);
-    let terms = terms_of(x);
     Rule {
-        op,
-        role: Role(role),
-        a,
-        v,
-        n,
-        terms,
+        op: lines::byte_at(x, 1),
+        role: Role(lines::byte_at(x, 2)),
+        a: lines::byte_at(x, 3),
+        v: lines::byte_at(x, 4),
+        n: lines::byte_at(x, 5),
+        terms: terms_of(x),
     }
 }
 
 // What is known behind one good frame more.
-fn known_after(k: gate::Known, x: &[u8]) -> gate::Known
+#[tactic(auto, unfolding(crate::specs::Book::known_after))]
+fn known_after(k: Known, x: &[u8]) -> Known
     requires { k.count ≤ 512 }
     ensures { result ≡ known_after k x.now }
 {
-    let kind = lines::byte_at(x, 0);
-    if kind == 1 {
-        let sizes = sizes::sizes_of(x);
-        return gate::Known {
+    match lines::byte_at(x, 0) {
+        1 => Known {
             headed: true,
-            asked: k.asked,
-            sizes,
-            count: k.count,
-        };
-    }
-    let sizes = k.sizes;
-    if kind == 3 {
-        return gate::Known {
-            headed: k.headed,
-            asked: k.asked,
-            sizes,
+            sizes: sizes::sizes_of(x),
+            ..k
+        },
+        3 => Known {
             count: k.count + 1,
-        };
+            ..k
+        },
+        5 => Known { asked: true, ..k },
+        _ => k,
     }
-    if kind == 5 {
-        return gate::Known {
-            headed: k.headed,
-            asked: true,
-            sizes,
-            count: k.count,
-        };
-    }
-    k
 }
 
 // An edge's frame puts its junior into its senior's set.
+#[tactic(auto, unfolding(crate::specs::Book::juniors_after))]
 fn enter_edge(m: &mut [u32; 32], x: &[u8])
     requires x_value { (byte_at x.now 0 ≡ 2) × ((byte_at x.now 1 < 32) × (byte_at x.now 2 < 32)) }
     requires m_len { length m.old ≡ 32 }
     ensures { m.new ≡ juniors_after m.old x.now }
 {
-    let s = lines::byte_at(x, 1) as usize;
-    let j = lines::byte_at(x, 2);
-    let row = sets::with(m[s], j, true);
-    m[s] = row;
+    let s = usize::from(lines::byte_at(x, 1));
+    m[s] = sets::with(m[s], lines::byte_at(x, 2), true);
 }
 
 // The fact that a 04 frame writes.
+#[tactic(auto, unfolding(crate::specs::Book::fact_of))]
 fn fact_of(k: u8, s: u8, a: u8, v: u8) -> Fact
     ensures { result ≡ fact_of k s a v }
 {
-    if k == 1 {
-        return Fact::Holds(Person(s), Attr(a), v);
+    match k {
+        1 => Fact::Holds(Person(s), Attr(a), v),
+        2 => Fact::CrewHolds(Crew(s), Attr(a), v),
+        _ => Fact::Member(Person(s), Crew(a)),
     }
-    if k == 2 {
-        return Fact::CrewHolds(Crew(s), Attr(a), v);
-    }
-    Fact::Member(Person(s), Crew(a))
 }
 
 // A fact's frame puts its fact in.
@@ -225,245 +202,196 @@ fn enter_fact(m: &mut [u8; LEDGER_SIZE], x: &[u8])
     facts::put_fact(m, fact_of(k, s, a, v), true);
 }
 
+#[tactic(auto, unfolding(crate::specs::Book::want_at))]
 fn want_at(x: &[u8], j: usize) -> Want
     requires { j < 256 }
     ensures { result ≡ want_at x.now j }
 {
-    let a = lines::byte_at(x, 6 + 3 * j);
-    let set = gate::pair_at(x, 7 + 3 * j);
-    Want { attr: Attr(a), set }
+    Want {
+        attr: Attr(lines::byte_at(x, 6 + 3 * j)),
+        set: gate::pair_at(x, 7 + 3 * j),
+    }
 }
 
 fn wants_of(x: &[u8]) -> [Want; 8]
     ensures { result ≡ wants_of x.now }
 {
-    let w0 = want_at(x, 0);
-    let w1 = want_at(x, 1);
-    let w2 = want_at(x, 2);
-    let w3 = want_at(x, 3);
-    let w4 = want_at(x, 4);
-    let w5 = want_at(x, 5);
-    let w6 = want_at(x, 6);
-    let w7 = want_at(x, 7);
-    [w0, w1, w2, w3, w4, w5, w6, w7]
+    let mut wants = [NO_WANT; 8];
+    for j in 0..8 {
+        wants[j] = want_at(x, j);
+    }
+    wants
 }
 
 // The query that a 05 frame writes.
+#[tactic(auto, unfolding(crate::specs::Book::query_of))]
 fn query_of(x: &[u8]) -> Query
     ensures { result ≡ query_of x.now }
 {
     let q = lines::byte_at(x, 5);
-    let mode = lines::byte_at(x, 1);
-    let person = lines::byte_at(x, 2);
-    let roles = gate::pair_at(x, 3);
-    let crews = gate::quad_at(x, 6 + 3 * (q as usize));
-    let wants = wants_of(x);
     Query {
-        mode,
-        person: Person(person),
-        roles,
+        mode: lines::byte_at(x, 1),
+        person: Person(lines::byte_at(x, 2)),
+        roles: gate::pair_at(x, 3),
         q,
-        wants,
-        crews,
+        wants: wants_of(x),
+        crews: gate::quad_at(x, 6 + 3 * usize::from(q)),
     }
 }
 
+#[tactic(auto, unfolding(crate::specs::Book::query_after))]
 fn query_after(q: Query, x: &[u8]) -> Query
     ensures { result ≡ query_after q x.now }
 {
-    let kind = lines::byte_at(x, 0);
-    if kind == 5 {
-        return query_of(x);
-    }
-    q
-}
-
-// What stands in the query's place before its line.
-fn no_query() -> Query
-    ensures { result ≡ no_query }
-{
-    let w = Want {
-        attr: Attr(0),
-        set: 0,
-    };
-    let wants = [w; 8];
-    Query {
-        mode: 0,
-        person: Person(0),
-        roles: 0,
-        q: 0,
-        wants,
-        crews: 0,
+    if lines::byte_at(x, 0) == 5 {
+        query_of(x)
+    } else {
+        q
     }
 }
 
-// What stands in a rule's place before its line.
-fn no_rule() -> Rule
-    ensures { result ≡ no_rule }
-{
-    let t = Term {
-        kind: 0,
-        a: 0,
-        v: 0,
-    };
-    let terms = [t; 8];
-    Rule {
-        op: 0,
-        role: Role(0),
-        a: 0,
-        v: 0,
-        n: 0,
-        terms,
-    }
-}
+// What stands in the place of a query, of one of its sets, of a rule and of one of its terms before a line writes it.
+const NO_QUERY: Query = Query {
+    mode: 0,
+    person: Person(0),
+    roles: 0,
+    q: 0,
+    wants: [NO_WANT; 8],
+    crews: 0,
+};
+
+const NO_WANT: Want = Want {
+    attr: Attr(0),
+    set: 0,
+};
+
+const NO_RULE: Rule = Rule {
+    op: 0,
+    role: Role(0),
+    a: 0,
+    v: 0,
+    n: 0,
+    terms: [NO_TERM; 8],
+};
+
+const NO_TERM: Term = Term {
+    kind: 0,
+    a: 0,
+    v: 0,
+};
 
 // Whether a term is a "not" term.
+#[tactic(auto, unfolding(crate::specs::Limits::is_not))]
 fn is_not(t: Term) -> bool
     ensures { result ≡ is_not t }
 {
-    (t.kind == 0x81) | (t.kind == 0x83)
+    t.kind == 0x81 || t.kind == 0x83
 }
 
 // Whether a rule has no "not" term.
-fn is_plain(r: Rule) -> bool
-    ensures { result ≡ plain r }
+fn is_plain(r: &Rule) -> bool
+    ensures { result ≡ plain r.now }
 {
-    let n = r.n as usize;
-    let mut good = true;
-    let mut j: usize = 0;
-    while (j < n) & (j < 8) {
-        good = good & !is_not(r.terms[j]);
-        j += 1;
-    }
-    good
+    r.terms.iter().take(usize::from(r.n)).all(|t| !is_not(*t))
 }
 
 // Whether a term may stand in a rule of a book with "not" terms.
 fn is_growing_term(t: Term) -> bool
     ensures { result ≡ (is_not t || (eqb t.kind 1 || eqb t.kind 3)) }
 {
-    is_not(t) | ((t.kind == 1) | (t.kind == 3))
+    is_not(t) || t.kind == 1 || t.kind == 3
+}
+
+// Whether a rule of that op may.
+fn is_growing_op(op: u8) -> bool
+    ensures { result ≡ (eqb op 1 || (eqb op 3 || eqb op 5)) }
+{
+    op == 1 || op == 3 || op == 5
 }
 
 // Whether a rule may stand in a book with "not" terms.
-fn is_growing(r: Rule) -> bool
-    ensures { result ≡ growing r }
+fn is_growing(r: &Rule) -> bool
+    ensures { result ≡ growing r.now }
 {
-    let n = r.n as usize;
-    let mut good = (r.op == 1) | ((r.op == 3) | (r.op == 5));
-    let mut j: usize = 0;
-    while (j < n) & (j < 8) {
-        good = good & is_growing_term(r.terms[j]);
-        j += 1;
-    }
-    good
-}
-
-// Whether each rule of the list may.
-fn are_growing(rs: Rules) -> bool
-    requires { rs.count ≤ 512 }
-    ensures { result ≡ all growing (listed rs) }
-{
-    let mut i: usize = 0;
-    while i < rs.count {
-        if !is_growing(rs.rules[i]) {
-            return false;
-        }
-        i += 1;
-    }
-    true
+    is_growing_op(r.op)
+        && r.terms
+            .iter()
+            .take(usize::from(r.n))
+            .all(|t| is_growing_term(*t))
 }
 
 // Whether two rules have the same op, a and v.
-fn is_same_key(r: Rule, s: Rule) -> bool
-    ensures { result ≡ same_key r s }
+#[tactic(auto, unfolding(crate::specs::Limits::same_key))]
+fn is_same_key(r: &Rule, s: &Rule) -> bool
+    ensures { result ≡ same_key r.now s.now }
 {
-    (r.op == s.op) & ((r.a == s.a) & (r.v == s.v))
+    r.op == s.op && r.a == s.a && r.v == s.v
 }
 
-// Whether two rules of the list have. Rule i is compared with those behind it, from j on.
-fn is_twice(rs: Rules) -> bool
-    requires { rs.count ≤ 512 }
-    ensures { result ≡ twice (listed rs) }
+// Whether two rules of the list have.
+fn is_twice(rs: &[Rule]) -> bool
+    ensures { result ≡ twice rs.now }
 {
-    let mut i: usize = 0;
-    let mut j: usize = 1;
-    while i < rs.count {
-        if j < rs.count {
-            if is_same_key(rs.rules[i], rs.rules[j]) {
-                return true;
-            }
-            j += 1;
-            continue;
+    let mut rest = rs;
+    while let [r, behind @ ..] = rest {
+        if behind.iter().any(|s| is_same_key(r, s)) {
+            return true;
         }
-        i += 1;
-        j = i + 1;
+        rest = behind;
     }
     false
 }
 
 // Whether the rules of a book with "not" terms break its limits.
-fn is_beyond(rs: Rules) -> bool
-    requires { rs.count ≤ 512 }
-    ensures { result ≡ (not (all growing (listed rs)) || twice (listed rs)) }
+fn is_beyond(rs: &[Rule]) -> bool
+    ensures { result ≡ (not (all growing rs.now) || twice rs.now) }
 {
-    if !are_growing(rs) {
-        return true;
-    }
-    is_twice(rs)
+    !rs.iter().all(|r| is_growing(r)) || is_twice(rs)
 }
 
 // Whether the mode is wrong for a book of which `unmarked` says that it has no "not" term; for the page every mode is, where it has one.
 fn is_wrong_mode(paged: bool, unmarked: bool, mode: u8) -> bool
     ensures { result ≡ (cond (eqb mode 3) unmarked (not unmarked) || (paged && not unmarked)) }
 {
-    let third = mode == 3;
-    ((third & unmarked) | (!third & !unmarked)) | (paged & !unmarked)
+    (mode == 3) == unmarked || paged && !unmarked
 }
 
-// The line before the cursor's. At the end of a book with a query it is the query's: behind that no line is good.
-fn last_line(c: lines::Cursor) -> usize
-    requires { 1 ≤ c.line }
-    ensures { result ≡ c.line - 1 }
+// How many bytes the line's frame has, which stands in the front of `buffer`; or the line's lowest refusal.
+fn judge_line(known: Known, frame: Option<Frame>, buffer: &[u8]) -> Result<usize, Fault>
+    requires { Fits frame buffer.now }
+    ensures { result ≡ judged known frame buffer.now }
 {
-    c.line - 1
-}
-
-// A refusal, and a book of nothing beside it.
-fn turned_back(r: Refusal) -> Reading
-    ensures { told_by result ≡ alone (refused r) }
-{
-    let rule = no_rule();
-    let rules = Rules {
-        count: 0,
-        rules: [rule; 512],
-    };
-    let sizes = sizes::Sizes {
-        persons: 0,
-        crews: 0,
-        attrs: 0,
-        counts: [0; 8],
-    };
-    let query = no_query();
-    let book = Book {
-        sizes,
-        juniors: [0; 32],
-        rules,
-        facts: [0; LEDGER_SIZE],
-        query,
-    };
-    Reading {
-        outcome: Outcome::Refused(r),
-        book,
+    match frame {
+        None => Err(Fault::Malformed),
+        Some(Frame::Long(n)) => Err(gate::long_fault(known, buffer, n)),
+        Some(Frame::Bytes(n)) => {
+            gate::judge_frame(known, &buffer[..n])?;
+            Ok(n)
+        }
     }
 }
 
-// Line by line: the earliest bad line, the end without a query, a fault of the whole, or the book.
-fn read_lines(book: &[u8], paged: bool) -> Reading
-    requires { length book.now ≤ 65536 }
-    ensures { told_by result ≡ alone (walk paged nothing 1 (lines book.now)) }
+// The limits are those of a book with "not" terms: the rules of any other are not looked at again.
+#[tactic(auto, unfolding(crate::specs::Limits::beyond_not, crate::specs::Limits::wrong_mode))]
+fn judge_whole(rules: &[Rule], unmarked: bool, mode: u8, paged: bool) -> Result<(), Fault>
+    requires { unmarked ≡ all_plain rules.now }
+    ensures { result ≡ whole paged rules.now mode }
 {
-    let mut known = gate::Known {
+    if !unmarked && is_beyond(rules) {
+        return Err(Fault::BeyondNot);
+    }
+    if is_wrong_mode(paged, unmarked, mode) {
+        return Err(Fault::WrongMode);
+    }
+    Ok(())
+}
+
+// Line by line: the earliest bad line, the end without a query, a fault of the whole, or the book.
+fn read_lines(book: &[u8], paged: bool) -> Result<Book, Refusal>
+    requires { length book.now ≤ 65536 }
+    ensures { told_by result ≡ walk paged nothing 1 (lines book.now) }
+{
+    let mut known = Known {
         headed: false,
         asked: false,
         sizes: sizes::Sizes {
@@ -474,111 +402,78 @@ fn read_lines(book: &[u8], paged: bool) -> Reading
         },
         count: 0,
     };
-    let mut query = no_query();
-    let mut juniors = [0u32; 32];
-    let mut facts = [0u8; LEDGER_SIZE];
-    let none = no_rule();
-    let mut rules = [none; 512];
-    let mut frame = [0u8; 64];
-    let mut digits = [0u8; 256];
-    lines::fill_digits(&mut digits);
+    let mut query = NO_QUERY;
+    let mut juniors = [0; 32];
+    let mut facts = [0; LEDGER_SIZE];
+    let mut rules = [NO_RULE; 512];
     // Whether no rule so far has a "not" term.
     let mut unmarked = true;
+    let mut frame = [0; 64];
+    let mut digits = [0; 256];
+    lines::fill_digits(&mut digits);
     let mut cursor = lines::opening_line();
+    // Kept: how far a turn goes is what the line there says, so this is no loop over a range.
     while cursor.at < book.len() {
         let read = reader::read_frame(book, cursor, &digits, &mut frame);
-        let decoded = read.frame;
-        let n = match decoded {
-            reader::Frame::Malformed => {
-                return turned_back(Refusal::BadLine(gate::Fault::Malformed, cursor.line));
-            }
-            reader::Frame::Long(n) => {
-                let fault = gate::long_fault(known, &frame, n);
-                return turned_back(Refusal::BadLine(fault, cursor.line));
-            }
-            reader::Frame::Bytes(n) => n,
+        // Kept: a `match`, not `map_err(..)?`: the proof did not close, since what the closure answers is not known behind it.
+        let n = match judge_line(known, read.frame, &frame) {
+            Ok(n) => n,
+            Err(f) => return Err(Refusal::BadLine(f, cursor.line)),
         };
         let x = &frame[..n];
-        let verdict = gate::judge_frame(known, x);
-        if let gate::Verdict::Bad(f) = verdict {
-            return turned_back(Refusal::BadLine(f, cursor.line));
+        // Of a good frame only what its kind enters is touched.
+        match lines::byte_at(x, 0) {
+            EDGE => enter_edge(&mut juniors, x),
+            FACT => enter_fact(&mut facts, x),
+            RULE => {
+                let rule = rule_of(x);
+                unmarked &= is_plain(&rule);
+                rules[known.count] = rule;
+                known.count += 1;
+            }
+            _ => {
+                query = query_after(query, x);
+                known = known_after(known, x);
+            }
         }
         cursor = read.next;
-        // Of a good frame only what its kind enters is touched.
-        let kind = lines::byte_at(x, 0);
-        if kind == EDGE {
-            enter_edge(&mut juniors, x);
-            continue;
-        }
-        if kind == 4 {
-            enter_fact(&mut facts, x);
-            continue;
-        }
-        if kind == 3 {
-            let i = known.count;
-            let rule = rule_of(x);
-            unmarked = unmarked & is_plain(rule);
-            rules[i] = rule;
-            known.count = i + 1;
-            continue;
-        }
-        query = query_after(query, x);
-        known = known_after(known, x);
     }
     if !known.asked {
-        return turned_back(Refusal::BadLine(gate::Fault::Misplaced, cursor.line));
+        return Err(Refusal::BadLine(Fault::Misplaced, cursor.line));
     }
-    let sizes = known.sizes;
-    let list = Rules {
-        count: known.count,
-        rules,
-    };
-    // The limits are those of a book with "not" terms: the rules of any other are not looked at again.
-    let mode = query.mode;
-    if !unmarked {
-        if is_beyond(list) {
-            return turned_back(Refusal::BadLine(gate::Fault::BeyondNot, last_line(cursor)));
-        }
+    if let Err(f) = judge_whole(&rules[..known.count], unmarked, query.mode, paged) {
+        // Behind a query's line no line is good, so that it is the last.
+        return Err(Refusal::BadLine(f, cursor.line - 1));
     }
-    if is_wrong_mode(paged, unmarked, mode) {
-        return turned_back(Refusal::BadLine(gate::Fault::WrongMode, last_line(cursor)));
-    }
-    let b = Book {
-        sizes,
+    Ok(Book {
+        sizes: known.sizes,
         juniors,
-        rules: list,
+        rules: Rules {
+            count: known.count,
+            rules,
+        },
         facts,
         query,
-    };
-    Reading {
-        outcome: Outcome::Accepted,
-        book: b,
-    }
-}
-
-// Whether there are more characters than a book may have.
-fn is_too_long(book: &[u8]) -> bool
-    ensures { result ≡ ltb 65536 (length book.now) }
-{
-    65536 < book.len()
+    })
 }
 
 // Any characters at all: the accepted book, or the one refusal 1-9, 16 or 17.
-pub fn read(book: &[u8]) -> Reading
-    ensures { told_by result ≡ alone (book_of book.now) }
+pub fn read(book: &[u8]) -> Result<Book, Refusal>
+    ensures { told_by result ≡ book_of book.now }
 {
-    if is_too_long(book) {
-        return turned_back(Refusal::TooLong);
+    if book.len() > MOST {
+        return Err(Refusal::TooLong);
     }
     read_lines(book, false)
 }
 
 // The same for the page, which refuses every book with a "not" term by 17.
-pub fn read_for_page(book: &[u8]) -> Reading
-    ensures { told_by result ≡ alone (book_for true book.now) }
+// Kept: beside `read`: docs/ name both, each with a definition of its own that it equals, and both are one call.
+pub fn read_for_page(book: &[u8]) -> Result<Book, Refusal>
+    ensures { told_by result ≡ book_for true book.now }
 {
-    if is_too_long(book) {
-        return turned_back(Refusal::TooLong);
+    if book.len() > MOST {
+        return Err(Refusal::TooLong);
     }
     read_lines(book, true)
 }

@@ -11,8 +11,8 @@ use borrow.Author.Tests.{lt-leb, eqb-true, not-false}
 use Rattle.lines.specs.Digits.{byte_at}
 use Rattle.gate.specs.declared.Known.{Known}
 use Rattle.gate.specs.declared.Fault.TheVariants.{Misplaced, Mislengthed, Outside}
-use Rattle.gate.specs.declared.Verdict.{Verdict}
-use Rattle.gate.specs.declared.Verdict.TheVariants.{Bad}
+use Rattle.gate.specs.Gate.{Verdict}
+use Rattle.gate.specs.Gate.{Bad}
 use Rattle.gate.specs.Gate.{misplaced, length_of, mislengthed, rule_good, query_good, sizes_verdict, edge_verdict, fact_verdict, rule_verdict, query_verdict}
 use Rattle.gate.specs.Gate.{fields_verdict, verdict}
 use Rattle.sizes.specs.Sizes.{between, sizes_good}

@@ -13,6 +13,7 @@ ghost use Rattle.gate.specs.Inner.Long.{due_length, long_fault};
 use sizes::Sizes;
 
 // What the lines so far tell: whether the sizes stand, whether the query stands, the sizes, and how many rules.
+// Kept: `headed` beside `sizes`, not an `Option`: the definitions of specs/Gate name both.
 #[derive(Clone, Copy)]
 pub struct Known {
     pub headed: bool,
@@ -21,178 +22,143 @@ pub struct Known {
     pub count: usize,
 }
 
-// What is wrong with a line, the refusals 2-9, or with the book whose lines are all good, 16 and 17; in the table's order.
+// What is wrong with a line, the refusals 2-9, or with the book whose lines are all good, 16 and 17: each with the table's number.
 #[derive(Clone, Copy)]
 pub enum Fault {
-    Malformed,
-    Misplaced,
-    Mislengthed,
-    Outside,
-    NotJunior,
-    ForeignTerm,
-    TooManyRules,
-    NotRising,
-    BeyondNot,
-    WrongMode,
-}
-
-#[derive(Clone, Copy)]
-pub enum Verdict {
-    Good,
-    Bad(Fault),
+    Malformed = 2,
+    Misplaced = 3,
+    Mislengthed = 4,
+    Outside = 5,
+    NotJunior = 6,
+    ForeignTerm = 7,
+    TooManyRules = 8,
+    NotRising = 9,
+    BeyondNot = 16,
+    WrongMode = 17,
 }
 
 // The table's number of a fault.
 pub fn fault_number(f: Fault) -> u8
     ensures { result ≡ fault_number f }
 {
-    match f {
-        Fault::Malformed => 2,
-        Fault::Misplaced => 3,
-        Fault::Mislengthed => 4,
-        Fault::Outside => 5,
-        Fault::NotJunior => 6,
-        Fault::ForeignTerm => 7,
-        Fault::TooManyRules => 8,
-        Fault::NotRising => 9,
-        Fault::BeyondNot => 16,
-        Fault::WrongMode => 17,
-    }
+    f as u8
 }
 
 // The set that two bytes of a frame write.
+#[tactic(auto, unfolding(crate::specs::Gate::pair_at))]
 pub fn pair_at(x: &[u8], i: usize) -> u32
     requires { i < 65000 }
     ensures { result ≡ pair_at x.now i }
 {
-    let h = lines::byte_at(x, i);
-    let l = lines::byte_at(x, i + 1);
-    (h as u32) * 256 + (l as u32)
+    sets::padded_number_at(x, i, 2)
 }
 
 // The set that four bytes of a frame write.
+#[tactic(auto, unfolding(crate::specs::Gate::quad_at))]
 pub fn quad_at(x: &[u8], i: usize) -> u32
     requires { i < 64000 }
     ensures { result ≡ quad_at x.now i }
 {
-    let b0 = lines::byte_at(x, i) as u32;
-    let b1 = lines::byte_at(x, i + 1) as u32;
-    let b2 = lines::byte_at(x, i + 2) as u32;
-    let b3 = lines::byte_at(x, i + 3) as u32;
-    (b0 * 256 + b1) * 65536 + (b2 * 256 + b3)
+    sets::padded_number_at(x, i, 4)
 }
 
+#[tactic(auto, unfolding(crate::specs::Gate::misplaced))]
 fn is_misplaced(k: Known, kind: u8) -> bool
     ensures { result ≡ misplaced k kind }
 {
     if k.headed {
-        let known = sizes::is_between(2, 5, kind);
-        return k.asked | !known;
+        k.asked || !sizes::is_between(2, 5, kind)
+    } else {
+        kind != 1
     }
-    !(kind == 1)
 }
 
 // The length that a frame's first bytes give: by its kind, with the A, the n or q and the mode as written, each read where it counts.
+#[tactic(auto, unfolding(crate::specs::Gate::length_of))]
 fn due_length(x: &[u8]) -> usize
     ensures { result ≡ due_length x.now }
 {
-    let kind = lines::byte_at(x, 0);
-    if kind == 1 {
-        let attrs = lines::byte_at(x, 3);
-        return 4 + (attrs as usize);
+    match lines::byte_at(x, 0) {
+        1 => 4 + lines::byte_at(x, 3) as usize,
+        2 => 3,
+        3 => 6 + 3 * lines::byte_at(x, 5) as usize,
+        4 => 5,
+        _ => {
+            let named = 6 + 3 * lines::byte_at(x, 5) as usize;
+            if sizes::is_between(2, 3, lines::byte_at(x, 1)) {
+                named + 4
+            } else {
+                named
+            }
+        }
     }
-    if kind == 2 {
-        return 3;
-    }
-    if kind == 3 {
-        let n = lines::byte_at(x, 5);
-        return 6 + 3 * (n as usize);
-    }
-    if kind == 4 {
-        return 5;
-    }
-    let q = lines::byte_at(x, 5);
-    let mode = lines::byte_at(x, 1);
-    let named = 6 + 3 * (q as usize);
-    if sizes::is_between(2, 3, mode) {
-        return named + 4;
-    }
-    named
 }
 
+#[tactic(auto, unfolding(crate::specs::Gate::mislengthed))]
 fn is_mislengthed(x: &[u8]) -> bool
     ensures { result ≡ mislengthed x.now }
 {
-    let n = due_length(x);
-    x.len() != n
+    x.len() != due_length(x)
 }
 
-fn sizes_verdict(x: &[u8]) -> Verdict
+#[tactic(auto, unfolding(crate::specs::Gate::sizes_verdict))]
+fn sizes_verdict(x: &[u8]) -> Result<(), Fault>
     ensures { result ≡ sizes_verdict x.now }
 {
     if sizes::are_sizes(x) {
-        return Verdict::Good;
+        Ok(())
+    } else {
+        Err(Fault::Outside)
     }
-    Verdict::Bad(Fault::Outside)
 }
 
 fn are_crews(z: Sizes, s: u8, j: u8) -> bool
     ensures { result ≡ (is_crew z s && is_crew z j) }
 {
-    (s < z.crews) & (j < z.crews)
+    s < z.crews && j < z.crews
 }
 
-fn edge_verdict(z: Sizes, x: &[u8]) -> Verdict
+#[tactic(auto, unfolding(crate::specs::Gate::edge_verdict))]
+fn edge_verdict(z: Sizes, x: &[u8]) -> Result<(), Fault>
     ensures { result ≡ edge_verdict z x.now }
 {
     let s = lines::byte_at(x, 1);
     let j = lines::byte_at(x, 2);
     if !are_crews(z, s, j) {
-        return Verdict::Bad(Fault::Outside);
+        Err(Fault::Outside)
+    } else if j < s {
+        Ok(())
+    } else {
+        Err(Fault::NotJunior)
     }
-    if j < s {
-        return Verdict::Good;
-    }
-    Verdict::Bad(Fault::NotJunior)
 }
 
 fn is_head(z: Sizes, op: u8, role: u8, a: u8, v: u8, n: u8) -> bool
     ensures { result ≡ head_good z op role a v n }
 {
-    let holds = sizes::is_between(1, 4, op);
-    let joins = sizes::is_between(5, 6, op);
-    let value = sizes::is_value(z, a, v);
-    let crew = sizes::is_crew_field(z, a, v);
-    ((holds & value) | (joins & crew)) & (role <= 15) & (n <= 8)
+    let holds = sizes::is_between(1, 4, op) && sizes::is_value(z, a, v);
+    let joins = sizes::is_between(5, 6, op) && sizes::is_crew_field(z, a, v);
+    (holds || joins) && role <= 15 && n <= 8
 }
 
 // Whether a term of that kind is about a value: 01, 02, 05 and 81 are.
 fn asks_value(kind: u8) -> bool
     ensures { result ≡ asks_value kind }
 {
-    if sizes::is_between(1, 2, kind) {
-        return true;
-    }
-    (kind == 5) | (kind == 0x81)
+    matches!(kind, 1 | 2 | 5 | 0x81)
 }
 
 // Whether a term of that kind is about a crew: 03, 04 and 83 are.
 fn asks_crew(kind: u8) -> bool
     ensures { result ≡ asks_crew kind }
 {
-    sizes::is_between(3, 4, kind) | (kind == 0x83)
+    matches!(kind, 3 | 4 | 0x83)
 }
 
 fn is_term(z: Sizes, kind: u8, a: u8, v: u8) -> bool
     ensures { result ≡ term_good z kind a v }
 {
-    if asks_value(kind) {
-        return sizes::is_value(z, a, v);
-    }
-    if asks_crew(kind) {
-        return sizes::is_crew_field(z, a, v);
-    }
-    false
+    asks_value(kind) && sizes::is_value(z, a, v) || asks_crew(kind) && sizes::is_crew_field(z, a, v)
 }
 
 fn is_term_at(z: Sizes, x: &[u8], j: usize) -> bool
@@ -205,82 +171,84 @@ fn is_term_at(z: Sizes, x: &[u8], j: usize) -> bool
     is_term(z, kind, a, v)
 }
 
+// Kept: a `for` here and in `are_value_terms`, `are_wants` and `are_rising`, not `(0..n).all(..)`: the proof did not close, since `true` did
+// not give the test at each number. One function over the test would need its contract at each call, which is no plainer.
+#[tactic(auto, using(quantifiers::proofs::TurnLaws::all_passed))]
 fn are_terms(z: Sizes, x: &[u8], n: u8) -> bool
     ensures { result ≡ all_below (term_good_at z x.now) n }
 {
-    let m = n as usize;
-    let mut good = true;
-    let mut j: usize = 0;
-    while j < m {
-        good = good & is_term_at(z, x, j);
-        j += 1;
+    for j in 0..n as usize {
+        if !is_term_at(z, x, j) {
+            return false;
+        }
     }
-    good
+    true
 }
 
+#[tactic(auto, unfolding(crate::specs::Gate::rule_good))]
 fn is_rule(z: Sizes, x: &[u8]) -> bool
     ensures { result ≡ rule_good z x.now }
 {
-    let n = lines::byte_at(x, 5);
-    let terms = are_terms(z, x, n);
     let op = lines::byte_at(x, 1);
     let role = lines::byte_at(x, 2);
     let a = lines::byte_at(x, 3);
     let v = lines::byte_at(x, 4);
-    let head = is_head(z, op, role, a, v, n);
-    head & terms
+    let n = lines::byte_at(x, 5);
+    is_head(z, op, role, a, v, n) && are_terms(z, x, n)
 }
 
 // Whether each term is about a value, not about a crew.
+#[tactic(auto, using(quantifiers::proofs::TurnLaws::all_passed))]
 fn are_value_terms(x: &[u8], n: u8) -> bool
     ensures { result ≡ all_below (value_term_at x.now) n }
 {
-    let m = n as usize;
-    let mut good = true;
-    let mut j: usize = 0;
-    while j < m {
+    for j in 0..n as usize {
         let kind = lines::byte_at(x, 6 + 3 * j);
-        good = good & asks_value(kind);
-        j += 1;
+        if !asks_value(kind) {
+            return false;
+        }
     }
-    good
+    true
 }
 
+#[tactic(auto, unfolding(crate::specs::Gate::foreign))]
 fn is_foreign(x: &[u8]) -> bool
     ensures { result ≡ foreign x.now }
 {
     let op = lines::byte_at(x, 1);
     let n = lines::byte_at(x, 5);
-    let values = are_value_terms(x, n);
-    (op <= 4) & !values
+    op <= 4 && !are_value_terms(x, n)
 }
 
-fn rule_verdict(k: Known, x: &[u8]) -> Verdict
+#[tactic(auto, unfolding(crate::specs::Gate::rule_verdict))]
+fn rule_verdict(k: Known, x: &[u8]) -> Result<(), Fault>
     ensures { result ≡ rule_verdict k x.now }
 {
     if !is_rule(k.sizes, x) {
-        return Verdict::Bad(Fault::Outside);
+        return Err(Fault::Outside);
     }
     if is_foreign(x) {
-        return Verdict::Bad(Fault::ForeignTerm);
+        return Err(Fault::ForeignTerm);
     }
     if 512 <= k.count {
-        return Verdict::Bad(Fault::TooManyRules);
+        return Err(Fault::TooManyRules);
     }
-    Verdict::Good
+    Ok(())
 }
 
 fn is_fact(z: Sizes, k: u8, s: u8, a: u8, v: u8) -> bool
     ensures { result ≡ fact_good z k s a v }
 {
-    let value = sizes::is_value(z, a, v);
-    let crew = sizes::is_crew_field(z, a, v);
-    ((k == 1) & (s < z.persons) & value)
-        | ((k == 2) & (s < z.crews) & value)
-        | ((k == 3) & (s < z.persons) & crew)
+    match k {
+        1 => s < z.persons && sizes::is_value(z, a, v),
+        2 => s < z.crews && sizes::is_value(z, a, v),
+        3 => s < z.persons && sizes::is_crew_field(z, a, v),
+        _ => false,
+    }
 }
 
-fn fact_verdict(z: Sizes, x: &[u8]) -> Verdict
+#[tactic(auto, unfolding(crate::specs::Gate::fact_verdict))]
+fn fact_verdict(z: Sizes, x: &[u8]) -> Result<(), Fault>
     ensures { result ≡ fact_verdict z x.now }
 {
     let k = lines::byte_at(x, 1);
@@ -288,9 +256,10 @@ fn fact_verdict(z: Sizes, x: &[u8]) -> Verdict
     let a = lines::byte_at(x, 3);
     let v = lines::byte_at(x, 4);
     if is_fact(z, k, s, a, v) {
-        return Verdict::Good;
+        Ok(())
+    } else {
+        Err(Fault::Outside)
     }
-    Verdict::Bad(Fault::Outside)
 }
 
 fn is_want_at(z: Sizes, x: &[u8], j: usize) -> bool
@@ -298,23 +267,19 @@ fn is_want_at(z: Sizes, x: &[u8], j: usize) -> bool
     ensures { result ≡ want_good_at z x.now j }
 {
     let a = lines::byte_at(x, 6 + 3 * j);
-    let set = pair_at(x, 7 + 3 * j);
-    let n = sizes::values_of(z, a);
-    let inside = sets::is_within(set, n);
-    (a < z.attrs) & inside
+    a < z.attrs && sets::is_within(pair_at(x, 7 + 3 * j), sizes::values_of(z, a))
 }
 
+#[tactic(auto, using(quantifiers::proofs::TurnLaws::all_passed))]
 fn are_wants(z: Sizes, x: &[u8], q: u8) -> bool
     ensures { result ≡ all_below (want_good_at z x.now) q }
 {
-    let m = q as usize;
-    let mut good = true;
-    let mut j: usize = 0;
-    while j < m {
-        good = good & is_want_at(z, x, j);
-        j += 1;
+    for j in 0..q as usize {
+        if !is_want_at(z, x, j) {
+            return false;
+        }
     }
-    good
+    true
 }
 
 fn are_listed_crews(z: Sizes, x: &[u8]) -> bool
@@ -322,97 +287,89 @@ fn are_listed_crews(z: Sizes, x: &[u8]) -> bool
 {
     let mode = lines::byte_at(x, 1);
     let q = lines::byte_at(x, 5);
-    let set = quad_at(x, 6 + 3 * (q as usize));
-    let inside = sets::is_within(set, z.crews);
-    let listed = sizes::is_between(2, 3, mode);
-    !listed | inside
+    !sizes::is_between(2, 3, mode) || sets::is_within(quad_at(x, 6 + 3 * q as usize), z.crews)
 }
 
+#[tactic(auto, unfolding(crate::specs::Gate::query_good))]
 fn is_query(z: Sizes, x: &[u8]) -> bool
     ensures { result ≡ query_good z x.now }
 {
-    let q = lines::byte_at(x, 5);
-    let wants = are_wants(z, x, q);
-    let crews = are_listed_crews(z, x);
     let mode = lines::byte_at(x, 1);
     let person = lines::byte_at(x, 2);
-    let known = sizes::is_between(1, 3, mode);
-    known & (person < z.persons) & (q <= 8) & wants & crews
+    let q = lines::byte_at(x, 5);
+    sizes::is_between(1, 3, mode)
+        && person < z.persons
+        && q <= 8
+        && are_wants(z, x, q)
+        && are_listed_crews(z, x)
 }
 
 // Whether the query's attributes rise strictly.
+#[tactic(auto, using(quantifiers::proofs::TurnLaws::all_passed))]
 fn are_rising(x: &[u8], q: u8) -> bool
     ensures { result ≡ all_below (rises_at x.now) (q - 1) }
 {
-    let m = q as usize;
-    let mut good = true;
-    let mut j: usize = 0;
-    while j + 1 < m {
-        let a = lines::byte_at(x, 6 + 3 * j);
-        let b = lines::byte_at(x, 9 + 3 * j);
-        good = good & (a < b);
-        j += 1;
+    for j in 0..(q as usize).saturating_sub(1) {
+        if lines::byte_at(x, 9 + 3 * j) <= lines::byte_at(x, 6 + 3 * j) {
+            return false;
+        }
     }
-    good
+    true
 }
 
-fn query_verdict(z: Sizes, x: &[u8]) -> Verdict
+#[tactic(auto, unfolding(crate::specs::Gate::query_verdict))]
+fn query_verdict(z: Sizes, x: &[u8]) -> Result<(), Fault>
     ensures { result ≡ query_verdict z x.now }
 {
     if !is_query(z, x) {
-        return Verdict::Bad(Fault::Outside);
+        return Err(Fault::Outside);
     }
     let q = lines::byte_at(x, 5);
     if !are_rising(x, q) {
-        return Verdict::Bad(Fault::NotRising);
+        return Err(Fault::NotRising);
     }
-    Verdict::Good
+    Ok(())
 }
 
 // The lowest of 5-9 that falls on a frame whose kind and length are right.
-fn fields_verdict(k: Known, x: &[u8]) -> Verdict
+#[tactic(auto, unfolding(crate::specs::Gate::fields_verdict))]
+fn fields_verdict(k: Known, x: &[u8]) -> Result<(), Fault>
     ensures { result ≡ fields_verdict k x.now }
 {
-    let kind = lines::byte_at(x, 0);
-    if kind == 1 {
-        return sizes_verdict(x);
+    match lines::byte_at(x, 0) {
+        1 => sizes_verdict(x),
+        2 => edge_verdict(k.sizes, x),
+        3 => rule_verdict(k, x),
+        4 => fact_verdict(k.sizes, x),
+        _ => query_verdict(k.sizes, x),
     }
-    if kind == 2 {
-        return edge_verdict(k.sizes, x);
-    }
-    if kind == 3 {
-        return rule_verdict(k, x);
-    }
-    if kind == 4 {
-        return fact_verdict(k.sizes, x);
-    }
-    query_verdict(k.sizes, x)
 }
 
 // The lowest of 3-9 that falls on a frame, or Good.
-pub fn judge_frame(k: Known, x: &[u8]) -> Verdict
+#[tactic(auto, unfolding(crate::specs::Gate::verdict))]
+pub fn judge_frame(k: Known, x: &[u8]) -> Result<(), Fault>
     ensures { result ≡ verdict k x.now }
 {
     if is_misplaced(k, lines::byte_at(x, 0)) {
-        return Verdict::Bad(Fault::Misplaced);
+        return Err(Fault::Misplaced);
     }
     if is_mislengthed(x) {
-        return Verdict::Bad(Fault::Mislengthed);
+        return Err(Fault::Mislengthed);
     }
     fields_verdict(k, x)
 }
 
 // The lowest refusal of a frame of n bytes, over 64, by its first 64 alone: it is misplaced, or has another length than its kind's, or has
 // it by an A, n or q over 8.
+#[tactic(auto, unfolding(crate::specs::Inner::Long::long_fault))]
 pub fn long_fault(k: Known, x: &[u8], n: usize) -> Fault
     ensures { result ≡ long_fault k x.now n }
 {
     if is_misplaced(k, lines::byte_at(x, 0)) {
-        return Fault::Misplaced;
+        Fault::Misplaced
+    } else if n != due_length(x) {
+        Fault::Mislengthed
+    } else {
+        Fault::Outside
     }
-    let due = due_length(x);
-    if n != due {
-        return Fault::Mislengthed;
-    }
-    Fault::Outside
 }

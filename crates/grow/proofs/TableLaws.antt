@@ -49,10 +49,6 @@ says_cases ts f k e =
     let one = any_cases (λ j. eqb (term ts (8 * f + j)) k) 8 e in
     (one.0, (one.1.0, eqb-true (term ts (8 * f + one.0)) k one.1.1))
 
--- A search in which none of the first j passed, and none is left.
-pub none_passed : (p : ℕ → Bool) (n j : ℕ) → j ≤ n → n ≤ j → any_below p j ≡ false → false ≡ any_below p n
-none_passed p n j l m e = let same : j ≡ n = omega arith in sym (ap (any_below p) (sym same) ∙ e)
-
 -- ---------------------------------------------------------------- what is needed
 
 -- What the test tells of a term.

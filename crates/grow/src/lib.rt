@@ -7,16 +7,9 @@
 ghost use Rattle.std.specs.Prelude.{◌≡◌, ◌+◌, ◌*◌, ◌<◌, length};
 ghost use Rattle.widths.specs.Inner.Widths.{level_size, terms_size};
 ghost use Rattle.quantifiers.specs.Quantifiers.{any_below};
-ghost use Rattle.grow.specs.Inner.Tables.{says, new_at, fails_at, unmet_at, bars_at, free_at, Gathered, Added, Answer};
+ghost use Rattle.grow.specs.Inner.Tables.{says, new_at, fails_at, unmet_at, bars_at, free_at, Gathered, Added, Answer, is_way, count_of};
 
 use widths::{IDLE_AT, LEVEL_SIZE, TERMS_SIZE};
-
-// A term as an index.
-fn wide(x: u16) -> usize
-    ensures { result ≡ x }
-{
-    x as usize
-}
 
 // ---------------------------------------------------------------- what is needed
 
@@ -26,11 +19,8 @@ fn asks_new(ts: &[u16], s: &[bool], d: &[bool], i: usize) -> bool
     ensures { result ≡ new_at ts.now s.now d.now i }
 {
     let f = i / 8;
-    let g = wide(ts[i]);
-    if g < LEVEL_SIZE {
-        return d[f] & !s[f] & !d[g];
-    }
-    false
+    let g = usize::from(ts[i]);
+    g < LEVEL_SIZE && (d[f] & !s[f] & !d[g])
 }
 
 // Adds to `d` each fact that the rules of its facts ask for, of those that `s` lacks, until nothing is left.
@@ -38,10 +28,11 @@ fn gather(ts: &[u16], s: &[bool], d: &mut [bool])
     requires { (length ts.now ≡ terms_size) × ((length s.now ≡ level_size) × (length d.old ≡ level_size)) }
     ensures { Gathered ts.now s.now d.old d.new }
 {
+    // Kept: a fact put in sets the place back, so this is no loop over a range.
     let mut i: usize = 0;
     while i < TERMS_SIZE {
         if asks_new(ts, s, d, i) {
-            let g = wide(ts[i]);
+            let g = usize::from(ts[i]);
             d[g] = true;
             i = 0;
         } else {
@@ -57,42 +48,40 @@ fn fails(ts: &[u16], x: &[bool], i: usize) -> bool
     requires { (i < terms_size) × ((length ts.now ≡ terms_size) × (length x.now ≡ level_size)) }
     ensures { result ≡ fails_at ts.now x.now i }
 {
-    let g = wide(ts[i]);
+    let g = usize::from(ts[i]);
     if g < LEVEL_SIZE {
-        return !x[g];
+        !x[g]
+    } else if g < IDLE_AT {
+        x[g - LEVEL_SIZE]
+    } else {
+        false
     }
-    if g < IDLE_AT {
-        return x[g - LEVEL_SIZE];
-    }
-    false
 }
 
 // Whether some term of the rule of `f` does not hold in `x`.
+#[tactic(auto, using(quantifiers::proofs::TurnLaws::none_passed))]
 fn unmet(ts: &[u16], x: &[bool], f: usize) -> bool
     requires { (f < level_size) × ((length ts.now ≡ terms_size) × (length x.now ≡ level_size)) }
     ensures { result ≡ unmet_at ts.now x.now f }
 {
-    let mut j: usize = 0;
-    while j < 8 {
+    for j in 0..8 {
         if fails(ts, x, 8 * f + j) {
             return true;
         }
-        j += 1;
     }
     false
 }
 
 // Whether the rule of `f` has the term `k`.
+// Kept: of the shape of `unmet`: a test handed to one loop is no plainer than four lines.
 fn has_term(ts: &[u16], f: usize, k: usize) -> bool
     requires { (f < level_size) × (length ts.now ≡ terms_size) }
     ensures { result ≡ says ts.now f k }
 {
-    let mut j: usize = 0;
-    while j < 8 {
-        if wide(ts[8 * f + j]) == k {
+    for j in 0..8 {
+        if usize::from(ts[8 * f + j]) == k {
             return true;
         }
-        j += 1;
     }
     false
 }
@@ -103,23 +92,19 @@ fn bars(ts: &[u16], d: &[bool], x: &[bool], f: usize, h: usize) -> bool
         × ((length ts.now ≡ terms_size) × ((length d.now ≡ level_size) × (length x.now ≡ level_size))) }
     ensures { result ≡ bars_at ts.now d.now x.now f h }
 {
-    if (h != f) & d[h] & !x[h] {
-        return has_term(ts, h, LEVEL_SIZE + f);
-    }
-    false
+    ((h != f) & d[h] & !x[h]) && has_term(ts, h, LEVEL_SIZE + f)
 }
 
 // Whether some fact does.
+#[tactic(auto, using(quantifiers::proofs::TurnLaws::none_passed))]
 fn barred(ts: &[u16], d: &[bool], x: &[bool], f: usize) -> bool
     requires { (f < level_size) × ((length ts.now ≡ terms_size) × ((length d.now ≡ level_size) × (length x.now ≡ level_size))) }
     ensures { result ≡ any_below (bars_at ts.now d.now x.now f) level_size }
 {
-    let mut h: usize = 0;
-    while h < LEVEL_SIZE {
+    for h in 0..LEVEL_SIZE {
         if bars(ts, d, x, f, h) {
             return true;
         }
-        h += 1;
     }
     false
 }
@@ -130,13 +115,7 @@ fn is_free(us: &[bool], ts: &[u16], d: &[bool], x: &[bool], f: usize) -> bool
         × ((length d.now ≡ level_size) × (length x.now ≡ level_size)))) }
     ensures { result ≡ free_at us.now ts.now d.now x.now f }
 {
-    if d[f] & !x[f] & us[f] {
-        if unmet(ts, x, f) {
-            return false;
-        }
-        return !barred(ts, d, x, f);
-    }
-    false
+    (d[f] & !x[f] & us[f]) && !unmet(ts, x, f) && !barred(ts, d, x, f)
 }
 
 // Adds to `x` the facts of `d` one by one, each when it is free, until none is, and notes them in `order`. Returns how many.
@@ -146,6 +125,7 @@ fn add_all(us: &[bool], ts: &[u16], d: &[bool], x: &mut [bool], order: &mut [u8]
     ensures { Added us.now ts.now d.now x.old x.new order.new result }
 {
     let mut n: usize = 0;
+    // Kept: an addition sets the place back, so this is no loop over a range.
     let mut f: usize = 0;
     while f < LEVEL_SIZE {
         if is_free(us, ts, d, x, f) {
@@ -162,24 +142,23 @@ fn add_all(us: &[bool], ts: &[u16], d: &[bool], x: &mut [bool], order: &mut [u8]
 
 // ---------------------------------------------------------------- the answer
 
-// Whether there is a way, and how many facts it adds.
-#[derive(Clone, Copy)]
-pub struct Found {
-    pub found: bool,
-    pub n: usize,
-}
-
-// From the facts `x` a way to the facts `w`: its additions in the front of `order`; or that there is none. In the end `w` has all facts that are needed,
+// From the facts `x` a way to the facts `w`: its additions in the front of `order`, and how many; or `None`, where there is none. In the end `w` has all facts that are needed,
 // and `x` those that were reached.
-pub fn grow(us: &[bool], ts: &[u16], w: &mut [bool], x: &mut [bool], order: &mut [u8]) -> Found
+pub fn grow(
+    us: &[bool],
+    ts: &[u16],
+    w: &mut [bool],
+    x: &mut [bool],
+    order: &mut [u8],
+) -> Option<usize>
     requires { (length us.now ≡ level_size) × ((length ts.now ≡ terms_size)
         × ((length w.old ≡ level_size) × ((length x.old ≡ level_size) × (length order.old ≡ level_size)))) }
-    ensures { Answer us.now ts.now x.old w.old order.new result.found result.n }
+    ensures { Answer us.now ts.now x.old w.old order.new (is_way result) (count_of result) }
 {
     gather(ts, x, w);
     let n = add_all(us, ts, w, x, order);
-    if build::lacks(w, x) < LEVEL_SIZE {
-        return Found { found: false, n: 0 };
+    match build::lacks(w, x) {
+        Some(_) => None,
+        None => Some(n),
     }
-    Found { found: true, n }
 }

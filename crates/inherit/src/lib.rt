@@ -6,7 +6,7 @@ ghost use Rattle.std.specs.Prelude.{◌≡◌, ◌<◌, length};
 ghost use Rattle.facts.specs.Facts.{holds};
 ghost use Rattle.quantifiers.specs.Quantifiers.{any_from};
 ghost use Rattle.inherit.specs.Inheritance.{downward, crew_holds, some_crew, person_in, person_holds};
-ghost use Rattle.inherit.specs.Inner.Search.{sought, junior_passes, Tried};
+ghost use Rattle.inherit.specs.Inner.Search.{sought, junior_passes, Tried, Leaves};
 
 use facts::{Attr, Crew, Fact, Person};
 
@@ -18,73 +18,51 @@ pub enum Sought {
     Named(Crew),
 }
 
-// Whether it was found, and the set of crews already tried: neither they nor crews below them are what is looked for.
-#[derive(Clone, Copy)]
-pub struct Found {
-    pub holds: bool,
-    pub seen: u32,
-}
-
 // Whether crew c itself is what is looked for.
+#[tactic(auto, unfolding(crate::specs::Inner::Search::sought))]
 fn is_sought(ledger: &[u8], c: u8, w: Sought) -> bool
     ensures { result ≡ sought (holds ledger.now) w c }
 {
     match w {
         Sought::Value(a, v) => facts::fact_holds(ledger, Fact::CrewHolds(Crew(c), a, v)),
         Sought::AtLeast(a, v) => facts::holds_from(ledger, Fact::CrewHolds(Crew(c), a, v)),
-        Sought::Named(x) => c == x.0,
+        Sought::Named(x) => Crew(c) == x,
     }
 }
 
-// Looks at crew c and below it.
+// Kept: the juniors as a slice whose length a clause says, here and in every function that takes them, not as `&[u32; 32]`: the functions
+// that docs/ name (`person_holds`, `rules::first_permitting` and others) ask no more of a caller than before.
+// Looks at crew c and below it. `None` where what is looked for is found there, which ends the search; else the set of crews tried so far:
+// neither they nor crews below them are what is looked for.
 #[cycle(crew_tried_juniors_tried)]
-fn crew_tried(ledger: &[u8], juniors: &[u32], c: u8, w: Sought, seen: u32) -> Found
+fn crew_tried(ledger: &[u8], juniors: &[u32], c: u8, w: Sought, seen: u32) -> Option<u32>
     requires c_bound { (c < 32) × (length juniors.now ≡ 32) }
     requires tried { Tried juniors.now (sought (holds ledger.now) w) seen }
-    ensures { (result.holds ≡ downward juniors.now (sought (holds ledger.now) w) c) × Tried juniors.now
-        (sought (holds ledger.now) w) result.seen }
+    ensures { Leaves juniors.now (sought (holds ledger.now) w) (downward juniors.now (sought (holds ledger.now) w) c) result }
 {
     if is_sought(ledger, c, w) {
-        return Found { holds: true, seen };
+        return None;
     }
-    let f = juniors_tried(ledger, juniors, c, w, seen);
-    if f.holds {
-        return f;
-    }
-    let tried = sets::with(f.seen, c, true);
-    Found {
-        holds: false,
-        seen: tried,
-    }
+    let tried = juniors_tried(ledger, juniors, c, w, seen)?;
+    Some(sets::with(tried, c, true))
 }
 
 // Looks at the direct juniors of crew c and below them; a junior's number is lower. A junior already tried is not looked at again,
 // so each crew is looked at once, however many edges there are.
 #[cycle(crew_tried_juniors_tried)]
-fn juniors_tried(ledger: &[u8], juniors: &[u32], c: u8, w: Sought, seen: u32) -> Found
+fn juniors_tried(ledger: &[u8], juniors: &[u32], c: u8, w: Sought, seen: u32) -> Option<u32>
     requires c_bound { (c < 32) × (length juniors.now ≡ 32) }
     requires tried { Tried juniors.now (sought (holds ledger.now) w) seen }
-    ensures { (result.holds ≡ junior_passes juniors.now (sought (holds ledger.now) w) c c) × Tried juniors.now
-        (sought (holds ledger.now) w) result.seen }
+    ensures { Leaves juniors.now (sought (holds ledger.now) w) (junior_passes juniors.now (sought (holds ledger.now) w) c c) result }
 {
     let mut tried = seen;
-    let mut j: u8 = 0;
-    while j < c {
+    for j in 0..c {
         let direct = sets::has(juniors[c as usize], j);
-        let again = sets::has(tried, j);
-        if direct & !again {
-            let f = crew_tried(ledger, juniors, j, w, tried);
-            if f.holds {
-                return f;
-            }
-            tried = f.seen;
+        if direct && !sets::has(tried, j) {
+            tried = crew_tried(ledger, juniors, j, w, tried)?;
         }
-        j += 1;
     }
-    Found {
-        holds: false,
-        seen: tried,
-    }
+    Some(tried)
 }
 
 // Whether some crew that the person is directly in is what is looked for, or a crew below it is.
@@ -93,39 +71,38 @@ fn person_reaches(ledger: &[u8], juniors: &[u32], p: Person, w: Sought) -> bool
     ensures { result ≡ some_crew (holds ledger.now) p (downward juniors.now (sought (holds ledger.now) w)) }
 {
     let mut seen: u32 = 0;
-    let mut d: u8 = 0;
-    while d < 32 {
+    for d in 0..32 {
         if facts::fact_holds(ledger, Fact::Member(p, Crew(d))) {
-            let f = crew_tried(ledger, juniors, d, w, seen);
-            if f.holds {
+            let Some(tried) = crew_tried(ledger, juniors, d, w, seen) else {
                 return true;
-            }
-            seen = f.seen;
+            };
+            seen = tried;
         }
-        d += 1;
     }
     false
 }
 
 // Whether crew c effectively holds value v of attribute a.
+#[tactic(auto, using(crate::proofs::InheritanceLaws::tried_none), unfolding(crate::specs::Inheritance::crew_holds, crate::specs::Inner::Search::sought))]
 pub fn crew_holds(ledger: &[u8], juniors: &[u32], c: Crew, a: Attr, v: u8) -> bool
     requires { (c.0 < 32) × (length juniors.now ≡ 32) }
     ensures { result ≡ crew_holds juniors.now (holds ledger.now) a v c.0 }
 {
-    let f = crew_tried(ledger, juniors, c.0, Sought::Value(a, v), 0);
-    f.holds
+    crew_tried(ledger, juniors, c.0, Sought::Value(a, v), 0).is_none()
 }
 
 // Whether crew c effectively holds value v of attribute a or a higher one: one search for all of them.
+// Kept: of one shape with `crew_holds`, as `person_holds_at_least` with `person_holds`; other crates call all four by name.
+#[tactic(auto, using(crate::proofs::InheritanceLaws::tried_none))]
 pub fn crew_holds_at_least(ledger: &[u8], juniors: &[u32], c: Crew, a: Attr, v: u8) -> bool
     requires { (c.0 < 32) × (length juniors.now ≡ 32) }
     ensures { result ≡ any_from (λ w. crew_holds juniors.now (holds ledger.now) a w c.0) v 16 }
 {
-    let f = crew_tried(ledger, juniors, c.0, Sought::AtLeast(a, v), 0);
-    f.holds
+    crew_tried(ledger, juniors, c.0, Sought::AtLeast(a, v), 0).is_none()
 }
 
 // Whether person p is effectively in crew c.
+#[tactic(auto, unfolding(crate::specs::Inheritance::person_in, crate::specs::Inner::Search::sought))]
 pub fn person_in(ledger: &[u8], juniors: &[u32], p: Person, c: Crew) -> bool
     requires { length juniors.now ≡ 32 }
     ensures { result ≡ person_in juniors.now (holds ledger.now) p c.0 }
@@ -134,14 +111,13 @@ pub fn person_in(ledger: &[u8], juniors: &[u32], p: Person, c: Crew) -> bool
 }
 
 // Whether person p effectively holds value v of attribute a.
+#[tactic(auto, unfolding(crate::specs::Inheritance::person_holds, crate::specs::Inheritance::crew_holds, crate::specs::Inner::Search::sought))]
 pub fn person_holds(ledger: &[u8], juniors: &[u32], p: Person, a: Attr, v: u8) -> bool
     requires { length juniors.now ≡ 32 }
     ensures { result ≡ person_holds juniors.now (holds ledger.now) p a v }
 {
-    if facts::fact_holds(ledger, Fact::Holds(p, a, v)) {
-        return true;
-    }
-    person_reaches(ledger, juniors, p, Sought::Value(a, v))
+    facts::fact_holds(ledger, Fact::Holds(p, a, v))
+        || person_reaches(ledger, juniors, p, Sought::Value(a, v))
 }
 
 // Whether person p effectively holds value v of attribute a or a higher one: one search for all of them.
@@ -149,8 +125,6 @@ pub fn person_holds_at_least(ledger: &[u8], juniors: &[u32], p: Person, a: Attr,
     requires { length juniors.now ≡ 32 }
     ensures { result ≡ any_from (person_holds juniors.now (holds ledger.now) p a) v 16 }
 {
-    if facts::holds_from(ledger, Fact::Holds(p, a, v)) {
-        return true;
-    }
-    person_reaches(ledger, juniors, p, Sought::AtLeast(a, v))
+    facts::holds_from(ledger, Fact::Holds(p, a, v))
+        || person_reaches(ledger, juniors, p, Sought::AtLeast(a, v))
 }

@@ -14,13 +14,12 @@ fn answer(text: &mut [u8], n: usize) -> usize
     requires { (n ≤ length text.old) × (65537 ≤ length text.old) }
     ensures { (result ≤ length text.new) × (take result text.new ≡ answer_line (book_of (take n text.old))) }
 {
-    let reading = frames::read(&text[..n]);
-    readings::put_reading(reading, text)
+    readings::put_reading(frames::read(&text[..n]), text)
 }
 
 // The buffer holds one character more than a book may have, so that refusal 1 shows.
 fn main(rt: HostRuntime) -> io::Result<()> {
-    let mut text = [0u8; 65537];
+    let mut text = [0; 65537];
     let n = streams::read_full(&mut rt.stdin(), &mut text)?;
     let end = answer(&mut text, n);
     rt.stdout().write_all(&text[..end])

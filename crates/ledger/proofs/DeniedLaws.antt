@@ -2,6 +2,7 @@
 use mathlib.Core.Path.{◌≡◌, refl, sym, ◌∙◌}
 use mathlib.Core.Bool.{Bool, true, false, not, cond}
 use mathlib.Core.List.{List}
+use Rattle.std.specs.Prelude.{Err}
 use Prim.Native.Nat.{ℕ, ◌≤◌}
 use native.Mathlib.Omega.{arith}
 use lib.ListN.{length}
@@ -16,13 +17,12 @@ use Rattle.denials.specs.declared.Denial.{Denial}
 use Rattle.denials.specs.declared.Denial.TheVariants.{NoRule, Unmet}
 use Rattle.denials.specs.Denials.{why_not}
 use Rattle.denials.proofs.DenialLaws.{unmet-within}
-use Rattle.ledger.specs.declared.Outcome.TheVariants.{Done, Refused}
 use Rattle.ledger.specs.declared.Refusal.TheVariants.{NotPermitted}
-use Rattle.ledger.specs.Ledger.{no_place, on_line, at_term, Said, done, refusal, reply, refuse, denied, on_book, after, allowed, request_in, request_reply}
+use Rattle.ledger.specs.Ledger.{Done, no_place, on_line, at_term, Said, done, refusal, reply, refuse, denied, on_book, after, allowed, request_in, request_reply}
 use Rattle.ledger.proofs.LedgerLaws.{allowed-permitted}
 
 -- The code's answer to a denied request says 13, or 15 with the rule and the term.
-pub denied-said : (d : Denial) (l : List ℕ) → reply (Refused (NotPermitted d)) l ≡ denied d l
+pub denied-said : (d : Denial) (l : List ℕ) → reply (Err (NotPermitted d)) l ≡ denied d l
 denied-said NoRule l = refl
 denied-said (Unmet rule term) l = refl
 

@@ -2,15 +2,15 @@
 
 #![tactic(auto)]
 
-ghost use Rattle.std.specs.Prelude.{◌≡◌, ◌≤◌, ◌<◌, length};
+ghost use Rattle.std.specs.Prelude.{◌≡◌, ℕ, ◌≤◌, ◌<◌, Bool, length};
 ghost use Rattle.facts.specs.Facts.{ledger_size, holds, put_fact};
 ghost use Rattle.requests.specs.Requests.{adds};
 ghost use Rattle.sizes.specs.Inner.Ranges.{InRange};
 ghost use Rattle.frames.specs.Book.{listed, contents_of};
 ghost use Rattle.frames.specs.Inner.Fits.{Admitted};
 ghost use Rattle.denials.specs.Denials.{why_not};
-ghost use Rattle.ledger.specs.Ledger.{refusal_number, told, reply, open_in, open_reply, allowed, request_in, request_reply};
-ghost use Rattle.ledger.specs.Show.{set_below, value_set, value_sets, hidden, show_in, show_view, view_of};
+ghost use Rattle.ledger.specs.Ledger.{refusal_number, reply, open_in, open_reply, allowed, request_in, request_reply};
+ghost use Rattle.ledger.specs.Show.{set_below, Tells, value_set, value_sets, show_in, show_view, view_of};
 ghost use Rattle.inherit.specs.Inheritance.{person_holds, person_in};
 
 use denials::Denial;
@@ -26,16 +26,21 @@ pub enum Refusal {
     NotPermitted(Denial),
 }
 
-#[derive(Clone, Copy)]
-pub enum Outcome {
-    Done,
-    Refused(Refusal),
+// A refused book is refused.
+impl From<frames::Refusal> for Refusal {
+    ghost use Rattle.std.specs.Prelude.{◌≡◌};
+    ghost use Rattle.ledger.specs.declared.Refusal.TheVariants.{BadBook};
+
+    ghost from_gives = { λ r e. e ≡ BadBook r };
+
+    fn from(r: frames::Refusal) -> Refusal {
+        Refusal::BadBook(r)
+    }
 }
 
-// What show gives. Beside a refusal the sets and the crews are 0.
+// What show gives.
 #[derive(Clone, Copy)]
 pub struct Shown {
-    pub outcome: Outcome,
     pub sets: [u32; 8],
     pub crews: u32,
 }
@@ -52,40 +57,21 @@ pub fn refusal_number(r: Refusal) -> u8
     }
 }
 
-// The starting facts, byte by byte.
-fn copy_facts(facts: [u8; LEDGER_SIZE], ledger: &mut [u8])
-    requires { length ledger.old ≡ ledger_size }
-    ensures { ledger.new ≡ facts }
-{
-    let mut i: usize = 0;
-    while i < LEDGER_SIZE {
-        ledger[i] = facts[i];
-        i += 1;
-    }
-}
-
-fn open_in(b: Book, ledger: &mut [u8]) -> Outcome
+fn open_in(b: Book, ledger: &mut [u8]) -> Result<(), Refusal>
     ensures { reply result ledger.new ≡ open_in (contents_of b) ledger.old }
 {
     if ledger.len() != LEDGER_SIZE {
-        return Outcome::Refused(Refusal::BadLedger);
+        return Err(Refusal::BadLedger);
     }
-    let facts = b.facts;
-    copy_facts(facts, ledger);
-    Outcome::Done
+    ledger.copy_from_slice(&b.facts);
+    Ok(())
 }
 
 // Writes the ledger of starting facts.
-pub fn open(book: &[u8], ledger: &mut [u8]) -> Outcome
+pub fn open(book: &[u8], ledger: &mut [u8]) -> Result<(), Refusal>
     ensures { reply result ledger.new ≡ open_reply book.now ledger.old }
 {
-    let reading = frames::read(book);
-    let outcome = reading.outcome;
-    if let frames::Outcome::Refused(r) = outcome {
-        return Outcome::Refused(Refusal::BadBook(r));
-    }
-    let b = reading.book;
-    open_in(b, ledger)
+    open_in(frames::read(book)?, ledger)
 }
 
 // Whether some rule permits the request in the ledger.
@@ -93,10 +79,7 @@ fn is_allowed(b: Book, ledger: &[u8], q: requests::Request) -> bool
     requires { Admitted (contents_of b) }
     ensures { result ≡ allowed (contents_of b) ledger.now q }
 {
-    let juniors = b.juniors;
-    let rules = b.rules;
-    let n = rules.count;
-    rules::first_listed(rules, ledger, &juniors, q) < n
+    rules::first_listed(b.rules, ledger, &b.juniors, q).is_some()
 }
 
 // Why no rule permits the request.
@@ -104,64 +87,52 @@ fn why_not(b: Book, ledger: &[u8], q: requests::Request) -> Denial
     requires { Admitted (contents_of b) }
     ensures { result ≡ why_not b.juniors (listed b.rules) (holds ledger.now) q }
 {
-    let juniors = b.juniors;
-    let rules = b.rules;
-    denials::why_not(rules, ledger, &juniors, q)
+    denials::why_not(b.rules, ledger, &b.juniors, q)
 }
 
 // Sets or clears the one fact of a request.
 fn carry_out(ledger: &mut [u8], q: requests::Request)
     ensures { ledger.new ≡ put_fact ledger.old q.fact (adds q.op) }
 {
-    let f = q.fact;
     let on = requests::is_adding(q.op);
-    facts::put_fact(ledger, f, on);
+    facts::put_fact(ledger, q.fact, on);
 }
 
-fn request_in(b: Book, ledger: &mut [u8], request: &[u8]) -> Outcome
+fn request_in(b: Book, ledger: &mut [u8], request: &[u8]) -> Result<(), Refusal>
     requires { Admitted (contents_of b) }
     ensures { reply result ledger.new ≡ request_in (contents_of b) ledger.old request.now }
 {
     let z = b.sizes;
     if !requests::is_suitable(z, ledger) {
-        return Outcome::Refused(Refusal::BadLedger);
+        return Err(Refusal::BadLedger);
     }
     if !requests::is_request(z, request) {
-        return Outcome::Refused(Refusal::BadRequest);
+        return Err(Refusal::BadRequest);
     }
     let q = requests::request_of(request);
     if !is_allowed(b, ledger, q) {
-        let d = why_not(b, ledger, q);
-        return Outcome::Refused(Refusal::NotPermitted(d));
+        return Err(Refusal::NotPermitted(why_not(b, ledger, q)));
     }
     carry_out(ledger, q);
-    Outcome::Done
+    Ok(())
 }
 
 // Carries a request out where some rule permits it, or refuses it and leaves the ledger.
-pub fn request(book: &[u8], ledger: &mut [u8], request: &[u8]) -> Outcome
+pub fn request(book: &[u8], ledger: &mut [u8], request: &[u8]) -> Result<(), Refusal>
     ensures { reply result ledger.new ≡ request_reply book.now ledger.old request.now }
 {
-    let reading = frames::read(book);
-    let outcome = reading.outcome;
-    if let frames::Outcome::Refused(r) = outcome {
-        return Outcome::Refused(Refusal::BadBook(r));
-    }
-    let b = reading.book;
-    request_in(b, ledger, request)
+    request_in(frames::read(book)?, ledger, request)
 }
 
-// The set of the values below n that the person effectively holds.
-fn values_below(ledger: &[u8], juniors: &[u32], p: Person, a: Attr, n: u8) -> u32
-    requires { (n ≤ 32) × (length juniors.now ≡ 32) }
-    ensures { result ≡ set_below (person_holds juniors.now (holds ledger.now) p a) n }
+// The set of the numbers below n that pass a test.
+pub fn set_below<F: Fn(u8) -> bool>(n: u8, passes: F) -> u32
+    requires few { n ≤ 32 }
+    requires callable { F.IsAlwaysCallable passes }
+    ensures { (p : ℕ → Bool) → Tells (F.post passes) p n → result ≡ set_below p n }
 {
     let mut set: u32 = 0;
-    let mut v: u8 = 0;
-    while v < n {
-        let on = inherit::person_holds(ledger, juniors, p, a, v);
-        set = sets::with(set, v, on);
-        v += 1;
+    for v in 0..n {
+        set = sets::with(set, v, passes(v));
     }
     set
 }
@@ -174,23 +145,10 @@ pub fn value_set(z: sizes::Sizes, ledger: &[u8], juniors: &[u32], p: Person, a: 
     if z.attrs <= a {
         return 0;
     }
-    let n = sizes::values_of(z, a);
-    values_below(ledger, juniors, p, Attr(a), n)
-}
-
-// The set of the crews below n that the person is effectively in.
-fn crews_below(ledger: &[u8], juniors: &[u32], p: Person, n: u8) -> u32
-    requires { (n ≤ 32) × (length juniors.now ≡ 32) }
-    ensures { result ≡ set_below (person_in juniors.now (holds ledger.now) p) n }
-{
-    let mut set: u32 = 0;
-    let mut c: u8 = 0;
-    while c < n {
-        let on = inherit::person_in(ledger, juniors, p, Crew(c));
-        set = sets::with(set, c, on);
-        c += 1;
-    }
-    set
+    set_below(
+        sizes::values_of(z, a),
+        |v| inherit::person_holds(ledger, juniors, p, Attr(a), v),
+    )
 }
 
 // The eight effective sets.
@@ -198,58 +156,36 @@ fn value_sets(z: sizes::Sizes, ledger: &[u8], juniors: &[u32], p: Person) -> [u3
     requires { InRange z × (length juniors.now ≡ 32) }
     ensures { result ≡ value_sets z juniors.now (holds ledger.now) p }
 {
-    let s0 = value_set(z, ledger, juniors, p, 0);
-    let s1 = value_set(z, ledger, juniors, p, 1);
-    let s2 = value_set(z, ledger, juniors, p, 2);
-    let s3 = value_set(z, ledger, juniors, p, 3);
-    let s4 = value_set(z, ledger, juniors, p, 4);
-    let s5 = value_set(z, ledger, juniors, p, 5);
-    let s6 = value_set(z, ledger, juniors, p, 6);
-    let s7 = value_set(z, ledger, juniors, p, 7);
-    [s0, s1, s2, s3, s4, s5, s6, s7]
-}
-
-// A refused show.
-fn not_shown(r: Refusal) -> Shown
-    ensures { view_of result ≡ hidden (refusal_number r) (told r) }
-{
-    Shown {
-        outcome: Outcome::Refused(r),
-        sets: [0; 8],
-        crews: 0,
+    let mut sets = [0u32; 8];
+    for a in 0..8 {
+        sets[a as usize] = value_set(z, ledger, juniors, p, a);
     }
+    sets
 }
 
-fn show_in(b: Book, ledger: &[u8], p: Person) -> Shown
+fn show_in(b: Book, ledger: &[u8], p: Person) -> Result<Shown, Refusal>
     requires { Admitted (contents_of b) }
     ensures { view_of result ≡ show_in (contents_of b) ledger.now p }
 {
     let z = b.sizes;
     if !requests::is_suitable(z, ledger) {
-        return not_shown(Refusal::BadLedger);
+        return Err(Refusal::BadLedger);
     }
     if z.persons <= p.0 {
-        return not_shown(Refusal::BadRequest);
+        return Err(Refusal::BadRequest);
     }
     let juniors = b.juniors;
     let sets = value_sets(z, ledger, &juniors, p);
-    let crews = crews_below(ledger, &juniors, p, z.crews);
-    Shown {
-        outcome: Outcome::Done,
-        sets,
-        crews,
-    }
+    let crews = set_below(
+        z.crews,
+        |c| inherit::person_in(ledger, &juniors, p, Crew(c)),
+    );
+    Ok(Shown { sets, crews })
 }
 
 // A person's eight effective sets and effective crews.
-pub fn show(book: &[u8], ledger: &[u8], p: Person) -> Shown
+pub fn show(book: &[u8], ledger: &[u8], p: Person) -> Result<Shown, Refusal>
     ensures { view_of result ≡ show_view book.now ledger.now p }
 {
-    let reading = frames::read(book);
-    let outcome = reading.outcome;
-    if let frames::Outcome::Refused(r) = outcome {
-        return not_shown(Refusal::BadBook(r));
-    }
-    let b = reading.book;
-    show_in(b, ledger, p)
+    show_in(frames::read(book)?, ledger, p)
 }

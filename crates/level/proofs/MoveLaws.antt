@@ -8,8 +8,11 @@ use native.Mathlib.Decide.{ℕ_discrete}
 use native.Mathlib.Nat.{add-zero, zero-add}
 use native.Mathlib.Numerals.{add-one}
 use native.Mathlib.Omega.{arith}
-use lib.ListN.{length, get_or, drop, set, length-set, drop_of_length-le}
-use lib.Seq.{drop-cons, get_or-take, length-take-le, get_or-set_same, get_or-set_other}
+use lib.ListN.{length, get_or, drop, take, drop_of_length-le}
+use lib.Seq.{drop-cons, get_or-take, length-take-le}
+use borrow.Rule.Slice.PartMut.{put_mid}
+use Rattle.std.proofs.Common.{rules}
+use Rattle.std.proofs.lemmas.List.{places}
 use Rattle.quantifiers.proofs.ListLaws.{all_same_at}
 use Rattle.theory.specs.Inner.Facts.{State}
 use Rattle.shown.specs.Inner.Shown.{visible}
@@ -105,6 +108,9 @@ pub record Reading (xs : List ℕ) (at n : ℕ) : Type 0 where
   pub fine : Fine (move_from xs at)
   pub count : n ≡ get_or xs (at + 1) 0
 
+pub reading : {xs : List ℕ} {at : ℕ} → Fine (move_from xs at) → Reading xs at (get_or xs (at + 1) 0)
+reading fine = record { fine = fine; count = refl }
+
 -- Its terms, one after another; `k` is the place of term `j`, as it was read.
 module _ {xs : List ℕ} {at n : ℕ} (r : Reading xs at n) where
   pub few_terms : n ≤ 8
@@ -148,42 +154,54 @@ eight (a ∷ b ∷ c ∷ d ∷ f ∷ g ∷ h ∷ []) e = absurd (omega arith)
 eight (a ∷ b ∷ c ∷ d ∷ f ∷ g ∷ h ∷ i ∷ []) e = refl
 eight (a ∷ b ∷ c ∷ d ∷ f ∷ g ∷ h ∷ i ∷ j ∷ xs) e = absurd (omega arith)
 
--- The numbers of a move.
-pub numbers_made : {m : Move} → Fine m
-    → Numbers m (m.fact ∷ m.n ∷ m.op ∷ m.role ∷ m.a ∷ m.v ∷ get_or m.terms 0 0 ∷ get_or m.terms 1 0 ∷ get_or m.terms 2 0
-    ∷ get_or m.terms 3 0 ∷ get_or m.terms 4 0
-    ∷ get_or m.terms 5 0 ∷ get_or m.terms 6 0 ∷ get_or m.terms 7 0 ∷ [])
+-- Two lists of eight with the same elements are one.
+eights : (xs ys : List ℕ) → length xs ≡ 8 → length ys ≡ 8 → ((j : ℕ) → j < 8 → get_or xs j 0 ≡ get_or ys j 0) → xs ≡ ys
+eights xs ys p q h =
+    sym (eight xs p)
+    ∙ rw (
+      h 0 (omega arith),
+      h 1 (omega arith),
+      h 2 (omega arith),
+      h 3 (omega arith),
+      h 4 (omega arith),
+      h 5 (omega arith),
+      h 6 (omega arith),
+      h 7 (omega arith),
+    ) (eight ys q)
+
+eight_terms : (xs : List ℕ) (at : ℕ) → length (move_from xs at).terms ≡ 8
 unfolding move_from
-numbers_made {m} fine = record { size = refl; same = rw (eight m.terms fine.size) refl }
+eight_terms xs at = refl
 
--- The first j numbers of move k are written, and none below it changed.
-pub record Putting (before : List ℕ) (k : ℕ) (row : List ℕ) (j : ℕ) (ms : List ℕ) : Type 0 where
-  pub fits : j ≤ 14
-  pub size : length ms ≡ length before
-  pub done : (l : ℕ) → l < j → get_or ms (14 * k + l) 0 ≡ get_or row l 0
-  pub below : (p : ℕ) → p < 14 * k → get_or ms p 0 ≡ get_or before p 0
+-- The terms of the move that stands at a place are a part of the numbers.
+pub terms_read : (xs : List ℕ) (at n : ℕ) → n ≡ 8 → at + 14 ≤ length xs → take n (drop (at + 6) xs) ≡ (move_from xs at).terms
+terms_read xs at n e room = eights (take n (drop (at + 6) xs)) (move_from xs at).terms (search (rules, places)) (eight_terms xs at)
+    (λ j l. part j (omega arith) ∙ sym (term_stands xs at j l))
+  where
+    part : (j : ℕ) → j < n → get_or (take n (drop (at + 6) xs)) j 0 ≡ get_or xs (at + 6 + j) 0
+    part j l = search (rules, places)
 
-pub put-none : (before : List ℕ) (k : ℕ) (row : List ℕ) → Putting before k row 0 before
-put-none before k row = record { fits = omega arith; size = refl; done = λ l h. absurd (omega arith); below = λ p h. refl }
+-- The numbers of a move.
+pub numbers_made : {m : Move} → Fine m → Numbers m (m.fact ∷ m.n ∷ m.op ∷ m.role ∷ m.a ∷ m.v ∷ m.terms)
+unfolding move_from
+numbers_made {m} fine = record { size = omega (arith, fine.size); same = rw (eight m.terms fine.size) refl }
 
-module _ {before : List ℕ} {k : ℕ} {row : List ℕ} {j : ℕ} {ms : List ℕ} (w : Putting before k row j ms) where
-  pub put_more : j < 14 → 14 * k + 14 ≤ length before → Putting before k row (j + 1) (set ms (14 * k + j) (get_or row j 0))
-  put_more h room =
-      let new = get_or row j 0 in
-      record {
-        fits = omega arith;
-        size = length-set ms (14 * k + j) new ∙ w.size;
-        done = λ l i.
-            dite (ℕ_discrete l j)
-            (λ (e : l ≡ j). rw e (get_or-set_same ms (14 * k + j) new 0 (omega (arith, w.size))))
-            (λ (n : l ≡ j → ⊥). get_or-set_other ms (14 * k + j) (14 * k + l) new 0 (λ e. n (omega arith)) ∙ w.done l (omega arith));
-        below = λ p i. get_or-set_other ms (14 * k + j) p new 0 (λ e. omega arith) ∙ w.below p i;
-      }
+-- Those of move k written, and none below it changed.
+pub put_made : {m : Move} {row : List ℕ} (before : List ℕ) (k n : ℕ) → n ≡ 14 → 14 * k + 14 ≤ length before → Numbers m row
+    → MovePut before k m (put_mid (14 * k) n before row)
+put_made {m} {row} before k n e room w =
+    record {
+      size = size (14 * k) (omega arith) (omega (arith, w.size));
+      here = move_same (put_mid (14 * k) n before row) row (14 * k) 0 (λ l i. inside (14 * k) l (omega arith) (omega (arith, w.size)) ∙ rw (zero-add l)) ∙ w.same;
+      there = λ i l. move_same (put_mid (14 * k) n before row) before (14 * i) (14 * i)
+          (λ p q. below (14 * k) (14 * i + p) (omega arith) (omega arith));
+    }
+  where
+    size : (a : ℕ) → a + n ≤ length before → length row ≡ n → length (put_mid a n before row) ≡ length before
+    size a h q = search (rules, places)
 
-  pub put_all : {m : Move} → 14 ≤ j → Numbers m row → MovePut before k m ms
-  put_all h n =
-      record {
-        size = w.size;
-        here = move_same ms row (14 * k) 0 (λ l i. w.done l (omega arith) ∙ rw (zero-add l)) ∙ n.same;
-        there = λ i l. move_same ms before (14 * i) (14 * i) (λ p q. w.below (14 * i + p) (omega arith));
-      }
+    inside : (a l : ℕ) → a + n ≤ length before → l < length row → get_or (put_mid a n before row) (a + l) 0 ≡ get_or row l 0
+    inside a l h q = search (rules, places)
+
+    below : (a p : ℕ) → a + n ≤ length before → p < a → get_or (put_mid a n before row) p 0 ≡ get_or before p 0
+    below a p h q = search (rules, places)

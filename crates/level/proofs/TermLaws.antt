@@ -155,18 +155,6 @@ pub record PlacesSoFar (r : Rule) (ks : List ℕ) (j : ℕ) : Type 0 where
   pub rest : (i : ℕ) → j ≤ i → get_or ks i 0 ≡ 0
 
 module _ {r : Rule} {ks : List ℕ} {j : ℕ} (p : PlacesSoFar r ks j) (g : GoodRule r) where
-  -- The place of one term more.
-  pub places_more : (k : ℕ) → j < r.n → k ≡ code_of (get_or r.terms j no_term).kind (get_or r.terms j no_term).a (get_or r.terms j no_term).v
-      → PlacesSoFar r (set ks j k) (j + 1)
-  places_more k h e = record {
-    size = simp length-set p.size;
-    fits = omega arith;
-    done = λ i l. at (λ i. i < j + 1 → get_or (set ks j k) i 0
-        ≡ code_of (get_or r.terms i no_term).kind (get_or r.terms i no_term).a (get_or r.terms i no_term).v) j i
-        (λ _. get_or-set_same ks j k 0 (omega (arith, p.size, g.few)) ∙ e) (λ n l'. get_or-set_other ks j i k 0 n ∙ p.done i (omega arith)) l;
-    rest = λ i l. get_or-set_other ks j i k 0 (omega arith) ∙ p.rest i (omega arith);
-  }
-
   -- With all places written the move is made.
   pub move_made : r.n ≤ j → (r.op < 256) × ((r.role.0 < 256) × ((r.a < 256) × (r.v < 256))) → (f : ℕ) → f ≡ place_of r.op r.a r.v
       → MoveOf r (record { fact = f; n = r.n; op = r.op; role = r.role.0; a = r.a; v = r.v; terms = ks })
@@ -183,19 +171,3 @@ module _ {r : Rule} {ks : List ℕ} {j : ℕ} (p : PlacesSoFar r ks j) (g : Good
       small : (i : ℕ) → get_or ks i 0 < 448
       small i = dite (dec_lt i r.n) (λ (l : i < r.n). rw (p.done i (omega arith)) (code_lt (get_or r.terms i no_term) (g.terms i l)))
           (λ (l : i < r.n → ⊥). rw (p.rest i (omega (arith, p.fits))) (omega arith))
-
--- Before the first term no place is written.
-pub places_first : (r : Rule) (ks : List ℕ) → length ks ≡ 8 → ((i : ℕ) → get_or ks i 0 ≡ 0) → PlacesSoFar r ks 0
-places_first r ks e z = record { size = e; fits = omega arith; done = λ i l. absurd (omega arith); rest = λ i l. z i }
-
--- Eight places that are 0.
-pub zeros : (i : ℕ) → ◌≡◌ {A = ℕ} (get_or (0 ∷ 0 ∷ 0 ∷ 0 ∷ 0 ∷ 0 ∷ 0 ∷ 0 ∷ []) i 0) 0
-zeros zero = refl
-zeros (suc zero) = refl
-zeros (suc (suc zero)) = refl
-zeros (suc (suc (suc zero))) = refl
-zeros (suc (suc (suc (suc zero)))) = refl
-zeros (suc (suc (suc (suc (suc zero))))) = refl
-zeros (suc (suc (suc (suc (suc (suc zero)))))) = refl
-zeros (suc (suc (suc (suc (suc (suc (suc zero))))))) = refl
-zeros (suc (suc (suc (suc (suc (suc (suc (suc i)))))))) = refl

@@ -28,12 +28,9 @@ window_next {n} {i} {r} quiet j x h l w = by_cases (ℕ_discrete j i) (λ e. inl
     (λ (t : i + 1 ≡ n → ⊥). let z : r ≡ i + 1 = x.step t in
     ⊎_elim (λ (a : (j < r) × (r ≤ j + (quiet + 1))). inl (omega arith, omega arith)) (λ (a : n + r ≤ j + (quiet + 1)). inr (omega arith)) w)))
 
--- A turn stays where the sweep stands, or goes to a move by its name.
+-- A turn stays where the sweep stands.
 pub turn_stays : {n tried i tried' : ℕ} (quiet : ℕ) → i < n → tried ≤ tried' → tried' ≤ 160 → TurnAt n tried i quiet tried' i quiet
 turn_stays quiet l o m = record { fits = l; onward = o; names = m; goes = inl (refl, refl) }
-
-pub turn_goes : {n tried k : ℕ} (i quiet : ℕ) → k < n → tried < 160 → TurnAt n tried i quiet (tried + 1) k 0
-turn_goes i quiet l m = record { fits = l; onward = omega arith; names = omega arith; goes = inr (omega arith, refl) }
 
 -- Where a sweep of `n` moves stands, with `tried` of `size` names tried: it looks at move `i`, and the last `quiet` moves before it do not fire.
 pub record Sweeping (n : ℕ) (fires : ℕ → Bool) (size tried i quiet : ℕ) : Type 0 where

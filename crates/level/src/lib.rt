@@ -2,18 +2,19 @@
 
 #![tactic(auto)]
 
-ghost use Rattle.std.specs.Prelude.{◌≡◌, ◌+◌, ◌*◌, ◌≤◌, ◌<◌, length};
-ghost use Rattle.level.specs.Inner.Moves.{flags_met, flags_with, place_of, Fine, Sound, ask_of, move_from, move_at, moves_in};
+ghost use Rattle.std.specs.Prelude.{◌≡◌, ℕ, Bool, ◌+◌, ◌*◌, ◌≤◌, ◌<◌, length};
+ghost use Rattle.level.specs.Inner.Moves.{flags_met, flags_with, places_of, place_of, Fine, Sound, ask_of, move_from, move_at, moves_in};
 ghost use Rattle.level.specs.Inner.Chosen.{chosen_in, Numbers, MovePut};
 ghost use Rattle.level.specs.Inner.Terms.{code_of, GoodRule, MoveOf};
 ghost use Rattle.level.specs.Inner.Notes.{Noted};
 ghost use Rattle.level.specs.Inner.Sweep.{fires_in, Next, TurnAt, Ready, Closed};
 ghost use Rattle.level.specs.Inner.BackSweep.{backs_in, ReadyBack, ClosedBack};
-ghost use Rattle.level.specs.Inner.Settle.{RoundReady, Rounded, Result};
+ghost use Rattle.level.specs.Inner.Settle.{RoundReady, Rounded, Result, found_of, ups_of, at_of};
 ghost use Rattle.widths.specs.Inner.Widths.{level_size, flags_size, table_size, moves_size, move_size};
+ghost use Rattle.quantifiers.specs.Quantifiers.{all};
 
 use frames::Rule;
-use widths::{HIGHER_AT, LEVEL_SIZE, MOVE_SIZE};
+use widths::{HIGHER_AT, LEVEL_SIZE, MOVE_SIZE, VALUES_SIZE};
 
 // A rule as a move: the fact that it adds or deletes, the bytes of its request, and the places of its terms.
 #[derive(Clone, Copy)]
@@ -30,39 +31,31 @@ pub struct Move {
 // ---------------------------------------------------------------- from rules to moves
 
 // The place of what a term asks.
+#[tactic(auto, unfolding(crate::specs::Inner::Terms::code_of))]
 pub fn place(kind: u8, a: u8, v: u8) -> u16
     ensures { result ≡ code_of kind a v }
 {
     let x = a as u16;
     let y = v as u16;
-    if kind == 1 {
-        return 16 * x + y;
+    match kind {
+        1 => 16 * x + y,
+        2 | 0x81 => LEVEL_SIZE as u16 + (16 * x + y),
+        5 => HIGHER_AT as u16 + (16 * x + y),
+        3 => VALUES_SIZE as u16 + x,
+        _ => LEVEL_SIZE as u16 + (VALUES_SIZE as u16 + x),
     }
-    if kind == 2 {
-        return LEVEL_SIZE as u16 + (16 * x + y);
-    }
-    if kind == 5 {
-        return HIGHER_AT as u16 + (16 * x + y);
-    }
-    if kind == 3 {
-        return 128 + x;
-    }
-    if kind == 0x81 {
-        return LEVEL_SIZE as u16 + (16 * x + y);
-    }
-    288 + x
 }
 
 // The fact that a request's op, a and v name.
+#[tactic(auto, unfolding(crate::specs::Inner::Moves::place_of))]
 pub fn aim(op: u8, a: u8, v: u8) -> usize
     ensures { result ≡ place_of op a v }
 {
-    let x = a as usize;
-    let y = v as usize;
     if op < 5 {
-        return 16 * x + y;
+        16 * (a as usize) + v as usize
+    } else {
+        VALUES_SIZE + a as usize
     }
-    128 + x
 }
 
 // The move of a rule.
@@ -70,18 +63,14 @@ pub fn move_of(r: Rule) -> Move
     requires { GoodRule r }
     ensures { MoveOf r result }
 {
-    let n = r.n as usize;
-    let mut terms = [0u16; 8];
-    let mut j: usize = 0;
-    while j < n {
+    let mut terms = [0; 8];
+    for j in 0..r.n as usize {
         let t = r.terms[j];
         terms[j] = place(t.kind, t.a, t.v);
-        j += 1;
     }
-    let fact = aim(r.op, r.a, r.v);
     Move {
-        fact,
-        n,
+        fact: aim(r.op, r.a, r.v),
+        n: r.n as usize,
         op: r.op as u16,
         role: r.role.0 as u16,
         a: r.a as u16,
@@ -91,27 +80,15 @@ pub fn move_of(r: Rule) -> Move
 }
 
 // A move as 14 numbers.
+// Kept: a move as 14 numbers of a flat list, which `moves_in` and `move_from` of specs/Inner/Moves read; as records 512 moves would take 20 KB for 14.
 fn numbers_of(m: Move) -> [u16; MOVE_SIZE]
     requires { Fine m }
     ensures { Numbers m result }
 {
-    let terms = m.terms;
-    [
-        m.fact as u16,
-        m.n as u16,
-        m.op,
-        m.role,
-        m.a,
-        m.v,
-        terms[0],
-        terms[1],
-        terms[2],
-        terms[3],
-        terms[4],
-        terms[5],
-        terms[6],
-        terms[7],
-    ]
+    let mut row = [0; MOVE_SIZE];
+    row[..6].copy_from_slice(&[m.fact as u16, m.n as u16, m.op, m.role, m.a, m.v]);
+    row[6..].copy_from_slice(&m.terms);
+    row
 }
 
 // Writes move `k` of a list.
@@ -119,12 +96,8 @@ pub fn put_move(m: Move, k: usize, ms: &mut [u16])
     requires { Fine m × ((k < 512) × (length ms.old ≡ moves_size)) }
     ensures { MovePut ms.old k m ms.new }
 {
-    let row = numbers_of(m);
-    let mut j: usize = 0;
-    while j < MOVE_SIZE {
-        ms[MOVE_SIZE * k + j] = row[j];
-        j += 1;
-    }
+    let at = MOVE_SIZE * k;
+    ms[at..at + MOVE_SIZE].copy_from_slice(&numbers_of(m));
 }
 
 // Move `i` of a list.
@@ -133,19 +106,11 @@ pub fn move_at(ms: &[u16], i: usize) -> Move
     ensures { result ≡ move_at (moves_in ms.now) i }
 {
     let at = MOVE_SIZE * i;
-    let terms = [
-        ms[at + 6],
-        ms[at + 7],
-        ms[at + 8],
-        ms[at + 9],
-        ms[at + 10],
-        ms[at + 11],
-        ms[at + 12],
-        ms[at + 13],
-    ];
+    let mut terms = [0; 8];
+    terms.copy_from_slice(&ms[at + 6..at + MOVE_SIZE]);
     Move {
-        fact: wide(ms[at]),
-        n: wide(ms[at + 1]),
+        fact: ms[at] as usize,
+        n: ms[at + 1] as usize,
         op: ms[at + 2],
         role: ms[at + 3],
         a: ms[at + 4],
@@ -155,44 +120,37 @@ pub fn move_at(ms: &[u16], i: usize) -> Move
 }
 
 // Whether the rule has one of two ops and one of the roles.
+#[tactic(auto, unfolding(crate::specs::Inner::Chosen::chosen_in))]
 pub fn chosen(r: Rule, one: u8, two: u8, roles: u32) -> bool
     ensures { result ≡ chosen_in one two roles r }
 {
-    let given = sets::has(roles, r.role.0);
-    if r.op == one {
-        return given;
-    }
-    if r.op == two {
-        return given;
-    }
-    false
+    (r.op == one || r.op == two) && sets::has(roles, r.role.0)
 }
 
 // ---------------------------------------------------------------- a move tested, and its request
 
-// A term's place, or a move's number, as an index.
-pub fn wide(x: u16) -> usize
-    ensures { result ≡ x }
+// Whether `shows` answers yes at the place of each term of the move at the place `at` of the numbers. Most moves that are tried do not
+// fire, so the tests read a move's numbers where they stand: no move is made for them.
+fn do_all_show<F: Fn(usize) -> bool>(ms: &[u16], at: usize, shows: F) -> bool
+    requires stands { (at + move_size ≤ length ms.now) × Fine (move_from ms.now at) }
+    requires callable { (k : ℕ) → k < flags_size → F.pre shows k }
+    ensures { (p : ℕ → Bool) → ((k : ℕ) (b : Bool) → F.post shows k b → b ≡ p k) → result ≡ all p (places_of (move_from ms.now at)) }
 {
-    x as usize
+    for j in 0..ms[at + 1] as usize {
+        if !shows(ms[at + 6 + j] as usize) {
+            return false;
+        }
+    }
+    true
 }
 
-// Whether all terms of the move at the place `at` of the numbers hold of the flags `x`. Most moves that are tried do not fire,
-// so the tests read a move's numbers where they stand: no move is made for them.
+// Whether all terms of the move at the place `at` of the numbers hold of the flags `x`.
+#[tactic(auto, unfolding(crate::specs::Inner::Moves::flags_met))]
 pub fn meets(ms: &[u16], at: usize, x: &[bool]) -> bool
     requires { (at + move_size ≤ length ms.now) × (Fine (move_from ms.now at) × (length x.now ≡ flags_size)) }
     ensures { result ≡ flags_met (move_from ms.now at) x.now }
 {
-    let n = wide(ms[at + 1]);
-    let mut j: usize = 0;
-    while j < n {
-        let k = wide(ms[at + 6 + j]);
-        if !x[k] {
-            return false;
-        }
-        j += 1;
-    }
-    true
+    do_all_show(ms, at, |k| x[k])
 }
 
 // Writes the request of a move, as request `k`.
@@ -217,14 +175,8 @@ pub fn fires(ms: &[u16], i: usize, allowed: &[bool], x: &[bool]) -> bool
     ensures { result ≡ fires_in (move_at (moves_in ms.now) i) allowed.now x.now }
 {
     let at = MOVE_SIZE * i;
-    let f = wide(ms[at]);
-    if x[f] {
-        return false;
-    }
-    if allowed[f] {
-        return meets(ms, at, x);
-    }
-    false
+    let f = ms[at] as usize;
+    !x[f] && allowed[f] && meets(ms, at, x)
 }
 
 // The place after `i` in a round of `n`.
@@ -232,10 +184,7 @@ pub fn next(i: usize, n: usize) -> usize
     requires { i < n }
     ensures { Next i n result }
 {
-    if i + 1 == n {
-        return 0;
-    }
-    i + 1
+    if i + 1 == n { 0 } else { i + 1 }
 }
 
 // Where a sweep stands: how many of the names it has tried, the move that is next, and how many before that move are quiet.
@@ -255,24 +204,28 @@ fn turn_at(names: &[u16], tried: usize, i: usize, quiet: usize, count: usize) ->
     if tried == LEVEL_SIZE {
         return Turn { tried, i, quiet };
     }
-    let k = wide(names[tried]);
+    let k = names[tried] as usize;
     if k < count {
-        return Turn {
+        Turn {
             tried: tried + 1,
             i: k,
             quiet: 0,
-        };
-    }
-    Turn {
-        tried: LEVEL_SIZE,
-        i,
-        quiet,
+        }
+    } else {
+        Turn {
+            tried: LEVEL_SIZE,
+            i,
+            quiet,
+        }
     }
 }
 
 // Adds to `x` what the moves can add within `allowed`, until nothing is left, and notes each request in `out` from request `start` on. Returns how many.
 // `added` has the numbers of the moves that fired last time, in their order (512: none). They are tried first, as most fire again, and those that fire
 // now are written over the front; what stands behind them stays, for a later level that goes further. A wrong name costs one trial and no more.
+// Kept: beside `back`, as `fires` beside `backs`: the test, the side that the requests are written from and the promise differ (`Closed`,
+// `ClosedBack`), and one function with all of that as parameters would be no plainer.
+// Kept: 512 for "no move" in `added` and `deleted`, not an `Option`: `turn_at` asks only whether a number is below the count, which covers it.
 pub fn close(
     adds: &[u16],
     added: &mut [u16],
@@ -294,6 +247,7 @@ pub fn close(
     let mut quiet: usize = 0;
     let mut i: usize = 0;
     let mut tried: usize = 0;
+    // Kept: no loop over an index. A turn may set `i` back, and what it adds makes the count of quiet moves begin anew.
     while quiet < count {
         let t = turn_at(added, tried, i, quiet, count);
         tried = t.tried;
@@ -321,17 +275,8 @@ pub fn meets_with(ms: &[u16], at: usize, table: &[bool], x: &[bool]) -> bool
     requires x_len { (length x.now ≡ flags_size) × (length table.now ≡ table_size) }
     ensures { result ≡ flags_with (move_from ms.now at) table.now x.now }
 {
-    let f = wide(ms[at]);
-    let n = wide(ms[at + 1]);
-    let mut j: usize = 0;
-    while j < n {
-        let k = wide(ms[at + 6 + j]);
-        if !shown::lit(table, f, k, x) {
-            return false;
-        }
-        j += 1;
-    }
-    true
+    let f = ms[at] as usize;
+    do_all_show(ms, at, |k| shown::lit(table, f, k, x))
 }
 
 // Whether move `i` deletes a fact of `x` that is not in `y`, and its terms hold of `y` with that fact.
@@ -341,14 +286,8 @@ pub fn backs(ms: &[u16], i: usize, table: &[bool], x: &[bool], y: &[bool]) -> bo
     ensures { result ≡ backs_in (move_at (moves_in ms.now) i) table.now x.now y.now }
 {
     let at = MOVE_SIZE * i;
-    let f = wide(ms[at]);
-    if y[f] {
-        return false;
-    }
-    if x[f] {
-        return meets_with(ms, at, table, y);
-    }
-    false
+    let f = ms[at] as usize;
+    !y[f] && x[f] && meets_with(ms, at, table, y)
 }
 
 // Puts back into `y` what of `x` the moves can delete, until nothing is left, and notes each request in `out`, downwards from request `end`. Returns
@@ -376,6 +315,7 @@ pub fn back(
     let mut quiet: usize = 0;
     let mut i: usize = 0;
     let mut tried: usize = 0;
+    // Kept: no loop over an index. A turn may set `i` back, and what it adds makes the count of quiet moves begin anew.
     while quiet < count {
         let t = turn_at(deleted, tried, i, quiet, count);
         tried = t.tried;
@@ -399,7 +339,7 @@ pub fn back(
 
 // ---------------------------------------------------------------- the rounds
 
-// How many requests a round added, and where its deletions begin.
+// How many requests were added, and where the deletions begin.
 #[derive(Clone, Copy)]
 pub struct Ends {
     pub ups: usize,
@@ -431,23 +371,15 @@ pub fn round(
         s.now u.now x.new y.new d.new start up.old up.new result.ups end
         down.old down.new result.at }
 {
-    build::copy_whole(s, x);
-    let n = close(adds, added, subject, table, u, x, start, up);
+    x.copy_from_slice(s);
+    let ups = close(adds, added, subject, table, u, x, start, up);
     build::strip(x, bad, d);
     build::build_rest(table, x, bad, d, y);
     let at = back(dels, deleted, subject, table, bad, x, y, end, down);
-    Ends { ups: n, at }
+    Ends { ups, at }
 }
 
-// What a level comes to: whether it is settled, how many requests were added, and where the deletions begin.
-#[derive(Clone, Copy)]
-pub struct LevelOutcome {
-    pub found: bool,
-    pub ups: usize,
-    pub at: usize,
-}
-
-// The level: rounds until what was put in can all be put back, or a starting fact is lost. `s` has the flags of the starting facts, `u` is what is
+// The level: rounds until what was put in can all be put back, or a starting fact is lost; then `None`. `s` has the flags of the starting facts, `u` is what is
 // allowed at first; `y` and `d` are room to work in.
 // `added` and `deleted` name the moves to try first, and in the end those of the last round.
 pub fn settle(
@@ -467,30 +399,23 @@ pub fn settle(
     up: &mut [u8],
     end: usize,
     down: &mut [u8],
-) -> LevelOutcome
+) -> Option<Ends>
     requires { RoundReady (moves_in adds.now) (moves_in dels.now) added.old deleted.old table.now bad.now s.now u.old x.old y.old
         d.old start up.old end down.old }
     ensures { Result (moves_in adds.now) (moves_in dels.now) subject table.now bad.now
         s.now u.old x.new start up.old up.new end down.old down.new
-        result.found result.ups result.at }
+        (found_of result) (ups_of result) (at_of result) }
 {
+    // Kept: a round ends by what it finds, so this is no loop over a range.
     loop {
         let e = round(
             adds, dels, added, deleted, subject, table, bad, s, u, x, y, d, start, up, end, down,
         );
-        if build::lacks(x, y) == LEVEL_SIZE {
-            return LevelOutcome {
-                found: true,
-                ups: e.ups,
-                at: e.at,
-            };
+        if build::lacks(x, y).is_none() {
+            return Some(e);
         }
-        if build::lacks(s, y) < LEVEL_SIZE {
-            return LevelOutcome {
-                found: false,
-                ups: 0,
-                at: end,
-            };
+        if build::lacks(s, y).is_some() {
+            return None;
         }
         build::keep(y, u);
     }

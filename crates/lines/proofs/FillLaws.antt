@@ -1,4 +1,4 @@
--- The two tables that are filled by `digit_of`, entry by entry.
+-- The table of the characters of the values, which is filled by `digit_of`, entry by entry.
 use mathlib.Core.Path.{◌≡◌, ap, sym, ◌∙◌}
 use mathlib.Core.List.{List}
 use mathlib.Core.Logic.{dite}
@@ -8,32 +8,8 @@ use native.Mathlib.Omega.{arith}
 use lib.ListN.{length, get_or, set, length-set}
 use lib.Seq.{get_or-set_same, get_or-set_other}
 use Rattle.lines.specs.Digits.{digit, character}
-use Rattle.lines.specs.Inner.Tables.{Tabled, Encodings}
+use Rattle.lines.specs.Inner.Tables.{Encodings}
 use Rattle.lines.proofs.TableLaws.{digit_back, character_back, character-within}
-
--- ---------------------------------------------------------------- the values of the characters
-
--- The first n entries of a table of the characters' values are filled.
-pub record Filled (table : List ℕ) (n : ℕ) : Type 0 where
-  pub size : length table ≡ 256
-  pub most : n ≤ 256
-  pub entry : (c : ℕ) → c < n → get_or table c 0 ≡ digit c
-
-pub fill_none : (table : List ℕ) → length table ≡ 256 → Filled table 0
-fill_none table s = record { size = s; most = omega arith; entry = λ c h. absurd (omega arith) }
-
-module _ (table : List ℕ) (n : ℕ) (f : Filled table n) where
-  pub fill_more : (v : ℕ) → n < 256 → v ≡ digit n → Filled (set table n v) (n + 1)
-  fill_more v h e =
-      record {
-        size = length-set table n v ∙ f.size;
-        most = omega arith;
-        entry = λ c k. dite (ℕ_discrete c n) (λ (m : c ≡ n). rw (m, get_or-set_same table n v 0 (omega (arith, f.size))) e)
-            (λ (m : c ≡ n → ⊥). get_or-set_other table n c v 0 m ∙ f.entry c (omega (arith, m)));
-      }
-
-  pub fill_all : 256 ≤ n → Tabled table
-  fill_all h = record { size = f.size; entry = λ c k. f.entry c (omega arith) }
 
 -- ---------------------------------------------------------------- the characters of the values
 

@@ -2,7 +2,7 @@
 
 #![tactic(auto)]
 
-ghost use Rattle.std.specs.Prelude.{◌≡◌, ◌+◌, ◌<◌, ◌≤◌, length, drop};
+ghost use Rattle.std.specs.Prelude.{◌≡◌, ◌+◌, ◌<◌, ◌≤◌, length, drop, eqb, position};
 ghost use Rattle.lines.specs.Digits.{digit, byte_at};
 ghost use Rattle.lines.specs.Lines.{to_end};
 ghost use Rattle.lines.specs.Inner.Tables.{Tabled, Encodings};
@@ -17,6 +17,8 @@ pub struct Cursor {
 
 // The value of a digit's character, one case for each of the sixteen of RFC 4648, Table 5; 16 for any other character. No other place in
 // the code knows a digit's value: reading and writing go through this function, or through the tables that are filled by it.
+// Kept: 16 for "no digit", not an `Option`: the paper's definition `digit` in specs/Digits, of which this is the code, gives 16.
+#[tactic(auto, unfolding(crate::specs::Digits::digit))]
 pub fn digit_of(c: u8) -> u8
     ensures { result ≡ digit c }
 {
@@ -46,10 +48,8 @@ pub fn fill_digits(table: &mut [u8; 256])
     requires { length table.old ≡ 256 }
     ensures { Tabled table.new }
 {
-    let mut c: usize = 0;
-    while c < 256 {
-        table[c] = digit_of(c as u8);
-        c += 1;
+    for (c, value) in table.iter_mut().enumerate() {
+        *value = digit_of(c as u8);
     }
 }
 
@@ -59,37 +59,44 @@ pub fn fill_characters(table: &mut [u8; 16])
     requires { length table.old ≡ 16 }
     ensures { Encodings table.new }
 {
-    let mut c: u8 = b'0';
-    while c <= b'F' {
+    for c in b'0'..=b'F' {
         let v = digit_of(c) as usize;
         if v < 16 {
             table[v] = c;
         }
-        c += 1;
+    }
+}
+
+// The table by which digits are written. Its ghost field says what is true of every such table: entry v is the character of value v. So
+// no function that writes by one has to ask its callers for that.
+#[derive(Drop)]
+pub struct Characters {
+    pub table: [u8; 16],
+    ghost encodings: { Encodings table },
+}
+
+impl Characters {
+    pub fn new() -> Characters {
+        let mut table = [0; 16];
+        fill_characters(&mut table);
+        Characters { table }
     }
 }
 
 // Whether 0A stands at place n of `x`, behind a character at least.
+#[tactic(auto, unfolding(crate::specs::Inner::Cursors::is_end))]
 pub fn is_end(x: &[u8], n: usize) -> bool
     ensures { result ≡ is_end x.now n }
 {
-    if n == 0 {
-        return false;
-    }
-    if x.len() <= n {
-        return false;
-    }
-    x[n] == b'\n'
+    n > 0 && n < x.len() && x[n] == b'\n'
 }
 
 // Byte k of a frame; 0 past its end.
+#[tactic(auto, unfolding(crate::specs::Digits::byte_at))]
 pub fn byte_at(frame: &[u8], k: usize) -> u8
     ensures { result ≡ byte_at frame.now k }
 {
-    if k < frame.len() {
-        return frame[k];
-    }
-    0
+    frame.get(k).copied().unwrap_or(0)
 }
 
 // Where a book's first line starts.
@@ -110,17 +117,20 @@ pub fn following_line(c: Cursor, end: usize) -> Cursor
     }
 }
 
+// The place of the first 0A.
+fn first_end(x: &[u8]) -> Option<usize>
+    ensures { result ≡ position (λ c. eqb c 10) x.now }
+{
+    x.iter().position(|c| *c == b'\n')
+}
+
 // Where the line that starts at `at` ends: at the next 0A, or at the end of the book.
 pub fn line_end(book: &[u8], at: usize) -> usize
     requires { at ≤ length book.now }
     ensures { result ≡ at + to_end (drop at book.now) }
 {
-    let mut i = at;
-    while i < book.len() {
-        if book[i] == b'\n' {
-            return i;
-        }
-        i += 1;
+    match first_end(&book[at..]) {
+        Some(n) => at + n,
+        None => book.len(),
     }
-    i
 }

@@ -88,11 +88,6 @@ module _ {rs : Rules} {one two roles from : ℕ} {xs : List ℕ} {i k : ℕ} {ys
   gathered_room room e =
       omega (arith, g.ends, count_yes (is_chosen rs one two roles) i e, count_longer (is_chosen rs one two roles) (i + 1) rs.count (omega arith))
 
--- There is never more than the room asked.
-pub gathered_few : {rs : Rules} {one two roles from : ℕ} {xs : List ℕ} {i k : ℕ} {ys : List ℕ} → Gathered rs one two roles from xs i k ys
-    → RoomFrom rs one two roles from → k ≤ 512
-gathered_few {rs} {one} {two} {roles} {from} {xs} {i} g room = omega (arith, g.ends, count_longer (is_chosen rs one two roles) i rs.count g.moves.fits)
-
 -- Within a list it does not matter what stands past its end.
 get_or-within : {X : Type 0} (xs : List X) (i : ℕ) (d e : X) → i < length xs → get_or xs i d ≡ get_or xs i e
 get_or-within [] i d e h = absurd (not-suc-le-zero h)
@@ -100,9 +95,9 @@ get_or-within (x ∷ xs) zero d e h = refl
 get_or-within (x ∷ xs) (suc i) d e h = get_or-within xs i d e (le_of_suc-le-suc h)
 
 -- Rule `i` of a slice.
-pub rule_same : (xs : List Rule) (i : ℕ) → i < length xs → get_or xs i no_rule ≡ rule_at (of_list xs) i
+pub rule_same : (xs : List Rule) (i : ℕ) (d : Rule) → i < length xs → get_or xs i d ≡ rule_at (of_list xs) i
 unfolding rule_at
-rule_same xs i h = get_or-within xs i _ _ h
+rule_same xs i d h = get_or-within xs i _ _ h
 
 -- ---------------------------------------------------------------- one side
 

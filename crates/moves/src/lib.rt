@@ -2,13 +2,14 @@
 
 #![tactic(auto)]
 
-ghost use Rattle.std.specs.Prelude.{◌≡◌, true, ◌<◌, length};
+ghost use Rattle.std.specs.Prelude.{◌≡◌, true, ◌<◌, length, ◌*◌, take};
 ghost use Rattle.level.specs.Inner.Terms.{GoodRule};
 ghost use Rattle.level.specs.Inner.Chosen.{chosen_in, GoodRules};
-ghost use Rattle.moves.specs.Inner.Listed.{of_list, RoomFrom, Taken, Gathered, Prepared};
-ghost use Rattle.widths.specs.Inner.Widths.{moves_size};
+ghost use Rattle.moves.specs.Inner.Listed.{of_list, RoomFrom, Taken, Gathered, part_of, Sided, Prepared};
+ghost use Rattle.widths.specs.Inner.Widths.{moves_size, move_size};
 
 use frames::{Rule, Rules};
+use widths::MOVE_SIZE;
 
 // The move of a rule, where it is chosen, is written as move `k`. Returns how many moves there are then.
 fn gather(r: Rule, one: u8, two: u8, roles: u32, k: usize, ms: &mut [u16]) -> usize
@@ -17,9 +18,10 @@ fn gather(r: Rule, one: u8, two: u8, roles: u32, k: usize, ms: &mut [u16]) -> us
 {
     if level::chosen(r, one, two, roles) {
         level::put_move(level::move_of(r), k, ms);
-        return k + 1;
+        k + 1
+    } else {
+        k
     }
-    k
 }
 
 // Writes the moves of the rules that have one of two ops and one of the roles, in the rules' order, from move `from` on. Returns how
@@ -29,10 +31,8 @@ fn moves_of(rules: &[Rule], one: u8, two: u8, roles: u32, from: usize, ms: &mut 
     ensures { Gathered (of_list rules.now) one two roles from ms.old (length rules.now) result ms.new }
 {
     let mut k = from;
-    let mut i: usize = 0;
-    while i < rules.len() {
-        k = gather(rule_list::rule_at(rules, i), one, two, roles, k, ms);
-        i += 1;
+    for r in rules {
+        k = gather(*r, one, two, roles, k, ms);
     }
     k
 }
@@ -47,15 +47,34 @@ pub struct Counts {
     pub dels: usize,
 }
 
-// The counts of the four sides.
-fn counted(gains: usize, losses: usize, adds: usize, dels: usize) -> Counts
-    ensures { result ≡ record { gains = gains; losses = losses; adds = adds; dels = dels } }
-{
-    Counts {
-        gains,
-        losses,
-        adds,
-        dels,
+// The moves of each side, out of the buffer that has them all.
+impl Counts {
+    pub fn gains_in(self, ms: &[u16]) -> &[u16]
+        requires { Sided self ms.now }
+        ensures { result.now ≡ take (move_size * self.gains) ms.now }
+    {
+        &ms[..MOVE_SIZE * self.gains]
+    }
+
+    pub fn losses_in(self, ms: &[u16]) -> &[u16]
+        requires { Sided self ms.now }
+        ensures { result.now ≡ part_of self.gains self.losses ms.now }
+    {
+        &ms[MOVE_SIZE * self.gains..MOVE_SIZE * self.losses]
+    }
+
+    pub fn adds_in(self, ms: &[u16]) -> &[u16]
+        requires { Sided self ms.now }
+        ensures { result.now ≡ part_of self.losses self.adds ms.now }
+    {
+        &ms[MOVE_SIZE * self.losses..MOVE_SIZE * self.adds]
+    }
+
+    pub fn dels_in(self, ms: &[u16]) -> &[u16]
+        requires { Sided self ms.now }
+        ensures { result.now ≡ part_of self.adds self.dels ms.now }
+    {
+        &ms[MOVE_SIZE * self.adds..MOVE_SIZE * self.dels]
     }
 }
 
@@ -65,12 +84,15 @@ pub fn moves_listed(rs: Rules, roles: u32, ms: &mut [u16]) -> Counts
     requires { GoodRules rs × (length ms.old ≡ moves_size) }
     ensures { Prepared rs roles result ms.new }
 {
-    let n = rs.count;
-    let list = rs.rules;
-    let rules = &list[..n];
-    let a = moves_of(rules, 3, 3, roles, 0, ms);
-    let b = moves_of(rules, 4, 4, roles, a, ms);
-    let c = moves_of(rules, 1, 5, roles, b, ms);
-    let d = moves_of(rules, 2, 6, roles, c, ms);
-    counted(a, b, c, d)
+    let rules = &rs.rules[..rs.count];
+    let gains = moves_of(rules, 3, 3, roles, 0, ms);
+    let losses = moves_of(rules, 4, 4, roles, gains, ms);
+    let adds = moves_of(rules, 1, 5, roles, losses, ms);
+    let dels = moves_of(rules, 2, 6, roles, adds, ms);
+    Counts {
+        gains,
+        losses,
+        adds,
+        dels,
+    }
 }

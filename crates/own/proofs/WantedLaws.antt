@@ -1,13 +1,11 @@
 -- Laws of the wanted facts: a value is wanted by a named set, a membership by the listed crews.
-use mathlib.Core.Path.{◌≡◌, ap, sym, ◌∙◌}
-use mathlib.Core.Bool.{Bool, ◌&&◌}
+use mathlib.Core.Path.{◌≡◌}
+use mathlib.Core.Bool.{Bool}
 use Prim.Native.Nat.{ℕ, ◌-◌, ◌/◌, ◌%◌, ◌≤◌, ◌<◌}
-use lib.Dec.{eqb}
 use borrow.Author.Tests.{lt-ltb, le-ltb}
 use Rattle.sets.specs.Sets.{member}
 use Rattle.frames.specs.declared.Query.{Query}
-use Rattle.frames.specs.Inner.Fits.{want_of}
-use Rattle.own.specs.Inner.Wanted.{has_value, wants_value, wanted_at}
+use Rattle.own.specs.Inner.Wanted.{wants_value, wanted_at}
 
 module _ (q : Query) (f : ℕ) {b : Bool} where
   pub wanted_value : f < 128 → b ≡ wants_value q (f / 16) (f % 16) → b ≡ wanted_at q f
@@ -17,7 +15,3 @@ module _ (q : Query) (f : ℕ) {b : Bool} where
   pub wanted_crew : 128 ≤ f → b ≡ member q.crews (f - 128) → b ≡ wanted_at q f
   unfolding wanted_at
   wanted_crew l e = rw (le-ltb f 128 l) e
-
--- The test of one named set, as the code finds it.
-pub value_test : (q : Query) (a v j : ℕ) {b r : Bool} → r ≡ member (want_of q j).set v → (eqb (want_of q j).attr.0 a && r) ≡ b → has_value q a v j ≡ b
-value_test q a v j e t = ap (λ u. eqb (want_of q j).attr.0 a && u) (sym e) ∙ t

@@ -13,10 +13,10 @@ ghost use Rattle.flags.specs.Inner.Flags.{FlagsWritten, SmallWants};
 ghost use Rattle.own.specs.Inner.Entered.{term_of, TermsEntered, Fresh, Entered};
 ghost use Rattle.own.specs.Inner.Wanted.{wants_value, wanted_at};
 ghost use Rattle.own.specs.Inner.Requests.{requests_of, Ready};
+ghost use Rattle.grow.specs.Inner.Tables.{is_way, count_of};
 ghost use Rattle.own.specs.Inner.Found.{OwnMoves, OwnFound};
 
 use frames::{Book, Query};
-use grow::Found;
 use level::Move;
 use widths::{IDLE_AT, LEVEL_SIZE, MOVE_SIZE, MOVES_SIZE, TERMS_SIZE};
 
@@ -27,10 +27,7 @@ fn term_of(m: Move, j: usize) -> u16
     requires { Fine m × (j < 8) }
     ensures { result ≡ term_of m j }
 {
-    if j < m.n {
-        return m.terms[j];
-    }
-    IDLE_AT as u16
+    if j < m.n { m.terms[j] } else { IDLE_AT as u16 }
 }
 
 // Writes the eight terms of a move's fact.
@@ -39,10 +36,8 @@ fn enter_terms(m: Move, ts: &mut [u16])
     ensures { TermsEntered ts.old m ts.new }
 {
     let first = 8 * m.fact;
-    let mut j: usize = 0;
-    while j < 8 {
+    for j in 0..8 {
         ts[first + j] = term_of(m, j);
-        j += 1;
     }
 }
 
@@ -51,15 +46,12 @@ fn fill_tables(ms: &[u16], us: &mut [bool], ts: &mut [u16], by: &mut [u16])
     requires { Sound (moves_in ms.now) × Fresh us.old ts.old by.old }
     ensures { Entered (moves_in ms.now) (moves_in ms.now).count us.new ts.new by.new }
 {
-    let count = ms.len() / MOVE_SIZE;
-    let mut k: usize = 0;
-    while k < count {
+    for k in 0..ms.len() / MOVE_SIZE {
         let m = level::move_at(ms, k);
         let f = m.fact;
         enter_terms(m, ts);
         us[f] = true;
         by[f] = k as u16;
-        k += 1;
     }
 }
 
@@ -70,14 +62,11 @@ fn wants_value(q: Query, a: u8, v: u8) -> bool
     requires { SmallWants q }
     ensures { result ≡ wants_value q a v }
 {
-    let n = q.q;
-    let mut j: u8 = 0;
-    while j < n {
+    for j in 0..q.q {
         let w = q.wants[j as usize];
-        if (w.attr.0 == a) & sets::has(w.set, v) {
+        if w.attr.0 == a && sets::has(w.set, v) {
             return true;
         }
-        j += 1;
     }
     false
 }
@@ -88,9 +77,10 @@ fn is_wanted(q: Query, f: u8) -> bool
     ensures { result ≡ wanted_at q f }
 {
     if f < 128 {
-        return wants_value(q, f / 16, f % 16);
+        wants_value(q, f / 16, f % 16)
+    } else {
+        sets::has(q.crews, f - 128)
     }
-    sets::has(q.crews, f - 128)
 }
 
 // Writes the flags of the wanted facts.
@@ -98,45 +88,32 @@ fn wanted(q: Query, w: &mut [bool])
     requires { SmallWants q × (length w.old ≡ level_size) }
     ensures { FlagsWritten w.old 0 (wanted_at q) level_size w.new }
 {
-    let mut f: u8 = 0;
-    while f < LEVEL_SIZE as u8 {
+    for f in 0..LEVEL_SIZE as u8 {
         w[f as usize] = is_wanted(q, f);
-        f += 1;
     }
 }
 
 // ---------------------------------------------------------------- the requests
-
-// A fact as an index.
-fn wide(x: u8) -> usize
-    ensures { result ≡ x }
-{
-    x as usize
-}
 
 // Writes the requests of the first `n` facts of `order`, each by its move.
 fn write_requests(ms: &[u16], by: &[u16], order: &[u8], n: usize, person: u8, up: &mut [u8])
     requires { Ready (moves_in ms.now) by.now order.now n (length up.old) }
     ensures { asks up.new 0 n ≡ requests_of (moves_in ms.now) by.now person (take n order.now) }
 {
-    let mut i: usize = 0;
-    while i < n {
-        let f = wide(order[i]);
-        let k = level::wide(by[f]);
+    for i in 0..n {
+        let f = usize::from(order[i]);
+        let k = usize::from(by[f]);
         level::note(level::move_at(ms, k), person, i, up);
-        i += 1;
     }
 }
 
 // ---------------------------------------------------------------- the search
 
 // With the moves that add to the person: a way from the starting facts to the wanted ones, as requests in the front of `up`, or that there is none.
-fn find_by(b: Book, adds: &[u16], up: &mut [u8]) -> Found
+fn find_by(b: Book, adds: &[u16], up: &mut [u8]) -> Option<usize>
     requires { Growing (contents_of b) × (OwnMoves b.rules b.query.roles (moves_in adds.now) × (length up.old ≡ draft_size)) }
-    ensures { OwnFound (contents_of b) up.new result.found result.n }
+    ensures { OwnFound (contents_of b) up.new (is_way result) (count_of result) }
 {
-    let q = b.query;
-    let facts = b.facts;
     let crews = b.sizes.crews;
     let mut us = [false; LEVEL_SIZE];
     let mut ts = [IDLE_AT as u16; TERMS_SIZE];
@@ -145,27 +122,19 @@ fn find_by(b: Book, adds: &[u16], up: &mut [u8]) -> Found
     let mut w = [false; LEVEL_SIZE];
     let mut order = [0u8; LEVEL_SIZE];
     fill_tables(adds, &mut us, &mut ts, &mut by);
-    flags::start_flags(&facts, crews, q.person, crews, &mut x);
-    wanted(q, &mut w);
-    let r = grow::grow(&us, &ts, &mut w, &mut x, &mut order);
-    if !r.found {
-        return r;
-    }
-    write_requests(adds, &by, &order, r.n, q.person.0, up);
-    r
+    flags::start_flags(&b.facts, crews, b.query.person, crews, &mut x);
+    wanted(b.query, &mut w);
+    let n = grow::grow(&us, &ts, &mut w, &mut x, &mut order)?;
+    write_requests(adds, &by, &order, n, b.query.person.0, up);
+    Some(n)
 }
 
 // The moves out of the accepted rules, then the search among the person's facts.
-pub fn find(b: Book, up: &mut [u8]) -> Found
+pub fn find(b: Book, up: &mut [u8]) -> Option<usize>
     requires { Growing (contents_of b) × (length up.old ≡ draft_size) }
-    ensures { OwnFound (contents_of b) up.new result.found result.n }
+    ensures { OwnFound (contents_of b) up.new (is_way result) (count_of result) }
 {
-    let roles = b.query.roles;
-    let rules = b.rules;
     let mut buffer = [0u16; MOVES_SIZE];
-    let n = moves::moves_listed(rules, roles, &mut buffer);
-    let ms: &[u16] = &buffer;
-    let losses = MOVE_SIZE * n.losses;
-    let adds = MOVE_SIZE * n.adds;
-    find_by(b, &ms[losses..adds], up)
+    let sides = moves::moves_listed(b.rules, b.query.roles, &mut buffer);
+    find_by(b, sides.adds_in(&buffer), up)
 }

@@ -14,7 +14,7 @@ use Rattle.sets.proofs.SetLaws.{same_members}
 use Rattle.sizes.specs.Sizes.{is_person, is_value}
 use Rattle.frames.specs.Book.{Contents, Answer, refused, accepted}
 use Rattle.planner.proofs.PromiseLaws.{never_both}
-use Rattle.page.specs.declared.Paged.{Paged}
+use Rattle.page.specs.Page.{Paged}
 use Rattle.page.specs.Page.{Said, said, PageGiven, PageAnsweredFor, page_book, PagePromise}
 
 module _ {b : Contents} {one two : List ℕ} (g : PageGiven b one) (h : PageGiven b two) where

@@ -23,11 +23,11 @@ use Rattle.reach.specs.Inner.Leveled.{Leveled}
 use Rattle.flags.specs.Inner.Flags.{PersonTable, BadFlags}
 use Rattle.flags.proofs.FlagLaws.{start_flags}
 use Rattle.search.specs.Inner.Drive.{Driving}
-use Rattle.search.specs.Inner.Scan.{AllAllowed, Scanned}
+use Rattle.search.specs.Inner.Scan.{Scanned}
 use Rattle.search.proofs.DriveLaws.{closed_ends}
-use Rattle.search.proofs.StepLaws.{PersonEnds, starts_built, person-ends, free_serves}
+use Rattle.search.proofs.StepLaws.{PersonEnds, all_allowed, starts_built, person-ends, free_serves}
 use Rattle.words.specs.Inner.Words.{column}
-use Rattle.persons.specs.Inner.Persons.{every_fact, Begins, Ends, PersonsEnd}
+use Rattle.persons.specs.Inner.Persons.{Begins, Ends, PersonsEnd}
 use Rattle.rows.specs.Inner.Rows.{RowsShown}
 use Rattle.page.specs.Inner.Rows.{asked_nothing, roaming, Roams, CrewsSettled, PersonMoves, RowsRight}
 use Rattle.page.proofs.PageLaws.{to_roaming, roaming_leveled, roaming_free, flag-set, flag_clear}
@@ -55,14 +55,11 @@ crews_settled {b} ok roams scanned made =
       made = made;
     }
 
--- Flags that are all false forbid nothing; flags that are all true allow everything.
+-- Flags that are all false forbid nothing.
 none-set : (f : ℕ) → direct (replicate 160 false) f ≡ false
 none-set f = dite (dec_lt f 160)
     (λ (l : f < 160). direct_low (replicate 160 false) f l ∙ get_or-replicate 160 f false false l)
     (λ (h : f < 160 → ⊥). direct_high (replicate 160 false) f (omega arith))
-
-all-allowed : AllAllowed every_fact
-all-allowed = record { size = refl; at = λ f l. get_or-replicate 160 f true false l }
 
 module _ (bk : Book) (ok : Leveled (contents_of bk)) (roams : Roams (contents_of bk)) {adds : Moves}
     (mv : PersonMoves bk.rules bk.query.roles adds) {table : List Bool} (crews : CrewsSettled (contents_of bk) table)
@@ -92,7 +89,7 @@ module _ (bk : Book) (ok : Leveled (contents_of bk)) (roams : Roams (contents_of
   unfolding contents_of roaming with_query
   person_level_ends begins ends =
       let begun = starts_built (start_flags (roaming (contents_of bk) p) refl (omega arith) begins.started) begins.built in
-      person-ends (roaming (contents_of bk) p) accepted_for bk.rules refl ok.book.rules_few mv.sides served crews.made no_bad begun all-allowed
+      person-ends (roaming (contents_of bk) p) accepted_for bk.rules refl ok.book.rules_few mv.sides served crews.made no_bad begun all_allowed
       (roaming_free (contents_of bk) p) ends.grown.whole (closed_ends mv.dels none-set ends.grown.added ends.closed)
 
 -- The rows that the flags of all persons show.

@@ -17,8 +17,8 @@ use Rattle.frames.specs.Inner.Fits.{Admitted}
 use Rattle.planner.specs.Promise.{NoWay}
 use Rattle.words.specs.Inner.Words.{column}
 use Rattle.rows.specs.Inner.Rows.{bit_of, RowsShown}
-use Rattle.page.specs.declared.Paged.{Paged}
-use Rattle.page.specs.declared.Paged.TheVariants.{Refused}
+use Rattle.page.specs.Page.{Paged}
+use Rattle.std.specs.Prelude.{Err}
 use Rattle.page.specs.declared.Refusal.TheVariants.{BadBook}
 use Rattle.page.specs.Page.{done, refusal, said, asking, Reachable, PageGiven, PageAnswered, page_book, PagePromise}
 use Rattle.page.specs.Inner.Rows.{roaming, RowsRight}
@@ -81,7 +81,7 @@ module _ (b : Contents) (before : List ℕ) where
   answered_filled e given = record { other = λ h. absurd (h e); filled = λ l. (refl, given) }
 
 -- The promise, of a refused book and of an accepted one.
-pub promise_refused : (chars before : List ℕ) {r : frames.Refusal} → page_book chars ≡ refused r → PagePromise chars before (Refused (BadBook r)) before
+pub promise_refused : (chars before : List ℕ) {r : frames.Refusal} → page_book chars ≡ refused r → PagePromise chars before (Err (BadBook r)) before
 promise_refused chars before e = record { kept = rw e (refl, refl) }
 
 pub promise_accepted : (chars before : List ℕ) (answer : Paged) (out : List ℕ) {b : Contents} → page_book chars ≡ accepted b

@@ -1,14 +1,12 @@
 -- The page: for each person and value whether a plan reaches it, and every byte of the lent table. Paper 02, wish 5, "The whole depot on
 -- one page".
-use Rattle.std.specs.Prelude.{◌≡◌, true, false, ◌&&◌, List, ◌∷◌, ℕ, ◌+◌, ◌*◌, ◌<◌, length, get_or, replicate}
+use Rattle.std.specs.Prelude.{Result, Ok, Err, ◌≡◌, true, false, ◌&&◌, List, ◌∷◌, ℕ, ◌+◌, ◌*◌, ◌<◌, length, get_or, replicate}
 use Rattle.sets.specs.Sets.{put, member_at}
 use Rattle.sizes.specs.Sizes.{is_person, is_value}
 use Rattle.frames.specs.declared.Want.{Want}
 use Rattle.frames.specs.Book.{Contents, with_query, no_want, Answer, refused, accepted, book_for}
 use Rattle.frames.specs.Book as frames
 use Rattle.planner.specs.Promise.{NoWay, Works}
-use Rattle.page.specs.declared.Paged.{Paged}
-use Rattle.page.specs.declared.Paged.TheVariants.{Filled, Refused}
 use Rattle.page.specs.declared.Refusal.{Refusal}
 use Rattle.page.specs.declared.Refusal.TheVariants.{BadBook, BadTable}
 
@@ -28,9 +26,13 @@ pub data Said : Type 0 where
   done : Said
   refusal : ℕ → ℕ → Said
 
+-- The code's answer: done, or a refusal.
+abbrev pub Paged : Type 0
+Paged = Result (Unit {0}) Refusal
+
 abbrev pub said : Paged → Said
-said Filled = done
-said (Refused r) = refusal (refusal_number r) (refusal_line r)
+said (Ok _) = done
+said (Err r) = refusal (refusal_number r) (refusal_line r)
 
 -- ---------------------------------------------------------------- one query for each bit
 

@@ -15,16 +15,9 @@ ghost use Rattle.page.specs.Inner.Rows.{asked_nothing, Roams, CrewsSettled, Pers
 
 use facts::{Attr, Person};
 use frames::{Book, Query, Want};
-use widths::{DRAFT_SIZE, FLAGS_SIZE, MOVE_SIZE, MOVES_SIZE, ROWS_SIZE, TABLE_SIZE};
+use widths::{DRAFT_SIZE, FLAGS_SIZE, MOVES_SIZE, ROWS_SIZE, TABLE_SIZE};
 
 pub const PAGE_SIZE: usize = 1024;
-
-// What page answers.
-#[derive(Clone, Copy)]
-pub enum Paged {
-    Filled,
-    Refused(Refusal),
-}
 
 // The book's refusals, and 10.
 #[derive(Clone, Copy)]
@@ -33,7 +26,20 @@ pub enum Refusal {
     BadTable,
 }
 
+// A refused book is refused.
+impl From<frames::Refusal> for Refusal {
+    ghost use Rattle.std.specs.Prelude.{◌≡◌};
+    ghost use Rattle.page.specs.declared.Refusal.TheVariants.{BadBook};
+
+    ghost from_gives = { λ r e. e ≡ BadBook r };
+
+    fn from(r: frames::Refusal) -> Refusal {
+        Refusal::BadBook(r)
+    }
+}
+
 // The table's number of a refusal.
+// Kept: as `replay` and `planner` have theirs: one enum for all three would name refusals that an operation does not have.
 pub fn refusal_number(r: Refusal) -> u8
     ensures { result ≡ refusal_number r }
 {
@@ -76,17 +82,14 @@ fn crews_table(b: Book, gains: &[u16], losses: &[u16], table: &mut [bool])
     requires side_moves { SideMoves b.rules b.query.roles 3 3 4 4 (moves_in gains.now) (moves_in losses.now) × BlankTable table.old }
     ensures { CrewsSettled (contents_of b) table.new }
 {
-    let q = b.query;
-    let facts = b.facts;
-    let juniors = b.juniors;
     let mut rows = [false; ROWS_SIZE];
     let mut up = [0u8; DRAFT_SIZE];
     let mut down = [0u8; DRAFT_SIZE];
     search::settle_crews(
-        q,
+        b.query,
         b.sizes.crews,
-        &facts,
-        &juniors,
+        &b.facts,
+        &b.juniors,
         gains,
         losses,
         &mut rows,
@@ -105,7 +108,6 @@ fn fill_by(b: Book, gains: &[u16], losses: &[u16], adds: &[u16], out: &mut [u8])
     requires out_len { length out.old ≡ page_size }
     ensures { RowsRight (contents_of b) b.sizes.persons out.new }
 {
-    let facts = b.facts;
     let mut table = [false; TABLE_SIZE];
     crews_table(b, gains, losses, &mut table);
     rows::clear(out);
@@ -113,7 +115,7 @@ fn fill_by(b: Book, gains: &[u16], losses: &[u16], adds: &[u16], out: &mut [u8])
     persons::settle(
         b.sizes.persons,
         b.sizes.crews,
-        &facts,
+        &b.facts,
         adds,
         &table,
         &mut held,
@@ -127,42 +129,34 @@ fn fill(b: Book, out: &mut [u8])
     requires out_len { length out.old ≡ page_size }
     ensures { RowsRight (contents_of b) b.sizes.persons out.new }
 {
-    let roles = b.query.roles;
-    let rules = b.rules;
     let mut buffer = [0u16; MOVES_SIZE];
-    let n = moves::moves_listed(rules, roles, &mut buffer);
-    let ms: &[u16] = &buffer;
-    let gains = MOVE_SIZE * n.gains;
-    let losses = MOVE_SIZE * n.losses;
-    let adds = MOVE_SIZE * n.adds;
-    fill_by(b, &ms[..gains], &ms[gains..losses], &ms[losses..adds], out)
+    let sides = moves::moves_listed(b.rules, b.query.roles, &mut buffer);
+    fill_by(
+        b,
+        sides.gains_in(&buffer),
+        sides.losses_in(&buffer),
+        sides.adds_in(&buffer),
+        out,
+    )
 }
 
 // The page of an accepted book without "not" terms. Of its query the roles alone are used.
 #[tactic(auto, using(crate::proofs::RowLaws::answered_other))]
-fn page_in(b: Book, out: &mut [u8]) -> Paged
+fn page_in(b: Book, out: &mut [u8]) -> Result<(), Refusal>
     requires { Admitted (contents_of b) × (all_plain (contents_of b).rules ≡ true) }
     ensures { PageAnswered (contents_of b) out.old (said result) out.new }
 {
     if out.len() != PAGE_SIZE {
-        return Paged::Refused(Refusal::BadTable);
+        return Err(Refusal::BadTable);
     }
     let query = asked_nothing(1, b.query.roles);
-    let mut nothing = b;
-    nothing.query = query;
-    fill(nothing, out);
-    Paged::Filled
+    fill(Book { query, ..b }, out);
+    Ok(())
 }
 
 // Fills the table with the page of a book, given as characters.
-pub fn page(book: &[u8], out: &mut [u8]) -> Paged
+pub fn page(book: &[u8], out: &mut [u8]) -> Result<(), Refusal>
     ensures { PagePromise book.now out.old result out.new }
 {
-    let reading = frames::read_for_page(book);
-    let outcome = reading.outcome;
-    if let frames::Outcome::Refused(r) = outcome {
-        return Paged::Refused(Refusal::BadBook(r));
-    }
-    let b = reading.book;
-    page_in(b, out)
+    page_in(frames::read_for_page(book)?, out)
 }

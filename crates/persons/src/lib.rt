@@ -19,13 +19,11 @@ fn start(persons: u8, crews: u8, facts: &[u8], table: &[bool], held: &mut [u64])
     let mut first = [false; LEVEL_SIZE];
     let mut s = [false; FLAGS_SIZE];
     let mut all: u64 = 0;
-    let mut p: u8 = 0;
-    while p < persons {
+    for p in 0..persons {
         flags::start_flags(facts, crews, Person(p), crews, &mut first);
         build::build(table, &first, &mut s);
         words::put_column(&s, p, held);
-        all = all | (1u64 << p);
-        p += 1;
+        all |= 1u64 << p;
     }
     all
 }
@@ -35,16 +33,14 @@ fn meets(ms: &[u16], at: usize, all: u64, held: &[u64]) -> u64
     requires { (at + move_size ≤ length ms.now) × (Fine (move_from ms.now at) × (length held.now ≡ flags_size)) }
     ensures { Meeting (move_from ms.now at) all held.now result }
 {
-    let n = level::wide(ms[at + 1]);
+    let n = usize::from(ms[at + 1]);
     let mut who = all;
-    let mut j: usize = 0;
-    while j < n {
+    for j in 0..n {
         if who == 0 {
             return 0;
         }
-        let k = level::wide(ms[at + 6 + j]);
-        who = who & held[k];
-        j += 1;
+        let k = usize::from(ms[at + 6 + j]);
+        who &= held[k];
     }
     who
 }
@@ -55,7 +51,7 @@ fn fires(ms: &[u16], i: usize, all: u64, held: &[u64]) -> u64
     ensures { Firing (move_at (moves_in ms.now) i) all held.now result }
 {
     let at = MOVE_SIZE * i;
-    let f = level::wide(ms[at]);
+    let f = usize::from(ms[at]);
     let there = all & held[f];
     meets(ms, at, all ^ there, held)
 }
@@ -66,6 +62,7 @@ fn close(adds: &[u16], table: &[bool], all: u64, held: &mut [u64])
     ensures { AllEnd (moves_in adds.now) table.now all held.old held.new }
 {
     let count = adds.len() / MOVE_SIZE;
+    // Kept: an addition sets the count of quiet moves back, so this is no loop over a range.
     let mut quiet: usize = 0;
     let mut i: usize = 0;
     while quiet < count {
@@ -74,7 +71,7 @@ fn close(adds: &[u16], table: &[bool], all: u64, held: &mut [u64])
             quiet += 1;
             i = level::next(i, count);
         } else {
-            let f = level::wide(adds[MOVE_SIZE * i]);
+            let f = usize::from(adds[MOVE_SIZE * i]);
             spread::put_whole(table, f, who, held);
             quiet = 0;
             i = level::next(i, count);

@@ -1,2 +1,2 @@
 pub mod PrintedLaws
-pub mod FrontLaws
+pub mod FactLaws

@@ -6,21 +6,21 @@ use mathlib.Core.List.{List, ◌++◌}
 use Prim.Native.Nat.{ℕ, ◌*◌, ◌≤◌, ◌<◌}
 use native.Mathlib.Decide.{dec_lt}
 use native.Mathlib.Omega.{arith}
-use lib.ListN.{length, get_or, length-append}
+use lib.ListN.{length, get_or}
+use Rattle.std.specs.Prelude.{Some}
 use Rattle.lines.specs.Digits.{digit, character}
 use Rattle.lines.proofs.TableLaws.{digit_back}
 use Rattle.frames.specs.Book.{Contents, Answer, refused, accepted, book_of}
 use Rattle.frames.proofs.BookLaws.{book_accepted}
 use Rattle.replay.specs.Chains.{fives}
-use Rattle.planner.specs.declared.Planned.{Planned}
+use Rattle.planner.specs.Answer.{Planned}
 use Rattle.sizes.specs.Sizes.{fact_count}
 use Rattle.planner.specs.Promise.{NoWay}
 use Rattle.planner.specs.Answer.{Said, said80, said81, said8_f, said, front, Decided, AnsweredFor, PlanPromise}
 use Rattle.sizes.proofs.SizeLaws.{facts_few}
 use Rattle.planner.proofs.PromiseLaws.{never_both}
-use Rattle.answers.specs.Answers.{hex, hex_line, no_way_bytes, count_bytes, refused_bytes, request_lines, answer_text}
+use Rattle.answers.specs.Answers.{hex, hex_line, no_way_bytes, count_bytes, request_lines, answer_text}
 use Rattle.answers.specs.Inner.Written.{Written}
-use Rattle.answers.proofs.AnswerLaws.{line_long}
 use Rattle.answers.proofs.WrittenLaws.{end-within}
 use Rattle.plan.specs.Printed.{PlanPrinted, PrintedFor, Printed}
 use Rattle.plan.specs.Inner.Tried.{is_short, PrintedIfRoom}
@@ -70,24 +70,9 @@ printed_any {book} answer room =
 
 -- ---------------------------------------------------------------- what is put in the text
 
--- Nothing is put.
-pub tried_none : {book : List ℕ} (text : List ℕ) → PrintedIfRoom book text 0 text
-tried_none text = record { kept = λ e. refl; within = omega arith; printed = λ h. absurd (omega arith) }
-
--- The text of an answer is not empty.
-some_text : (s : Said) (plan : List ℕ) → 0 < length (answer_text s plan)
-some_text said80 plan = omega (arith, line_long no_way_bytes)
-some_text (said81 n) plan = omega (arith, length-append (hex_line (count_bytes n)) (request_lines (fives (front n plan))), line_long (count_bytes n))
-some_text (said8_f number line) plan = omega (arith, line_long (refused_bytes number line))
-
 pub tried_put : {book before out text after : List ℕ} {end : ℕ} (answer : Planned) → PlanPromise book before answer out → is_short (said answer) ≡ false
-    → Written text 0 (answer_text (said answer) out) after end → PrintedIfRoom book text end after
-tried_put {book} {before} {out} {text} {after} {end} answer promise not_IsShort w =
-    record {
-      kept = λ e. absurd (omega (arith, w.long, some_text (said answer) out));
-      within = end-within w;
-      printed = λ h. printed answer (long_enough answer promise not_IsShort) promise w.upto;
-    }
+    → Written text 0 (answer_text (said answer) out) after end → PrintedIfRoom book text (Some end) after
+tried_put answer promise not_IsShort w = (end-within w, printed answer (long_enough answer promise not_IsShort) promise w.upto)
 
 -- ---------------------------------------------------------------- exactly
 

@@ -25,10 +25,10 @@ use Rattle.search.specs.Inner.Drive.{starts, drafted}
 use Rattle.search.specs.Inner.Scan.{NoRun, BestWritten}
 use Rattle.sizes.specs.Sizes.{fact_count}
 use Rattle.planner.specs.Promise.{Works}
-use Rattle.planner.specs.declared.Planned.{Planned}
-use Rattle.planner.specs.declared.Planned.TheVariants.{Refused}
+use Rattle.planner.specs.Answer.{Planned}
+use Rattle.std.specs.Prelude.{Err}
 use Rattle.planner.specs.declared.Refusal.TheVariants.{BadBook}
-use Rattle.planner.specs.Answer.{front, Said, said80, said81, said8_f, said, PlanGiven, Decided, Answered, PlanPromise}
+use Rattle.planner.specs.Answer.{front, Said, said81, said8_f, said, PlanGiven, Decided, Answered, PlanPromise}
 use Rattle.planner.specs.Inner.Found.{PlanFound, PlanReply, plan_reply, given}
 use Rattle.planner.proofs.CountLaws.{plan-few}
 use Rattle.planner.proofs.PromiseLaws.{last_ledger, no_run-no_way, best-no-way, best-leads, best-works}
@@ -63,19 +63,30 @@ module _ (b : Contents) (leveled : Leveled b) {up down : List ℕ} {ups at : ℕ
       ap (carried b.facts) drafted_is ∙ run-carried b b.query.roles b.facts 1 (map bytes_of w.us ++ map bytes_of w.ds)
       (last_ledger b ok w.best) (best-leads b ok w.best).led
 
+  meets : {reached : Bool} → reached ≡ met b (holds (carried b.facts (drafted up ups down at))) → reached ≡ met b (holds (last_ledger b ok w.best))
+  meets e = e ∙ ap (λ (l : List ℕ). met b (holds l)) last_is
+
   -- That decides: where it meets the query they work, and where it does not there is no way.
   pub found_best : (found : Bool) → found ≡ met b (holds (carried b.facts (drafted up ups down at))) → PlanFound b up down found ups at
   found_best found e =
       record {
-        works = λ t. subst (Works b) (sym drafted_is) (best-works b ok w.best (sym meets ∙ t));
-        none = λ f. best-no-way b leveled w.best (sym meets ∙ f);
+        works = λ t. subst (Works b) (sym drafted_is) (best-works b ok w.best (sym (meets e) ∙ t));
+        none = λ f. best-no-way b leveled w.best (sym (meets e) ∙ f);
         few_up = w.few_up;
         most_down = w.most_down;
         few = written_few;
       }
-    where
-      meets : found ≡ met b (holds (last_ledger b ok w.best))
-      meets = e ∙ ap (λ (l : List ℕ). met b (holds l)) last_is
+
+  -- No way, and no requests.
+  pub found_not_met : false ≡ met b (holds (carried b.facts (drafted up ups down at))) → PlanFound b up down false 0 5280
+  found_not_met e =
+      record {
+        works = λ t. absurd (true≢false (sym t));
+        none = λ f. best-no-way b leveled w.best (sym (meets e));
+        few_up = omega arith;
+        most_down = omega arith;
+        few = omega arith;
+      }
 
 -- No run ends clear of the forbidden facts: nothing is found.
 pub found_none : (b : Contents) → Leveled b → {up down : List ℕ} → NoRun b → PlanFound b up down false 0 5280
@@ -135,17 +146,13 @@ drafted-length up ups down at =
     ∙ ap (λ (n : ℕ). n + length (map bytes_of (asks down at (5280 - at)))) (length-map (asks up 0 ups) bytes_of ∙ asks-length up 0 ups)
     ∙ ap (λ (n : ℕ). ups + n) (length-map (asks down at (5280 - at)) bytes_of ∙ asks-length down at (5280 - at))
 
--- No way is given, or the plan.
-pub given-none : (found : Bool) (chain : List (List ℕ)) {before : List ℕ} → found ≡ false → plan_reply said80 before ≡ given found chain before
-given-none found chain {before} e = ap (λ (t : Bool). given t chain before) (sym e)
-
-pub given-plan : (found : Bool) (up : List ℕ) (ups : ℕ) (down : List ℕ) (at : ℕ) (before : List ℕ) {out : List ℕ} {n : ℕ} → found ≡ true → n ≡ ups + (5280 - at)
+-- The plan is given.
+pub given-plan : (up : List ℕ) (ups : ℕ) (down : List ℕ) (at : ℕ) (before : List ℕ) {out : List ℕ} {n : ℕ} → n ≡ ups + (5280 - at)
     → out ≡ flat (drafted up ups down at) ++ drop (5 * (ups + (5280 - at))) before
-    → plan_reply (said81 n) out ≡ given found (drafted up ups down at) before
-given-plan found up ups down at before {out} {n} e count is =
+    → plan_reply (said81 n) out ≡ given true (drafted up ups down at) before
+given-plan up ups down at before {out} {n} count is =
     ap (λ (k : ℕ). plan_reply (said81 k) out) (count ∙ sym long)
     ∙ ap (plan_reply (said81 (length (drafted up ups down at)))) (is ∙ ap (λ (k : ℕ). flat (drafted up ups down at) ++ drop (5 * k) before) (sym long))
-    ∙ ap (λ (t : Bool). given t (drafted up ups down at) before) (sym e)
   where
     long : length (drafted up ups down at) ≡ ups + (5280 - at)
     long = drafted-length up ups down at
@@ -217,7 +224,7 @@ module _ (b : Contents) (before : List ℕ) where
   answered_long h decided = record { short = λ l. absurd (omega arith); long = λ l. decided }
 
 -- The promise, of a refused book and of an accepted one.
-pub promise_refused : (chars before : List ℕ) {r : frames.Refusal} → book_of chars ≡ refused r → PlanPromise chars before (Refused (BadBook r)) before
+pub promise_refused : (chars before : List ℕ) {r : frames.Refusal} → book_of chars ≡ refused r → PlanPromise chars before (Err (BadBook r)) before
 promise_refused chars before e = record { kept = rw e (refl, refl) }
 
 pub promise_accepted : (chars before : List ℕ) (answer : Planned) (out : List ℕ) {b : Contents} → book_of chars ≡ accepted b

@@ -9,8 +9,8 @@ use native.Mathlib.Omega.{arith}
 use lib.ListN.{length, take, length-take}
 use Rattle.frames.specs.Book.{Contents, Answer, refused, accepted, book_of}
 use Rattle.replay.proofs.ReplayLaws.{fives_short}
-use Rattle.planner.specs.declared.Planned.{Planned}
-use Rattle.planner.specs.declared.Planned.TheVariants.{Plan}
+use Rattle.planner.specs.Answer.{Planned}
+use Rattle.std.specs.Prelude.{Ok, Some}
 use Rattle.sizes.specs.Sizes.{fact_count}
 use Rattle.planner.specs.Answer.{front, Said, said80, said81, said8_f, said, PlanGiven, Decided, Answered, AnsweredFor, PlanPromise}
 use Rattle.planner.specs.Promise as promise
@@ -32,7 +32,7 @@ unfolding is_plan
 refused_other e = true≢false (sym (ap is_plan e))
 
 -- The n requests of a plan stand in the buffer.
-pub plan_room : {chars before : List ℕ} {answer : Planned} {out : List ℕ} (n : ℕ) → answer ≡ Plan n → PlanPromise chars before answer out → 5 * n ≤ length out
+pub plan_room : {chars before : List ℕ} {answer : Planned} {out : List ℕ} (n : ℕ) → answer ≡ Ok (Some n) → PlanPromise chars before answer out → 5 * n ≤ length out
 plan_room {chars} {before} {answer} {out} n e promise =
     by-book (book_of chars) (subst (λ (x : Planned). AnsweredFor (book_of chars) before (said x) out) e promise.kept)
   where

@@ -1,12 +1,10 @@
 -- The answer of plan, with every byte of the lent buffer. Paper 01, "The planner", and demand 3.
-use Rattle.std.specs.Prelude.{◌≡◌, List, ℕ, ◌*◌, ◌≤◌, ◌<◌, length, take, drop}
+use Rattle.std.specs.Prelude.{Result, Ok, Err, Option, Some, None, ◌≡◌, List, ℕ, ◌*◌, ◌≤◌, ◌<◌, length, take, drop}
 use Rattle.frames.specs.Book.{Contents, Answer, refused, accepted, book_of}
 use Rattle.frames.specs.Book as frames
 use Rattle.replay.specs.Chains.{fives}
 use Rattle.replay.specs.Replay.{judged, replay_in}
 use Rattle.replay.specs.declared.Judgement.TheVariants.{Reaches}
-use Rattle.planner.specs.declared.Planned.{Planned}
-use Rattle.planner.specs.declared.Planned.TheVariants.{NoWay, Plan, Refused}
 use Rattle.planner.specs.declared.Refusal.{Refusal}
 use Rattle.planner.specs.declared.Refusal.TheVariants.{BadBook, ShortBuffer}
 use Rattle.sizes.specs.Sizes.{fact_count}
@@ -27,10 +25,14 @@ pub data Said : Type 0 where
   said81 : ℕ → Said
   said8_f : ℕ → ℕ → Said
 
+-- The code's answer: no way, the count of the plan's requests, or a refusal.
+abbrev pub Planned : Type 0
+Planned = Result (Option ℕ) Refusal
+
 abbrev pub said : Planned → Said
-said NoWay = said80
-said (Plan n) = said81 n
-said (Refused r) = said8_f (refusal_number r) (refusal_line r)
+said (Ok None) = said80
+said (Ok (Some n)) = said81 n
+said (Err r) = said8_f (refusal_number r) (refusal_line r)
 
 -- "A plan fills its front, five bytes a request": the bytes of a plan of n requests.
 abbrev pub front : ℕ → List ℕ → List ℕ

@@ -2,12 +2,13 @@
 
 #![tactic(auto)]
 
-ghost use Rattle.std.specs.Prelude.{◌≡◌, ◌+◌, ◌-◌, ◌*◌, ◌≤◌, ◌<◌, length, drop, ◌++◌};
+ghost use Rattle.std.specs.Prelude.{Ok, ◌≡◌, ◌+◌, ◌-◌, ◌*◌, ◌≤◌, ◌<◌, length, drop, ◌++◌};
 ghost use Rattle.frames.specs.Book.{contents_of};
 ghost use Rattle.frames.specs.Inner.Fits.{Admitted};
 ghost use Rattle.facts.specs.Facts.{holds};
 ghost use Rattle.replay.specs.Met.{met};
 ghost use Rattle.reach.specs.Inner.Leveled.{Leveled};
+ghost use Rattle.level.specs.Inner.Settle.{found_of, ups_of, at_of};
 ghost use Rattle.drafts.specs.Inner.Drafts.{carried, flat};
 ghost use Rattle.planner.specs.Answer.{refusal_number, refusal_line, said, Answered, PlanPromise};
 ghost use Rattle.planner.specs.Inner.Found.{PlanFound, plan_reply, given};
@@ -15,16 +16,8 @@ ghost use Rattle.search.specs.Inner.Drive.{drafted};
 ghost use Rattle.widths.specs.Inner.Widths.{depot_size, draft_size};
 
 use frames::Book;
-use level::LevelOutcome;
+use level::Ends;
 use widths::{DEPOT_SIZE, DRAFT_SIZE};
-
-// What the planner answers: no way, the count of the plan's requests, or a refusal.
-#[derive(Clone, Copy)]
-pub enum Planned {
-    NoWay,
-    Plan(usize),
-    Refused(Refusal),
-}
 
 // The book's refusals, and 10.
 #[derive(Clone, Copy)]
@@ -33,7 +26,20 @@ pub enum Refusal {
     ShortBuffer,
 }
 
+// A refused book is refused.
+impl From<frames::Refusal> for Refusal {
+    ghost use Rattle.std.specs.Prelude.{◌≡◌};
+    ghost use Rattle.planner.specs.declared.Refusal.TheVariants.{BadBook};
+
+    ghost from_gives = { λ r e. e ≡ BadBook r };
+
+    fn from(r: frames::Refusal) -> Refusal {
+        Refusal::BadBook(r)
+    }
+}
+
 // The table's number of a refusal.
+// Kept: as `replay` and `page` have theirs: one enum for all three would name refusals that an operation does not have.
 pub fn refusal_number(r: Refusal) -> u8
     ensures { result ≡ refusal_number r }
 {
@@ -67,49 +73,33 @@ fn is_reached(b: Book, up: &[u8], ups: usize, down: &[u8], at: usize) -> bool
 }
 
 // The requests of the best plan, found where they lead to a ledger that meets the query; none else.
-fn best_plan(b: Book, up: &mut [u8], down: &mut [u8]) -> LevelOutcome
+fn best_plan(b: Book, up: &mut [u8], down: &mut [u8]) -> Option<Ends>
     requires leveled { Leveled (contents_of b) }
     requires up_len { (length up.old ≡ draft_size) × (length down.old ≡ draft_size) }
-    ensures { PlanFound (contents_of b) up.new down.new result.found result.ups result.at }
+    ensures { PlanFound (contents_of b) up.new down.new (found_of result) (ups_of result) (at_of result) }
 {
-    let r = search::search(b, up, down);
-    if !r.found {
-        return LevelOutcome {
-            found: false,
-            ups: 0,
-            at: DEPOT_SIZE,
-        };
-    }
-    let found = is_reached(b, up, r.ups, down, r.at);
-    LevelOutcome {
-        found,
-        ups: r.ups,
-        at: r.at,
+    let e = search::search(b, up, down)?;
+    if is_reached(b, up, e.ups, down, e.at) {
+        Some(e)
+    } else {
+        None
     }
 }
 
 // The requests of a plan, by the query's mode: a book of mode 03 only grows, and any other is planned by levels.
-fn find_plan(b: Book, up: &mut [u8], down: &mut [u8]) -> LevelOutcome
+fn find_plan(b: Book, up: &mut [u8], down: &mut [u8]) -> Option<Ends>
     requires admitted { Admitted (contents_of b) }
     requires up_len { (length up.old ≡ draft_size) × (length down.old ≡ draft_size) }
-    ensures { PlanFound (contents_of b) up.new down.new result.found result.ups result.at }
+    ensures { PlanFound (contents_of b) up.new down.new (found_of result) (ups_of result) (at_of result) }
 {
-    let mode = b.query.mode;
-    if mode != 3 {
-        return best_plan(b, up, down);
-    }
-    let r = own::find(b, up);
-    if !r.found {
-        return LevelOutcome {
-            found: false,
-            ups: 0,
+    if b.query.mode != 3 {
+        best_plan(b, up, down)
+    } else {
+        let ups = own::find(b, up)?;
+        Some(Ends {
+            ups,
             at: DEPOT_SIZE,
-        };
-    }
-    LevelOutcome {
-        found: true,
-        ups: r.n,
-        at: DEPOT_SIZE,
+        })
     }
 }
 
@@ -127,43 +117,33 @@ fn write_plan(up: &[u8], ups: usize, down: &[u8], at: usize, out: &mut [u8]) -> 
 }
 
 // The answer to what was found: no way, or the plan in the front of the caller's buffer.
-fn give(found: bool, up: &[u8], ups: usize, down: &[u8], at: usize, out: &mut [u8]) -> Planned
-    requires ups_le_depot_size { (ups ≤ depot_size) × ((at ≤ depot_size) × (5 * (ups + (depot_size - at)) ≤ length out.old)) }
+fn give(found: Option<Ends>, up: &[u8], down: &[u8], out: &mut [u8]) -> Option<usize>
+    requires ups_le_depot_size { (ups_of found ≤ depot_size) × ((at_of found ≤ depot_size) × (5 * (ups_of found + (depot_size - at_of found)) ≤ length out.old)) }
     requires up_len { (length up.now ≡ draft_size) × (length down.now ≡ draft_size) }
-    ensures { plan_reply (said result) out.new ≡ given found (drafted up.now ups down.now at) out.old }
+    ensures { plan_reply (said (Ok result)) out.new ≡ given (found_of found) (drafted up.now (ups_of found) down.now (at_of found)) out.old }
 {
-    if !found {
-        return Planned::NoWay;
-    }
-    let n = write_plan(up, ups, down, at, out);
-    Planned::Plan(n)
+    let e = found?;
+    Some(write_plan(up, e.ups, down, e.at, out))
 }
 
 // Plans an accepted book.
-fn plan_in(b: Book, out: &mut [u8]) -> Planned
+fn plan_in(b: Book, out: &mut [u8]) -> Result<Option<usize>, Refusal>
     requires { Admitted (contents_of b) }
     ensures { Answered (contents_of b) out.old (said result) out.new }
 {
-    let z = b.sizes;
-    let f = sizes::fact_count(z);
+    let f = sizes::fact_count(b.sizes);
     if out.len() < 10 * f {
-        return Planned::Refused(Refusal::ShortBuffer);
+        return Err(Refusal::ShortBuffer);
     }
     let mut up = [0u8; DRAFT_SIZE];
     let mut down = [0u8; DRAFT_SIZE];
-    let r = find_plan(b, &mut up, &mut down);
-    give(r.found, &up, r.ups, &down, r.at, out)
+    let found = find_plan(b, &mut up, &mut down);
+    Ok(give(found, &up, &down, out))
 }
 
-// Plans the query of a book, given as characters: no way, or a plan in the front of `out`.
-pub fn plan(book: &[u8], out: &mut [u8]) -> Planned
+// Plans the query of a book, given as characters: no way, `None`, or a plan of so many requests in the front of `out`.
+pub fn plan(book: &[u8], out: &mut [u8]) -> Result<Option<usize>, Refusal>
     ensures { PlanPromise book.now out.old result out.new }
 {
-    let reading = frames::read(book);
-    let outcome = reading.outcome;
-    if let frames::Outcome::Refused(r) = outcome {
-        return Planned::Refused(Refusal::BadBook(r));
-    }
-    let b = reading.book;
-    plan_in(b, out)
+    plan_in(frames::read(book)?, out)
 }

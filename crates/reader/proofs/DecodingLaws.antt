@@ -1,6 +1,8 @@
 -- The frame of a line: its bytes written one after the other, until a character is no digit.
+use Rattle.std.specs.Prelude.{Option, None, Some}
+use Rattle.std.specs.List.{list_all}
 use mathlib.Core.Path.{◌≡◌, refl, ap, sym, subst, ◌∙◌}
-use mathlib.Core.Bool.{true, false, not, true≢false}
+use mathlib.Core.Bool.{Bool, true, false, not, ◌&&◌, true≢false}
 use mathlib.Core.List.{List, [], ◌∷◌, ◌++◌, append_assoc, append-nil}
 use Prim.Native.Nat.{ℕ, ◌+◌, ◌*◌, ◌/◌, ◌%◌, ◌≤◌, ◌<◌}
 use native.Mathlib.Numerals.{add-one}
@@ -17,14 +19,17 @@ use Rattle.lines.proofs.DigitLaws.{digit_yes, digit_no, digit_here, malformed_ev
 use Rattle.lines.proofs.FrameLaws.{frame_step, frame_end, frame_length, frame_front}
 use Rattle.lines.proofs.LineLaws.{end-within, end_beyond, end_found, end_at}
 use Rattle.reader.specs.declared.Frame.{Frame}
-use Rattle.reader.specs.declared.Frame.TheVariants.{Malformed, Bytes, Long}
+use Rattle.reader.specs.declared.Frame.TheVariants.{Bytes, Long}
 use Rattle.reader.specs.Inner.Decoding.{InFront, FrontOnly, DecodedAs, Decoded}
 use Rattle.reader.specs.Inner.Front.{first_line, Begun}
 
--- No byte is written yet; one more is, by two digits; all are.
-pub begun_none : (x before : List ℕ) → Begun x before 0 before
-begun_none x before = record { within = omega arith; fits = omega arith; size = refl; left = refl; judged = refl }
+-- All of a list pass a test, in the words of std and in those of the paper's definitions.
+pub all_list : {A : Type 0} (p : A → Bool) (xs : List A) → list_all p xs ≡ all p xs
+unfolding all
+all_list p [] = refl
+all_list p (x ∷ xs) = ap (λ (b : Bool). p x && b) (all_list p xs)
 
+-- One byte more is written, by two digits; all are.
 module _ (x before : List ℕ) (k : ℕ) (now : List ℕ) (b : Begun x before k now) where
   pub begun_more : (high low : ℕ) → 2 * k + 1 < length x → high ≡ digit (get_or x (2 * k) 0) → high < 16
       → low ≡ digit (get_or x (2 * k + 1) 0) → low < 16 → k < length now → Begun x before (k + 1) (set now k (high * 16 + low))
@@ -44,7 +49,7 @@ module _ (x before : List ℕ) (k : ℕ) (now : List ℕ) (b : Begun x before k 
             ∙ rest_pass is_digit x (2 * k + 1) 0 both (digit_yes x (2 * k + 1) low also fair) ∙ ap (λ (n : ℕ). all is_digit (drop n x)) on;
       }
 
-  pub begun_all : (length x ≡ 0 → ⊥) → (length x % 2 ≡ 1 → ⊥) → length x ≤ 2 * k → Decoded x (Bytes k) before now
+  pub begun_all : (length x ≡ 0 → ⊥) → (length x % 2 ≡ 1 → ⊥) → length x ≤ 2 * k → Decoded x (Some (Bytes k)) before now
   begun_all some even h =
       let rest = frame_end x k h in
       record {
@@ -61,25 +66,22 @@ pub record Decoding (x before : List ℕ) (k : ℕ) (now : List ℕ) : Type 0 wh
   pub even : length x % 2 ≡ 1 → ⊥
   pub begun : Begun x before k now
 
-pub decode_none : (x before : List ℕ) → (length x ≡ 0 → ⊥) → (length x % 2 ≡ 1 → ⊥) → Decoding x before 0 before
-decode_none x before some even = record { some = some; even = even; begun = begun_none x before }
-
 module _ (x before : List ℕ) (k : ℕ) (now : List ℕ) (inv : Decoding x before k now) where
   judged : malformed x ≡ not (all is_digit (drop (2 * k) x))
   judged = malformed_even x inv.some inv.even ∙ ap not inv.begun.judged
 
-  pub decode_all : length x ≤ 2 * k → Decoded x (Bytes k) before now
+  pub decode_all : length x ≤ 2 * k → Decoded x (Some (Bytes k)) before now
   decode_all = begun_all x before k now inv.begun inv.some inv.even
 
   module _ (h : 2 * k < length x) (high : ℕ) (is : high ≡ digit (get_or x (2 * k) 0)) where
-    pub decode-high : 16 ≤ high → Decoded x Malformed before now
+    pub decode-high : 16 ≤ high → Decoded x None before now
     decode-high s = record { written = judged ∙ ap not (rest_fail is_digit x (2 * k) 0 h (digit_no x (2 * k) high is s)); size = inv.begun.size }
 
     module _ (good : high < 16) (low : ℕ) (also : low ≡ digit (get_or x (2 * k + 1) 0)) where
       both : 2 * k + 1 < length x
       both = omega (arith, inv.even)
 
-      pub decode-low : 16 ≤ low → Decoded x Malformed before now
+      pub decode-low : 16 ≤ low → Decoded x None before now
       decode-low s =
           let past = rest_pass is_digit x (2 * k) 0 h (digit_yes x (2 * k) high is good) in
           let ill = rest_fail is_digit x (2 * k + 1) 0 both (digit_no x (2 * k + 1) low also s) in
@@ -93,8 +95,8 @@ module _ (x before : List ℕ) (k : ℕ) (now : List ℕ) (inv : Decoding x befo
 -- ---------------------------------------------------------------- the front of a long frame
 
 -- A line of over 128 digits, of which the first 128 are decoded.
-module _ (x before : List ℕ) (r : Frame) (after : List ℕ) (long : 128 < length x) (even : length x % 2 ≡ 1 → ⊥) (digits : all is_digit x ≡ true) where
-  pub long_written : Decoded (take 128 x) r before after → Decoded x (Long (length x / 2)) before after
+module _ (x before : List ℕ) (r : Option Frame) (after : List ℕ) (long : 128 < length x) (even : length x % 2 ≡ 1 → ⊥) (digits : all is_digit x ≡ true) where
+  pub long_written : Decoded (take 128 x) r before after → Decoded x (Some (Long (length x / 2))) before after
   long_written d =
       record {
         written = (
@@ -110,13 +112,13 @@ module _ (x before : List ℕ) (r : Frame) (after : List ℕ) (long : 128 < leng
       front-well : malformed (take 128 x) ≡ false
       front-well = malformed_even (take 128 x) (λ z. omega (arith, cut)) (λ z. omega (arith, cut)) ∙ ap not (all_take is_digit x 128 digits)
 
-      by_answer : (w : Frame) → DecodedAs (take 128 x) w after → take 64 after ≡ take 64 (frame_of x)
-      by_answer Malformed ill = absurd (true≢false (sym ill ∙ front-well))
-      by_answer (Bytes n) w =
+      by_answer : (w : Option Frame) → DecodedAs (take 128 x) w after → take 64 after ≡ take 64 (frame_of x)
+      by_answer None ill = absurd (true≢false (sym ill ∙ front-well))
+      by_answer (Some (Bytes n)) w =
           let same : take n after ≡ take 64 (frame_of x) = w.1.front ∙ frame_front 64 x (omega arith) in
           let n64 : n ≡ 64 = sym (length-take-le n after w.1.fits) ∙ ap length same ∙ length-take-le 64 (frame_of x) (omega (arith, frame_length x)) in
           subst (λ (i : ℕ). take i after ≡ take 64 (frame_of x)) n64 same
-      by_answer (Long n) w = absurd (omega (arith, cut, w.1.over, w.1.count, frame_length (take 128 x)))
+      by_answer (Some (Long n)) w = absurd (omega (arith, cut, w.1.over, w.1.count, frame_length (take 128 x)))
 
 -- The first line of x, decoded through a table: the next two characters are digits, so that neither ends the line.
 module _ (x table before : List ℕ) (k : ℕ) (now : List ℕ) (t : Tabled table) (b : Begun (first_line x) before k now) where
@@ -142,19 +144,19 @@ module _ (x before : List ℕ) (k : ℕ) (now : List ℕ) (b : Begun (first_line
   pub front_ends : to_end x ≡ 2 * k
   front_ends = front-end.1
 
-  pub front-written : Decoded (take (2 * k) x) (Bytes k) before now
+  pub front-written : Decoded (take (2 * k) x) (Some (Bytes k)) before now
   front-written =
       let size : length (first_line x) ≡ to_end x = length-take-le (to_end x) x (end-within x) in
-      subst (λ (n : ℕ). Decoded (take n x) (Bytes k) before now) front_ends
+      subst (λ (n : ℕ). Decoded (take n x) (Some (Bytes k)) before now) front_ends
       (begun_all (first_line x) before k now b (λ z. omega (arith, front-end)) (λ z. omega (arith, front-end)) (omega (arith, front-end)))
 
 -- What an answer tells of the line.
-module _ {x : List ℕ} {r : Frame} {before after : List ℕ} (d : Decoded x r before after) where
-  pub decoded_frame : {n : ℕ} → r ≡ Bytes n → (malformed x ≡ false) × InFront x n after
-  decoded_frame {n} e = subst (λ (w : Frame). DecodedAs x w after) e d.written
+module _ {x : List ℕ} {r : Option Frame} {before after : List ℕ} (d : Decoded x r before after) where
+  pub decoded_frame : {n : ℕ} → r ≡ Some (Bytes n) → (malformed x ≡ false) × InFront x n after
+  decoded_frame {n} e = subst (λ (w : Option Frame). DecodedAs x w after) e d.written
 
-  pub decoded_long : {n : ℕ} → r ≡ Long n → (malformed x ≡ false) × FrontOnly x n after
-  decoded_long {n} e = subst (λ (w : Frame). DecodedAs x w after) e d.written
+  pub decoded_long : {n : ℕ} → r ≡ Some (Long n) → (malformed x ≡ false) × FrontOnly x n after
+  decoded_long {n} e = subst (λ (w : Option Frame). DecodedAs x w after) e d.written
 
-  pub decoded_malformed : r ≡ Malformed → malformed x ≡ true
-  decoded_malformed e = subst (λ (w : Frame). DecodedAs x w after) e d.written
+  pub decoded_malformed : r ≡ None → malformed x ≡ true
+  decoded_malformed e = subst (λ (w : Option Frame). DecodedAs x w after) e d.written

@@ -1,4 +1,5 @@
 -- A line read in one pass or in two, and what is known of the line where a frame was read at a cursor.
+use Rattle.std.specs.Prelude.{Option, None, Some}
 use mathlib.Core.Path.{◌≡◌, sym, ap, subst, ◌∙◌}
 use mathlib.Core.Bool.{true, false}
 use mathlib.Core.List.{List}
@@ -15,7 +16,7 @@ use Rattle.reader.specs.Inner.Front.{first_line, Begun}
 use Rattle.lines.specs.Inner.Cursors.{is_end}
 use Rattle.lines.specs.declared.Cursor.{Cursor}
 use Rattle.reader.specs.declared.Frame.{Frame}
-use Rattle.reader.specs.declared.Frame.TheVariants.{Malformed, Bytes, Long}
+use Rattle.reader.specs.declared.Frame.TheVariants.{Bytes, Long}
 use Rattle.reader.proofs.DecodingLaws.{decoded_frame, decoded_long, decoded_malformed, front_ends, front-written}
 use Rattle.lines.proofs.LineLaws.{end_at}
 use Rattle.reader.specs.declared.Line.{Line}
@@ -32,15 +33,15 @@ module _ (book : List ℕ) (at : ℕ) (x : List ℕ) (is : x ≡ drop at book)
   pub front_inside : at + 2 * k < length book
   front_inside = omega (arith, end_at x (2 * k) e, ap length is, length-drop at book)
 
-  pub front_read : LineRead book at before (record { frame = Bytes k; end = at + 2 * k }) after
+  pub front_read : LineRead book at before (record { frame = Some (Bytes k); end = at + 2 * k }) after
   front_read =
       let size : to_end x ≡ 2 * k = front_ends x before k after b e in
       let same : 2 * k ≡ at + 2 * k - at = omega arith in
       record {
         ends = ap (λ (n : ℕ). at + n) (sym size ∙ ap to_end is);
         unended = λ h. absurd (omega (arith, h, front_inside));
-        ended = λ h. subst (λ (n : ℕ). Decoded (take n (drop at book)) (Bytes k) before after) same
-            (subst (λ (w : List ℕ). Decoded (take (2 * k) w) (Bytes k) before after) is (front-written x before k after b e));
+        ended = λ h. subst (λ (n : ℕ). Decoded (take n (drop at book)) (Some (Bytes k)) before after) same
+            (subst (λ (w : List ℕ). Decoded (take (2 * k) w) (Some (Bytes k)) before after) is (front-written x before k after b e));
       }
 
 -- A line read into a buffer that holds something already.
@@ -53,10 +54,9 @@ read_over book at before between l after same p =
       ended = λ h. record { written = (p.ended h).written; size = (p.ended h).size ∙ same };
     }
 
-abbrev HasFrame : Frame → Type 0
-HasFrame Malformed = ⊥
-HasFrame (Bytes n) = Unit
-HasFrame (Long n) = Unit
+abbrev HasFrame : Option Frame → Type 0
+HasFrame None = ⊥
+HasFrame (Some f) = Unit
 
 module _ {book : List ℕ} {c : Cursor} {before : List ℕ} {r : Read} {after : List ℕ} (p : FrameRead book c before r after) where
   -- Where the line ends, and its characters.
@@ -75,11 +75,11 @@ module _ {book : List ℕ} {c : Cursor} {before : List ℕ} {r : Read} {after : 
   read_ended f = dite (dec_lt end (length book)) (λ (h : end < length book). h)
       (λ (h : end < length book → ⊥). absurd (subst HasFrame (p.line.unended (omega (arith, h))).0 f))
 
-  pub read_bytes : {n : ℕ} → r.frame ≡ Bytes n → (end < length book) × ((malformed line ≡ false) × InFront line n after)
+  pub read_bytes : {n : ℕ} → r.frame ≡ Some (Bytes n) → (end < length book) × ((malformed line ≡ false) × InFront line n after)
   read_bytes e = let h = read_ended (subst HasFrame (sym e) tt) in (h, decoded_frame (p.line.ended h) e)
 
-  pub read_long : {n : ℕ} → r.frame ≡ Long n → (end < length book) × ((malformed line ≡ false) × FrontOnly line n after)
+  pub read_long : {n : ℕ} → r.frame ≡ Some (Long n) → (end < length book) × ((malformed line ≡ false) × FrontOnly line n after)
   read_long e = let h = read_ended (subst HasFrame (sym e) tt) in (h, decoded_long (p.line.ended h) e)
 
-  pub read_malformed : r.frame ≡ Malformed → end < length book → malformed line ≡ true
+  pub read_malformed : r.frame ≡ None → end < length book → malformed line ≡ true
   read_malformed e h = decoded_malformed (p.line.ended h) e

@@ -12,133 +12,95 @@ ghost use Rattle.reader.specs.Inner.Reading.{LineRead, FrameRead};
 
 use lines::Cursor;
 
-// What an ended line writes: nothing, by refusal 2; a frame of so many bytes; or one of over 64, of which only the first 64 are kept.
+// The frame that an ended line writes: of so many bytes, or of over 64, of which only the first 64 are kept. A line that writes none is
+// malformed: refusal 2.
 #[derive(Clone, Copy)]
 pub enum Frame {
-    Malformed,
     Bytes(usize),
     Long(usize),
 }
 
 // Writes the line's frame to the front of `frame`, unless the line is empty, has an odd number of digits, or another character.
-fn decode_short(x: &[u8], frame: &mut [u8]) -> Frame
+fn decode_short(x: &[u8], frame: &mut [u8]) -> Option<Frame>
     requires { (length x.now ≤ 65536) × (length x.now ≤ 2 * length frame.old) }
     ensures { Decoded x.now result frame.old frame.new }
 {
-    if x.len() == 0 {
-        return Frame::Malformed;
+    if x.is_empty() || x.len() % 2 == 1 {
+        return None;
     }
-    if x.len() % 2 == 1 {
-        return Frame::Malformed;
-    }
-    let mut k: usize = 0;
-    while 2 * k < x.len() {
+    let n = x.len() / 2;
+    for k in 0..n {
         let high = lines::digit_of(x[2 * k]);
         let low = lines::digit_of(x[2 * k + 1]);
-        if high >= 16 {
-            return Frame::Malformed;
-        }
-        if low >= 16 {
-            return Frame::Malformed;
+        if high >= 16 || low >= 16 {
+            return None;
         }
         frame[k] = high * 16 + low;
-        k += 1;
     }
-    Frame::Bytes(k)
+    Some(Frame::Bytes(n))
 }
 
 // Whether all characters are digits.
 fn are_digits(x: &[u8]) -> bool
     ensures { result ≡ all is_digit x.now }
 {
-    let mut i: usize = 0;
-    while i < x.len() {
-        let d = lines::digit_of(x[i]);
-        if d >= 16 {
-            return false;
-        }
-        i += 1;
-    }
-    true
+    x.iter().all(|c| lines::digit_of(*c) < 16)
 }
 
 // Of a line of over 128 characters only the first 64 bytes are written: no good frame is as long, and they tell which refusal is due.
-fn decode_long(x: &[u8], frame: &mut [u8]) -> Frame
+fn decode_long(x: &[u8], frame: &mut [u8]) -> Option<Frame>
     requires { (128 < length x.now) × (length frame.old ≡ 64) }
     ensures { Decoded x.now result frame.old frame.new }
 {
-    if x.len() % 2 == 1 {
-        return Frame::Malformed;
+    if x.len() % 2 == 1 || !are_digits(x) {
+        return None;
     }
-    if !are_digits(x) {
-        return Frame::Malformed;
-    }
-    let front = &x[..128];
-    decode_short(front, frame);
-    Frame::Long(x.len() / 2)
+    decode_short(&x[..128], frame);
+    Some(Frame::Long(x.len() / 2))
 }
 
 // Writes the line's frame, or the first 64 bytes of a longer one, to a buffer of 64 bytes, unless the line is malformed.
-fn decode(x: &[u8], frame: &mut [u8]) -> Frame
+fn decode(x: &[u8], frame: &mut [u8]) -> Option<Frame>
     requires { length frame.old ≡ 64 }
     ensures { Decoded x.now result frame.old frame.new }
 {
-    if 128 < x.len() {
-        return decode_long(x, frame);
+    if x.len() > 128 {
+        decode_long(x, frame)
+    } else {
+        decode_short(x, frame)
     }
-    decode_short(x, frame)
 }
 
-// A character as a place in the table.
-fn wide(c: u8) -> usize
-    ensures { (result ≡ c) × (result < 256) }
-{
-    c as usize
-}
-
-// The smaller of two numbers.
-fn least(a: usize, b: usize) -> usize
-    ensures { (result ≤ a) × (result ≤ b) }
-{
-    if a < b {
-        return a;
-    }
-    b
-}
-
+// Kept: beside `decode_short`: one pass over a good line of a book, by the table and up to 64 bytes; that one serves any other line, and says
+// that it is malformed.
 // Writes the bytes of the first line of `x` to the front of `frame`, until a character is no digit or 64 are written. Returns how many.
 fn decode_front(x: &[u8], digits: &[u8], frame: &mut [u8]) -> usize
     requires { Tabled digits.now × (64 ≤ length frame.old) }
     ensures { Begun (first_line x.now) frame.old result frame.new }
 {
-    let most = least(x.len() / 2, 64);
-    let mut k: usize = 0;
-    while k < most {
-        let high = digits[wide(x[2 * k])];
-        let low = digits[wide(x[2 * k + 1])];
-        if 16 <= high {
-            return k;
-        }
-        if 16 <= low {
+    let most = (x.len() / 2).min(64);
+    for k in 0..most {
+        let high = digits[usize::from(x[2 * k])];
+        let low = digits[usize::from(x[2 * k + 1])];
+        if high >= 16 || low >= 16 {
             return k;
         }
         frame[k] = high * 16 + low;
-        k += 1;
     }
-    k
+    most
 }
 
-// What a line gives: its frame, and the place of its end.
+// What a line gives: its frame, unless it is malformed, and the place of its end.
 #[derive(Clone, Copy)]
 pub struct Line {
-    pub frame: Frame,
+    pub frame: Option<Frame>,
     pub end: usize,
 }
 
 // What is read at a cursor: the frame of the line there, and the cursor of the line behind it.
 #[derive(Clone, Copy)]
 pub struct Read {
-    pub frame: Frame,
+    pub frame: Option<Frame>,
     pub next: Cursor,
 }
 
@@ -149,22 +111,19 @@ fn any_line_at(book: &[u8], at: usize, frame: &mut [u8]) -> Line
 {
     let end = lines::line_end(book, at);
     if book.len() <= end {
-        return Line {
-            frame: Frame::Malformed,
-            end,
-        };
+        return Line { frame: None, end };
     }
-    let x = &book[at..end];
-    let decoded = decode(x, frame);
     Line {
-        frame: decoded,
+        frame: decode(&book[at..end], frame),
         end,
     }
 }
 
 // The line that starts at `at`; its frame is written to the front of `frame`. One pass serves an ended line of up to 64 bytes; any
 // other is read anew, in two.
-fn line_at<'a>(book: &'a [u8], at: usize, digits: &'a [u8], frame: &mut [u8]) -> Line
+// Kept: `Tabled` as a clause here and below, not a type: docs/PROMISES.md names `reader::current` and `read_frame`, so their parameters may
+// not change, and a type made from their slice would be a copy of 256 bytes a line.
+fn line_at(book: &[u8], at: usize, digits: &[u8], frame: &mut [u8]) -> Line
     requires { (at ≤ length book.now) × ((length book.now ≤ 65536) × ((length frame.old ≡ 64) × Tabled digits.now)) }
     ensures { LineRead book.now at frame.old result frame.new }
 {
@@ -173,19 +132,11 @@ fn line_at<'a>(book: &'a [u8], at: usize, digits: &'a [u8], frame: &mut [u8]) ->
     let n = 2 * k;
     if lines::is_end(x, n) {
         return Line {
-            frame: Frame::Bytes(k),
+            frame: Some(Frame::Bytes(k)),
             end: at + n,
         };
     }
     any_line_at(book, at, frame)
-}
-
-// A line's frame, with the cursor of the line behind it.
-fn read_of(line: Line, next: Cursor) -> Read
-    ensures { (result.frame ≡ line.frame) × (result.next ≡ next) }
-{
-    let frame = line.frame;
-    Read { frame, next }
 }
 
 // A book with the place at which a line of it starts, and that line's number.
@@ -196,52 +147,54 @@ pub struct Reader<'a> {
     pub line: usize,
 }
 
-// The reader of a book at a cursor.
-pub fn new<'a>(book: &'a [u8], c: Cursor) -> Reader<'a>
-    ensures { (result.book ≡ book.entry) × ((result.at ≡ c.at) × (result.line ≡ c.line)) }
-{
-    Reader {
-        book,
-        at: c.at,
-        line: c.line,
+impl<'a> Reader<'a> {
+    // The reader of a book at a cursor.
+    pub fn new(book: &'a [u8], c: Cursor) -> Reader<'a>
+        ensures { (result.book ≡ book.entry) × ((result.at ≡ c.at) × (result.line ≡ c.line)) }
+    {
+        Reader {
+            book,
+            at: c.at,
+            line: c.line,
+        }
+    }
+
+    // Where it stands.
+    pub fn place(self) -> Cursor
+        ensures { (result.at ≡ self.entry.at) × (result.line ≡ self.entry.line) }
+    {
+        Cursor {
+            at: self.at,
+            line: self.line,
+        }
+    }
+
+    // The line there; its frame is written to the front of `frame`.
+    pub fn current(self, digits: &[u8], frame: &mut [u8]) -> Line
+        requires { (self.at ≤ length self.book.now) × ((length self.book.now ≤ 65536) × ((length frame.old ≡ 64) × Tabled digits.now)) }
+        ensures { LineRead self.entry.book.now self.entry.at frame.old result frame.new }
+    {
+        line_at(self.book, self.at, digits, frame)
+    }
+
+    // The reader behind the line that ends at `end`.
+    pub fn next(self, end: usize) -> Reader<'a>
+        requires { (end ≤ 65536) × (self.line ≤ 65536) }
+        ensures { (result.book ≡ self.entry.book) × ((result.at ≡ end + 1) × (result.line ≡ self.entry.line + 1)) }
+    {
+        Reader::new(self.book, lines::following_line(self.place(), end))
     }
 }
 
-// Where it stands.
-pub fn place<'a>(r: Reader<'a>) -> Cursor
-    ensures { (result.at ≡ r.entry.at) × (result.line ≡ r.entry.line) }
-{
-    Cursor {
-        at: r.at,
-        line: r.line,
-    }
-}
-
-// The line there; its frame is written to the front of `frame`.
-pub fn current<'a>(r: Reader<'a>, digits: &'a [u8], frame: &mut [u8]) -> Line
-    requires { (r.at ≤ length r.book.now) × ((length r.book.now ≤ 65536) × ((length frame.old ≡ 64) × Tabled digits.now)) }
-    ensures { LineRead r.entry.book.now r.entry.at frame.old result frame.new }
-{
-    line_at(r.book, r.at, digits, frame)
-}
-
-// The reader behind the line that ends at `end`.
-pub fn next<'a>(r: Reader<'a>, end: usize) -> Reader<'a>
-    requires { (end ≤ 65536) × (r.line ≤ 65536) }
-    ensures { (result.book ≡ r.entry.book) × ((result.at ≡ end + 1) × (result.line ≡ r.entry.line + 1)) }
-{
-    let c = lines::following_line(place(r), end);
-    new(r.book, c)
-}
-
-// The frame at a cursor, and the cursor of the line behind it: plain parameters, so that no caller needs a walk.
-pub fn read_frame<'a>(book: &'a [u8], c: Cursor, digits: &'a [u8], frame: &mut [u8]) -> Read
+// The frame at a cursor, and the cursor of the line behind it.
+pub fn read_frame(book: &[u8], c: Cursor, digits: &[u8], frame: &mut [u8]) -> Read
     requires { (c.at ≤ length book.now) × ((length book.now ≤ 65536) × ((length frame.old ≡ 64) × (Tabled digits.now × (c.line ≤ 65536)))) }
     ensures { FrameRead book.now c frame.old result frame.new }
 {
-    let r = new(book, c);
-    let line = current(r, digits, frame);
-    let q = next(r, line.end);
-    let behind = place(q);
-    read_of(line, behind)
+    let reader = Reader::new(book, c);
+    let line = reader.current(digits, frame);
+    Read {
+        frame: line.frame,
+        next: reader.next(line.end).place(),
+    }
 }

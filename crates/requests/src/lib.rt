@@ -11,6 +11,7 @@ ghost use Rattle.requests.specs.Suitable.{room_of, value_set_good, member_set_go
 use facts::{Attr, CREWS_AT, Crew, Fact, LEDGER_SIZE, MEMBERS_AT, Person, Role};
 
 // A request: its op, the administrator's role, and the fact that it sets or clears.
+// Kept: the op is a number and no enum: `request_of` of specs/Requests gives it as it is written, whatever it is.
 #[derive(Clone, Copy)]
 pub struct Request {
     pub op: u8,
@@ -36,141 +37,134 @@ pub fn is_adding(op: u8) -> bool
 fn field_at(q: &[u8], i: usize) -> u8
     ensures { result ≡ get_or q.now i 0 }
 {
-    if i < q.len() {
-        return q[i];
-    }
-    0
+    q.get(i).copied().unwrap_or(0)
 }
 
 // The fact that an op with its subject, a and v aims at.
+#[tactic(auto, unfolding(crate::specs::Requests::aimed))]
 fn aimed_fact(op: u8, s: u8, a: u8, v: u8) -> Fact
     ensures { result ≡ aimed op s a v }
 {
-    if op <= 2 {
-        return Fact::Holds(Person(s), Attr(a), v);
+    match op {
+        0..=2 => Fact::Holds(Person(s), Attr(a), v),
+        3..=4 => Fact::CrewHolds(Crew(s), Attr(a), v),
+        _ => Fact::Member(Person(s), Crew(a)),
     }
-    if op <= 4 {
-        return Fact::CrewHolds(Crew(s), Attr(a), v);
-    }
-    Fact::Member(Person(s), Crew(a))
 }
 
 // The request that five bytes write.
+#[tactic(auto, unfolding(crate::specs::Requests::request_of))]
 pub fn request_of(q: &[u8]) -> Request
     ensures { result ≡ request_of q.now }
 {
     let op = field_at(q, 0);
-    let role = field_at(q, 1);
-    let s = field_at(q, 2);
-    let a = field_at(q, 3);
-    let v = field_at(q, 4);
-    let fact = aimed_fact(op, s, a, v);
     Request {
         op,
-        role: Role(role),
-        fact,
+        role: Role(field_at(q, 1)),
+        fact: aimed_fact(op, field_at(q, 2), field_at(q, 3), field_at(q, 4)),
     }
 }
 
 // Whether a request's fields are in their ranges.
+#[tactic(auto, unfolding(crate::specs::Requests::fields_good))]
 fn are_fields(z: sizes::Sizes, op: u8, role: u8, s: u8, a: u8, v: u8) -> bool
     ensures { result ≡ fields_good z op role s a v }
 {
-    let value = sizes::is_value(z, a, v);
-    let crew = sizes::is_crew_field(z, a, v);
-    let on_person = (1 <= op) & (op <= 2) & (s < z.persons) & value;
-    let on_crew = (3 <= op) & (op <= 4) & (s < z.crews) & value;
-    let joins = (5 <= op) & (op <= 6) & (s < z.persons) & crew;
-    (on_person | on_crew | joins) & (role <= 15)
+    let in_range = match op {
+        1..=2 => s < z.persons && sizes::is_value(z, a, v),
+        3..=4 => s < z.crews && sizes::is_value(z, a, v),
+        5..=6 => s < z.persons && sizes::is_crew_field(z, a, v),
+        _ => false,
+    };
+    in_range && role <= 15
 }
 
 // Whether bytes are a well-formed request. Refusal 12 falls where they are not.
+#[tactic(auto, unfolding(crate::specs::Requests::well_formed))]
 pub fn is_request(z: sizes::Sizes, q: &[u8]) -> bool
     ensures { result ≡ well_formed z q.now }
 {
-    let op = field_at(q, 0);
-    let role = field_at(q, 1);
-    let s = field_at(q, 2);
-    let a = field_at(q, 3);
-    let v = field_at(q, 4);
-    let good = are_fields(z, op, role, s, a, v);
-    (q.len() == 5) & good
+    match q {
+        [op, role, s, a, v] => are_fields(z, *op, *role, *s, *a, *v),
+        _ => false,
+    }
 }
 
 // How many values attribute a may hold in a ledger.
+#[tactic(auto, unfolding(crate::specs::Suitable::room_of))]
 fn room_of(z: sizes::Sizes, a: u8) -> u8
     ensures { result ≡ room_of z a }
 {
     if a < z.attrs {
-        return sizes::values_of(z, a);
+        sizes::values_of(z, a)
+    } else {
+        0
     }
-    0
 }
 
 // Whether set i of the two-byte sets that begin at `start` is within the sizes; the book has so many `subjects`.
+#[tactic(auto, unfolding(crate::specs::Suitable::value_set_good))]
 fn is_value_set(z: sizes::Sizes, ledger: &[u8], start: usize, subjects: u8, i: usize) -> bool
     requires { (i < 512) × (start + 2 * i + 2 ≤ length ledger.now) }
     ensures { result ≡ value_set_good z ledger.now start subjects i }
 {
     let set = sets::number_at(ledger, start + 2 * i, 2);
-    let subject = (i / 8) as u8;
-    if subject < subjects {
-        let room = room_of(z, (i % 8) as u8);
-        return sets::is_within(set, room);
-    }
-    sets::is_within(set, 0)
+    let is_subject = i / 8 < subjects as usize;
+    let room = if is_subject {
+        room_of(z, (i % 8) as u8)
+    } else {
+        0
+    };
+    sets::is_within(set, room)
 }
 
 // Whether the first `count` of those sets are within the sizes.
+#[tactic(auto, using(quantifiers::proofs::TurnLaws::all_passed))]
 fn are_value_sets(z: sizes::Sizes, ledger: &[u8], start: usize, subjects: u8, count: usize) -> bool
     requires { (count ≤ 512) × (start + 2 * count ≤ length ledger.now) }
     ensures { result ≡ all_below (value_set_good z ledger.now start subjects) count }
 {
-    let mut good = true;
-    let mut i: usize = 0;
-    while i < count {
-        good = good & is_value_set(z, ledger, start, subjects, i);
-        i += 1;
+    for i in 0..count {
+        if !is_value_set(z, ledger, start, subjects, i) {
+            return false;
+        }
     }
-    good
+    true
 }
 
 // Whether the crews of person p are within the sizes.
+#[tactic(auto, unfolding(crate::specs::Suitable::member_set_good))]
 fn is_member_set(z: sizes::Sizes, ledger: &[u8], p: usize) -> bool
     requires { (p < 64) × (length ledger.now ≡ ledger_size) }
     ensures { result ≡ member_set_good z ledger.now p }
 {
     let set = sets::number_at(ledger, MEMBERS_AT + 4 * p, 4);
-    let person = p as u8;
-    if person < z.persons {
-        return sets::is_within(set, z.crews);
-    }
-    sets::is_within(set, 0)
+    let is_person = p < z.persons as usize;
+    let room = if is_person { z.crews } else { 0 };
+    sets::is_within(set, room)
 }
 
 // Whether the crews of every person are.
+#[tactic(auto, using(quantifiers::proofs::TurnLaws::all_passed))]
 fn are_member_sets(z: sizes::Sizes, ledger: &[u8]) -> bool
     requires { length ledger.now ≡ ledger_size }
     ensures { result ≡ all_below (member_set_good z ledger.now) 64 }
 {
-    let mut good = true;
-    let mut p: usize = 0;
-    while p < MEMBER_SETS {
-        good = good & is_member_set(z, ledger, p);
-        p += 1;
+    for p in 0..MEMBER_SETS {
+        if !is_member_set(z, ledger, p) {
+            return false;
+        }
     }
-    good
+    true
 }
 
 // Whether a ledger suits the sizes. Refusal 11 falls where it does not.
+#[tactic(auto, unfolding(crate::specs::Suitable::suitable))]
 pub fn is_suitable(z: sizes::Sizes, ledger: &[u8]) -> bool
     ensures { result ≡ suitable z ledger.now }
 {
-    if ledger.len() != LEDGER_SIZE {
-        return false;
-    }
-    let persons = are_value_sets(z, ledger, 0, z.persons, PERSON_SETS);
-    let crews = are_value_sets(z, ledger, CREWS_AT, z.crews, CREW_SETS);
-    let members = are_member_sets(z, ledger);
-    persons & crews & members
+    ledger.len() == LEDGER_SIZE
+        && are_value_sets(z, ledger, 0, z.persons, PERSON_SETS)
+        && are_value_sets(z, ledger, CREWS_AT, z.crews, CREW_SETS)
+        && are_member_sets(z, ledger)
 }

@@ -6,8 +6,7 @@ use mathlib.Core.List.{List}
 use Prim.Native.Nat.{ℕ, ◌+◌, ◌*◌, ◌/◌, ◌%◌, ◌<◌}
 use native.Mathlib.Decide.{ℕ_discrete, dec_lt}
 use native.Mathlib.Omega.{arith}
-use lib.ListN.{length, get_or, set, length-set, get_or-eq_default}
-use lib.Seq.{get_or-set_same, get_or-set_other}
+use lib.ListN.{get_or, get_or-eq_default}
 use Rattle.sets.specs.Sets.{byte_of, member_at, put_at}
 use Rattle.sets.proofs.SetLaws.{member-zero, member_at_out, member_at-put_same, member_at-put_other, put_at-length, put_at_bytes}
 use Rattle.sizes.specs.declared.Sizes.{Sizes}
@@ -16,20 +15,6 @@ use Rattle.words.specs.Inner.Words.{column}
 use Rattle.rows.specs.Inner.Rows.{bit_of, shown_value, value_put, RowPut, RowClear, RowsShown, Cleared}
 
 -- ---------------------------------------------------------------- a table of nothing
-
-pub cleared_none : (out : List ℕ) → length out ≡ 1024 → Cleared 0 out
-cleared_none out size = record { size = size; zero = λ j h. absurd (omega arith) }
-
-pub cleared_more : {out : List ℕ} {i : ℕ} → i < 1024 → Cleared i out → Cleared (i + 1) (set out i 0)
-cleared_more {out} {i} room c = record {
-  size = length-set out i 0 ∙ c.size;
-  zero = λ j h. dite (ℕ_discrete j i)
-      (λ (e : j ≡ i). rw e (get_or-set_same out i 0 0 (omega (arith, c.size))))
-      (λ (other : j ≡ i → ⊥). get_or-set_other out i j 0 0 other ∙ c.zero j (omega arith));
-}
-
-pub cleared_all : {out : List ℕ} {i : ℕ} → Cleared i out → i ≡ 1024 → Cleared 1024 out
-cleared_all {out} c e = subst (λ (n : ℕ). Cleared n out) e c
 
 module _ {out : List ℕ} (c : Cleared 1024 out) where
   -- A bit of the table, or one past its end, is clear.

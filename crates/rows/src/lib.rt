@@ -10,8 +10,6 @@ ghost use Rattle.rows.specs.Inner.Rows.{table_bytes, Cleared, value_put, RowPut,
 use sizes::Sizes;
 use widths::LEVEL_SIZE;
 
-const TABLE_BYTES: usize = 1024;
-
 // Sets the bit of value f % 16 of attribute f / 16 for person p, where it is a value of the book and the person's flags show it.
 fn put_value(z: Sizes, p: u8, held: &[u64], f: u8, out: &mut [u8])
     requires { ((p < 64) × (f < 128)) × (length held.now ≡ flags_size) }
@@ -32,10 +30,8 @@ fn put_row(z: Sizes, p: u8, held: &[u64], out: &mut [u8])
     requires row_clear { RowClear p out.old }
     ensures { RowPut z p (column held.now p) 128 out.old out.new }
 {
-    let mut f: u8 = 0;
-    while f < 128 {
+    for f in 0..128 {
         put_value(z, p, held, f, out);
-        f += 1;
     }
 }
 
@@ -45,11 +41,8 @@ pub fn put_rows(z: Sizes, held: &[u64], out: &mut [u8])
     requires cleared { Cleared table_bytes out.old }
     ensures { RowsShown z held.now z.persons out.new }
 {
-    let persons = z.persons;
-    let mut p: u8 = 0;
-    while p < persons {
+    for p in 0..z.persons {
         put_row(z, p, held, out);
-        p += 1;
     }
 }
 
@@ -58,9 +51,5 @@ pub fn clear(out: &mut [u8])
     requires { length out.old ≡ table_bytes }
     ensures { Cleared table_bytes out.new }
 {
-    let mut i: usize = 0;
-    while i < TABLE_BYTES {
-        out[i] = 0;
-        i += 1;
-    }
+    out.fill(0);
 }

@@ -2,11 +2,10 @@
 
 #![tactic(auto)]
 
-ghost use Rattle.std.specs.Prelude.{◌≡◌, ◌≤◌, ◌<◌, length, get_or};
+ghost use Rattle.std.specs.Prelude.{position, ◌≡◌, ◌≤◌, ◌<◌, length, take};
 ghost use Rattle.facts.specs.Facts.{holds};
-ghost use Rattle.frames.specs.Book.{listed, no_term};
+ghost use Rattle.frames.specs.Book.{listed};
 ghost use Rattle.frames.specs.Inner.Fits.{Short};
-ghost use Rattle.quantifiers.specs.Quantifiers.{first};
 ghost use Rattle.quantifiers.specs.Inner.Lists.{Each};
 ghost use Rattle.rules.specs.Rules.{subject_of, a_of, v_of, directly, effectively, in_directly, in_effectively, at_least, term_holds, names, permits};
 
@@ -22,39 +21,40 @@ pub enum Subject {
 }
 
 // The person or crew that a fact is about.
+#[tactic(auto, unfolding(crate::specs::Rules::subject_of))]
 pub fn subject_of(f: Fact) -> Subject
     ensures { result ≡ subject_of f }
 {
     match f {
-        Fact::Holds(p, _, _) => Subject::User(p),
+        Fact::Holds(p, _, _) | Fact::Member(p, _) => Subject::User(p),
         Fact::CrewHolds(c, _, _) => Subject::Group(c),
-        Fact::Member(p, _) => Subject::User(p),
     }
 }
 
 // The field a of a fact: its attribute, or the crew.
+#[tactic(auto, unfolding(crate::specs::Rules::a_of))]
 fn a_of(f: Fact) -> u8
     ensures { result ≡ a_of f }
 {
     match f {
-        Fact::Holds(_, a, _) => a.0,
-        Fact::CrewHolds(_, a, _) => a.0,
+        Fact::Holds(_, a, _) | Fact::CrewHolds(_, a, _) => a.0,
         Fact::Member(_, c) => c.0,
     }
 }
 
 // The field v of a fact.
+#[tactic(auto, unfolding(crate::specs::Rules::v_of))]
 fn v_of(f: Fact) -> u8
     ensures { result ≡ v_of f }
 {
     match f {
-        Fact::Holds(_, _, v) => v,
-        Fact::CrewHolds(_, _, v) => v,
+        Fact::Holds(_, _, v) | Fact::CrewHolds(_, _, v) => v,
         Fact::Member(_, _) => 0,
     }
 }
 
 // Kind 01.
+#[tactic(auto, unfolding(crate::specs::Rules::directly))]
 fn holds_directly(ledger: &[u8], s: Subject, a: Attr, v: u8) -> bool
     ensures { result ≡ directly (holds ledger.now) s a v }
 {
@@ -64,29 +64,20 @@ fn holds_directly(ledger: &[u8], s: Subject, a: Attr, v: u8) -> bool
     }
 }
 
-// What a crew effectively holds; a number that is no crew's holds nothing.
-fn group_holds(ledger: &[u8], juniors: &[u32], c: Crew, a: Attr, v: u8) -> bool
-    requires { length juniors.now ≡ 32 }
-    ensures { result ≡ effectively juniors.now (holds ledger.now) (Subject.Group c) a v }
-{
-    if 32 <= c.0 {
-        return false;
-    }
-    inherit::crew_holds(ledger, juniors, c, a, v)
-}
-
-// Kind 02.
+// Kind 02. A number that is no crew's holds nothing.
+#[tactic(auto, using(crate::proofs::RuleLaws::crew_beyond), unfolding(crate::specs::Rules::effectively))]
 fn holds_effectively(ledger: &[u8], juniors: &[u32], s: Subject, a: Attr, v: u8) -> bool
     requires { length juniors.now ≡ 32 }
     ensures { result ≡ effectively juniors.now (holds ledger.now) s a v }
 {
     match s {
         Subject::User(p) => inherit::person_holds(ledger, juniors, p, a, v),
-        Subject::Group(c) => group_holds(ledger, juniors, c, a, v),
+        Subject::Group(c) => c.0 < 32 && inherit::crew_holds(ledger, juniors, c, a, v),
     }
 }
 
 // Kind 03.
+#[tactic(auto, unfolding(crate::specs::Rules::in_directly))]
 fn is_directly_in(ledger: &[u8], s: Subject, c: Crew) -> bool
     ensures { result ≡ in_directly (holds ledger.now) s c }
 {
@@ -97,6 +88,7 @@ fn is_directly_in(ledger: &[u8], s: Subject, c: Crew) -> bool
 }
 
 // Kind 04.
+#[tactic(auto, unfolding(crate::specs::Rules::in_effectively))]
 fn is_effectively_in(ledger: &[u8], juniors: &[u32], s: Subject, c: Crew) -> bool
     requires { length juniors.now ≡ 32 }
     ensures { result ≡ in_effectively juniors.now (holds ledger.now) s c }
@@ -107,124 +99,81 @@ fn is_effectively_in(ledger: &[u8], juniors: &[u32], s: Subject, c: Crew) -> boo
     }
 }
 
-// Whether a crew effectively holds v or a higher value; a number that is no crew's holds nothing.
-fn group_holds_at_least(ledger: &[u8], juniors: &[u32], c: Crew, a: Attr, v: u8) -> bool
-    requires { length juniors.now ≡ 32 }
-    ensures { result ≡ at_least juniors.now (holds ledger.now) (Subject.Group c) a v }
-{
-    if 32 <= c.0 {
-        return false;
-    }
-    inherit::crew_holds_at_least(ledger, juniors, c, a, v)
-}
-
-// Kind 05.
+// Kind 05. A number that is no crew's holds nothing.
+// Kept: of one shape with kind 02; a parameter that chooses between the two searches of each arm is no plainer.
+#[tactic(auto, using(crate::proofs::AtLeastLaws::at_least_beyond), unfolding(crate::specs::Rules::at_least, crate::specs::Rules::effectively))]
 fn holds_at_least(ledger: &[u8], juniors: &[u32], s: Subject, a: Attr, v: u8) -> bool
     requires { length juniors.now ≡ 32 }
     ensures { result ≡ at_least juniors.now (holds ledger.now) s a v }
 {
     match s {
         Subject::User(p) => inherit::person_holds_at_least(ledger, juniors, p, a, v),
-        Subject::Group(c) => group_holds_at_least(ledger, juniors, c, a, v),
+        Subject::Group(c) => c.0 < 32 && inherit::crew_holds_at_least(ledger, juniors, c, a, v),
     }
 }
 
 // Whether a term holds of a subject: one case a kind.
+#[tactic(auto, unfolding(crate::specs::Rules::term_holds))]
 pub fn term_holds(ledger: &[u8], juniors: &[u32], s: Subject, t: Term) -> bool
     requires { length juniors.now ≡ 32 }
     ensures { result ≡ term_holds juniors.now (holds ledger.now) s t }
 {
-    let kind = t.kind;
-    let a = t.a;
-    let v = t.v;
-    if kind == 1 {
-        return holds_directly(ledger, s, Attr(a), v);
+    match t.kind {
+        1 => holds_directly(ledger, s, Attr(t.a), t.v),
+        2 => holds_effectively(ledger, juniors, s, Attr(t.a), t.v),
+        3 => is_directly_in(ledger, s, Crew(t.a)),
+        4 => is_effectively_in(ledger, juniors, s, Crew(t.a)),
+        5 => holds_at_least(ledger, juniors, s, Attr(t.a), t.v),
+        0x81 => !holds_directly(ledger, s, Attr(t.a), t.v),
+        0x83 => !is_directly_in(ledger, s, Crew(t.a)),
+        _ => false,
     }
-    if kind == 2 {
-        return holds_effectively(ledger, juniors, s, Attr(a), v);
-    }
-    if kind == 3 {
-        return is_directly_in(ledger, s, Crew(a));
-    }
-    if kind == 4 {
-        return is_effectively_in(ledger, juniors, s, Crew(a));
-    }
-    if kind == 5 {
-        return holds_at_least(ledger, juniors, s, Attr(a), v);
-    }
-    if kind == 0x81 {
-        return !holds_directly(ledger, s, Attr(a), v);
-    }
-    if kind == 0x83 {
-        return !is_directly_in(ledger, s, Crew(a));
-    }
-    false
 }
 
 // Whether a rule has the request's op, role, a and v.
-pub fn is_named(r: Rule, q: Request) -> bool
-    ensures { result ≡ names q r }
+#[tactic(auto, unfolding(crate::specs::Rules::names))]
+pub fn is_named(r: &Rule, q: Request) -> bool
+    ensures { result ≡ names q r.now }
 {
-    let f = q.fact;
-    let a = a_of(f);
-    let v = v_of(f);
-    (r.op == q.op) & ((r.role.0 == q.role.0) & ((r.a == a) & (r.v == v)))
+    r.op == q.op && r.role == q.role && r.a == a_of(q.fact) && r.v == v_of(q.fact)
 }
 
-// How many terms a rule has.
-pub fn term_count(r: Rule) -> usize
-    ensures { result ≡ r.n }
+// The terms of a rule.
+pub fn terms_of(r: &Rule) -> &[Term]
+    requires { Short r.now }
+    ensures { result.now ≡ take r.now.n r.now.terms }
 {
-    r.n as usize
+    &r.terms[..r.n as usize]
 }
 
-// Whether term j of a rule holds of whom the request is about.
-pub fn meets_term(r: Rule, j: usize, ledger: &[u8], juniors: &[u32], q: Request) -> bool
-    requires { (j < 8) × (length juniors.now ≡ 32) }
-    ensures { result ≡ term_holds juniors.now (holds ledger.now) (subject_of q.fact) (get_or r.terms j no_term) }
+// Whether a rule permits the request: it has the request's op, role, a and v, and all its terms hold of whom the request is about.
+fn does_permit(r: &Rule, ledger: &[u8], juniors: &[u32], q: Request) -> bool
+    requires { Short r.now × (length juniors.now ≡ 32) }
+    ensures { result ≡ permits juniors.now (holds ledger.now) q r.now }
 {
-    let f = q.fact;
-    let s = subject_of(f);
-    let t = r.terms[j];
-    term_holds(ledger, juniors, s, t)
+    let s = subject_of(q.fact);
+    is_named(r, q)
+        && terms_of(r)
+            .iter()
+            .all(|t| term_holds(ledger, juniors, s, *t))
 }
 
-// The place of the first rule that permits the request, or the count of the rules where none does.
-pub fn first_permitting(rules: &[Rule], ledger: &[u8], juniors: &[u32], q: Request) -> usize
+// The place of the first rule that permits the request.
+pub fn first_permitting(rules: &[Rule], ledger: &[u8], juniors: &[u32], q: Request) -> Option<usize>
     requires { Each Short rules.now × (length juniors.now ≡ 32) }
-    ensures { result ≡ first (permits juniors.now (holds ledger.now) q) rules.now }
+    ensures { result ≡ position (permits juniors.now (holds ledger.now) q) rules.now }
 {
-    let n = rules.len();
-    let mut found = n;
-    let mut i: usize = 0;
-    'rules: while i < n {
-        let r = rule_list::rule_at(rules, i);
-        let here = i;
-        i += 1;
-        if !is_named(r, q) {
-            continue 'rules;
-        }
-        let m = term_count(r);
-        let mut j: usize = 0;
-        while j < m {
-            if !meets_term(r, j, ledger, juniors, q) {
-                continue 'rules;
-            }
-            j += 1;
-        }
-        found = here;
-        break 'rules;
-    }
-    found
+    rules
+        .iter()
+        .position(|r| does_permit(r, ledger, juniors, q))
 }
 
 // The same of the list by value: its front is lent to the trial.
-pub fn first_listed(rs: Rules, ledger: &[u8], juniors: &[u32], q: Request) -> usize
+#[tactic(auto, unfolding(frames::specs::Book::listed))]
+pub fn first_listed(rs: Rules, ledger: &[u8], juniors: &[u32], q: Request) -> Option<usize>
     requires count_bound { (rs.count ≤ 512) × Each Short (listed rs) }
     requires juniors_len { length juniors.now ≡ 32 }
-    ensures { result ≡ first (permits juniors.now (holds ledger.now) q) (listed rs) }
+    ensures { result ≡ position (permits juniors.now (holds ledger.now) q) (listed rs) }
 {
-    let n = rs.count;
-    let rules = rs.rules;
-    first_permitting(&rules[..n], ledger, juniors, q)
+    first_permitting(&rs.rules[..rs.count], ledger, juniors, q)
 }

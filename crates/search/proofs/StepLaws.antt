@@ -8,8 +8,8 @@ use native.Mathlib.Numerals.{add-one}
 use native.Mathlib.Decide.{ℕ_discrete}
 use native.Mathlib.Omega.{arith}
 use lib.Dec.{eqb}
-use lib.ListN.{length, get_or}
-use borrow.Author.Tests.{lt-ltb, not-true, not-false}
+use lib.ListN.{length, get_or, replicate, get_or-replicate}
+use borrow.Author.Tests.{lt-ltb}
 use Rattle.sizes.specs.Sizes.{is_person}
 use Rattle.inherit.specs.Inheritance.{is_junior, downward, person_holds}
 use Rattle.inherit.proofs.InheritanceLaws.{downward_step}
@@ -45,13 +45,6 @@ use Rattle.search.proofs.PersonLaws.{to_leveled, start_for, bad_for}
 use Rattle.search.proofs.DriveLaws.{Handed, drive_first, crew_table, person_table, rows_next, drive-stuck, drive-next}
 use Rattle.search.proofs.DriveLaws.{LevelEnds, settled_ends, drive-best, drive-ends, up_next, down-next}
 
--- What is told by the negation.
-pub no_found : (x : Bool) → not x ≡ true → x ≡ false
-no_found x e = not-true x e
-
-pub was_found : (x : Bool) → not x ≡ false → x ≡ true
-was_found x e = not-false x e
-
 -- Room for a level's requests in the two buffers.
 pub room_up : {ups k n : ℕ} → ups ≤ 160 * k → k ≤ 32 → n ≡ 26400 → 5 * (ups + 160) ≤ n
 room_up a b e = omega arith
@@ -61,6 +54,10 @@ room_below a b = omega arith
 
 pub room_down : {at n : ℕ} → at ≤ 5280 → n ≡ 26400 → 5 * at ≤ n
 room_down a e = omega arith
+
+-- Leave to add every fact of a level.
+pub all_allowed : AllAllowed (replicate 160 true)
+all_allowed = record { size = refl; at = λ f l. get_or-replicate 160 f true false l }
 
 -- What a level may start with it may have.
 pub starts-allowed : (s : List Bool) {u : List Bool} → AllAllowed u → direct s ⊆ direct u

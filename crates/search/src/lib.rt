@@ -8,26 +8,15 @@ ghost use Rattle.frames.specs.Book.{contents_of};
 ghost use Rattle.reach.specs.Inner.Leveled.{Leveled};
 ghost use Rattle.flags.specs.Inner.Flags.{Reaching};
 ghost use Rattle.level.specs.Inner.Moves.{moves_in};
+ghost use Rattle.level.specs.Inner.Settle.{found_of, ups_of, at_of};
 ghost use Rattle.search.specs.Inner.Drive.{Driving};
-ghost use Rattle.search.specs.Inner.Scan.{SideMoves, AllAllowed, BlankTable, Searched};
+ghost use Rattle.search.specs.Inner.Scan.{SideMoves, BlankTable, Searched};
 ghost use Rattle.search.specs.Inner.Given.{Names, CrewParts, CrewsGiven, ServesOf, ScannedOf, PersonGiven, LevelGiven, LevelSettled};
 ghost use Rattle.widths.specs.Inner.Widths.{level_size, rows_size, depot_size, draft_size};
 
 use frames::{Book, Query};
-use level::LevelOutcome;
-use widths::{DEPOT_SIZE, FLAGS_SIZE, LEVEL_SIZE, MOVE_SIZE, MOVES_SIZE, ROWS_SIZE, TABLE_SIZE};
-
-// Leave to add every fact of a level.
-fn allow_all(u: &mut [bool])
-    requires { length u.old ≡ level_size }
-    ensures { AllAllowed u.new }
-{
-    let mut f: usize = 0;
-    while f < LEVEL_SIZE {
-        u[f] = true;
-        f += 1;
-    }
-}
+use level::Ends;
+use widths::{DEPOT_SIZE, FLAGS_SIZE, LEVEL_SIZE, MOVES_SIZE, ROWS_SIZE, TABLE_SIZE};
 
 // What a level comes to, once its table stands: its forbidden and its starting facts, their flags, leave to add every fact, and the rounds.
 fn settle_level(
@@ -47,22 +36,21 @@ fn settle_level(
     up: &mut [u8],
     at: usize,
     down: &mut [u8],
-) -> LevelOutcome
+) -> Option<Ends>
     requires { LevelGiven q adds.now dels.now added.old deleted.old table.now x.old ups up.old at down.old }
     ensures { LevelSettled q crews facts.now k below (moves_in adds.now) (moves_in dels.now) subject
-        table.now x.new ups up.old up.new at down.old down.new result.found result.ups
-        result.at }
+        table.now x.new ups up.old up.new at down.old down.new (found_of result) (ups_of result)
+        (at_of result) }
 {
     let mut bad = [false; LEVEL_SIZE];
     let mut first = [false; LEVEL_SIZE];
     let mut s = [false; FLAGS_SIZE];
-    let mut u = [false; LEVEL_SIZE];
+    let mut u = [true; LEVEL_SIZE];
     let mut y = [false; FLAGS_SIZE];
     let mut d = [false; LEVEL_SIZE];
     flags::bad_flags(q, crews, k, below, &mut bad);
     flags::start_flags(facts, crews, q.person, k, &mut first);
     build::build(table, &first, &mut s);
-    allow_all(&mut u);
     level::settle(
         adds, dels, added, deleted, subject, table, &bad, &s, &mut u, x, &mut y, &mut d, ups, up,
         at, down,
@@ -87,12 +75,12 @@ fn crew_level(
     up: &mut [u8],
     at: usize,
     down: &mut [u8],
-) -> LevelOutcome
+) -> Option<Ends>
     requires crews_given { CrewsGiven q crews facts.now juniors.now adds.now dels.now reach.now × (k < crews) }
     requires names { Names added.old deleted.old × BlankTable table.old }
     requires serves_of { ServesOf q crews facts.now juniors.now adds.now dels.now k rows.old ups up.old at down.old }
     ensures { ScannedOf q crews facts.now juniors.now adds.now dels.now (k + 1)
-        rows.new up.new down.new result.found (ups + result.ups) result.at × BlankTable table.new }
+        rows.new up.new down.new (found_of result) (ups + ups_of result) (at_of result) × BlankTable table.new }
 {
     let below = flags::do_listed_reach(q.crews, reach, k);
     let mut x = [false; FLAGS_SIZE];
@@ -112,11 +100,9 @@ fn fill_reach(juniors: &[u32], reach: &mut [bool])
     let x = [false; FLAGS_SIZE];
     let mut table = [false; TABLE_SIZE];
     flags::first_rows(reach);
-    let mut k: u8 = 0;
-    while k < 32 {
+    for k in 0..32 {
         flags::crew_table(juniors, k, reach, &mut table);
         flags::fill_row(&table, k, &x, reach);
-        k += 1;
     }
 }
 
@@ -135,37 +121,24 @@ fn crew_levels(
     table: &mut [bool],
     up: &mut [u8],
     down: &mut [u8],
-) -> LevelOutcome
+) -> Option<Ends>
     requires crews_given { CrewsGiven q crews facts.now juniors.now adds.now dels.now reach.now }
     requires names { Names added.old deleted.old × BlankTable table.old }
     requires serves_of { ServesOf q crews facts.now juniors.now adds.now dels.now 0 rows.old 0 up.old depot_size down.old }
     ensures { ScannedOf q crews facts.now juniors.now adds.now dels.now crews
-        rows.new up.new down.new result.found result.ups result.at }
+        rows.new up.new down.new (found_of result) (ups_of result) (at_of result) }
 {
     let mut ups: usize = 0;
     let mut at: usize = DEPOT_SIZE;
-    let mut k: u8 = 0;
-    while k < crews {
+    for k in 0..crews {
         let r = crew_level(
             q, crews, facts, juniors, k, adds, dels, added, deleted, reach, rows, table, ups, up,
             at, down,
-        );
-        if !r.found {
-            return LevelOutcome {
-                found: false,
-                ups: 0,
-                at: DEPOT_SIZE,
-            };
-        }
+        )?;
         ups += r.ups;
         at = r.at;
-        k += 1;
     }
-    LevelOutcome {
-        found: true,
-        ups,
-        at,
-    }
+    Some(Ends { ups, at })
 }
 
 // The levels of all crews, from nothing: which crews each crew reaches, rows that have the crews alone, then crew after crew. The same for whoever
@@ -181,14 +154,15 @@ pub fn settle_crews(
     table: &mut [bool],
     up: &mut [u8],
     down: &mut [u8],
-) -> LevelOutcome
+) -> Option<Ends>
     requires crew_parts { CrewParts q crews facts.now juniors.now gains.now losses.now }
     requires rows_len { (length rows.old ≡ rows_size) × BlankTable table.old }
     requires up_len { (length up.old ≡ draft_size) × (length down.old ≡ draft_size) }
     ensures { ScannedOf q crews facts.now juniors.now gains.now losses.now crews
-        rows.new up.new down.new result.found result.ups result.at }
+        rows.new up.new down.new (found_of result) (ups_of result) (at_of result) }
 {
     let mut reach = [false; ROWS_SIZE];
+    // Kept: 512 names no move, as `level::close` takes the names.
     let mut added = [512u16; LEVEL_SIZE];
     let mut deleted = [512u16; LEVEL_SIZE];
     fill_reach(juniors, &mut reach);
@@ -222,24 +196,22 @@ fn person_level(
     up: &mut [u8],
     at: usize,
     down: &mut [u8],
-) -> LevelOutcome
+) -> Option<Ends>
     requires person_given { PersonGiven b facts.now adds.now dels.now table.old }
     requires driving { Driving (contents_of b) b.sizes.crews rows.now ups up.old at down.old }
-    ensures { Searched (contents_of b) up.new down.new result.found (ups + result.ups) result.at }
+    ensures { Searched (contents_of b) up.new down.new (found_of result) (ups + ups_of result) (at_of result) }
 {
-    let q = b.query;
     let k = b.sizes.crews;
-    let person = q.person.0;
     let mut x = [false; FLAGS_SIZE];
     let mut added = [512u16; LEVEL_SIZE];
     let mut deleted = [512u16; LEVEL_SIZE];
     flags::person_table(rows, table);
     settle_level(
-        q,
+        b.query,
         k,
         facts,
         k,
-        person,
+        b.query.person.0,
         false,
         adds,
         dels,
@@ -263,67 +235,50 @@ fn all_levels(
     dels: &[u16],
     up: &mut [u8],
     down: &mut [u8],
-) -> LevelOutcome
+) -> Option<Ends>
     requires leveled { Leveled (contents_of b) ×
         (SideMoves b.rules b.query.roles 3 3 4 4 (moves_in gains.now) (moves_in losses.now) ×
         SideMoves b.rules b.query.roles 1 5 2 6 (moves_in adds.now) (moves_in dels.now)) }
     requires up_len { (length up.old ≡ draft_size) × (length down.old ≡ draft_size) }
-    ensures { Searched (contents_of b) up.new down.new result.found result.ups result.at }
+    ensures { Searched (contents_of b) up.new down.new (found_of result) (ups_of result) (at_of result) }
 {
-    let q = b.query;
-    let facts = b.facts;
-    let juniors = b.juniors;
     let mut rows = [false; ROWS_SIZE];
     let mut table = [false; TABLE_SIZE];
     let r = settle_crews(
-        q,
+        b.query,
         b.sizes.crews,
-        &facts,
-        &juniors,
+        &b.facts,
+        &b.juniors,
         gains,
         losses,
         &mut rows,
         &mut table,
         up,
         down,
-    );
-    if !r.found {
-        return r;
-    }
+    )?;
     let p = person_level(
-        b, &facts, adds, dels, &rows, &mut table, r.ups, up, r.at, down,
-    );
-    if !p.found {
-        return p;
-    }
-    LevelOutcome {
-        found: true,
+        b, &b.facts, adds, dels, &rows, &mut table, r.ups, up, r.at, down,
+    )?;
+    Some(Ends {
         ups: r.ups + p.ups,
         at: p.at,
-    }
+    })
 }
 
 // The moves out of the accepted rules, then all levels.
-pub fn search(b: Book, up: &mut [u8], down: &mut [u8]) -> LevelOutcome
+pub fn search(b: Book, up: &mut [u8], down: &mut [u8]) -> Option<Ends>
     requires leveled { Leveled (contents_of b) }
     requires up_len { (length up.old ≡ draft_size) × (length down.old ≡ draft_size) }
-    ensures { Searched (contents_of b) up.new down.new result.found result.ups result.at }
+    ensures { Searched (contents_of b) up.new down.new (found_of result) (ups_of result) (at_of result) }
 {
-    let roles = b.query.roles;
-    let rules = b.rules;
     let mut buffer = [0u16; MOVES_SIZE];
-    let n = moves::moves_listed(rules, roles, &mut buffer);
-    let ms: &[u16] = &buffer;
-    let gains = MOVE_SIZE * n.gains;
-    let losses = MOVE_SIZE * n.losses;
-    let adds = MOVE_SIZE * n.adds;
-    let dels = MOVE_SIZE * n.dels;
+    let sides = moves::moves_listed(b.rules, b.query.roles, &mut buffer);
     all_levels(
         b,
-        &ms[..gains],
-        &ms[gains..losses],
-        &ms[losses..adds],
-        &ms[adds..dels],
+        sides.gains_in(&buffer),
+        sides.losses_in(&buffer),
+        sides.adds_in(&buffer),
+        sides.dels_in(&buffer),
         up,
         down,
     )

@@ -10,10 +10,7 @@ ghost use Rattle.sets.specs.Sets.{member, put, within, subset, byte_of, member_a
 pub fn has(x: u32, v: u8) -> bool
     ensures { result ≡ member x v }
 {
-    if v >= 32 {
-        return false;
-    }
-    (x >> v) % 2 == 1
+    v < 32 && (x >> v) % 2 == 1
 }
 
 // x with v put in, or taken out.
@@ -21,23 +18,18 @@ pub fn with(x: u32, v: u8, on: bool) -> u32
     requires { v < 32 }
     ensures { result ≡ put x v on }
 {
-    let was = has(x, v);
-    let weight = 1u32 << v;
-    if on {
-        if was { x } else { x + weight }
-    } else {
-        if was { x - weight } else { x }
+    if has(x, v) == on {
+        return x;
     }
+    let weight = 1u32 << v;
+    if on { x + weight } else { x - weight }
 }
 
 // Whether the members of x are all below n.
 pub fn is_within(x: u32, n: u8) -> bool
     ensures { result ≡ within x n }
 {
-    if n >= 32 {
-        return true;
-    }
-    x >> n == 0
+    n >= 32 || x >> n == 0
 }
 
 // Whether each member of x is one of y.
@@ -52,7 +44,7 @@ fn byte_of(at: usize, w: usize, v: u8) -> usize
     requires { (at < 4294967296) × ((w ≤ 4) × (v < 8 * w)) }
     ensures { result ≡ byte_of at w v }
 {
-    let behind = (v / 8) as usize;
+    let behind = usize::from(v / 8);
     let ahead = w - 1 - behind;
     at + ahead
 }
@@ -62,11 +54,8 @@ pub fn has_at(s: &[u8], at: usize, w: usize, v: u8) -> bool
     requires { (at < 4294967296) × ((w ≤ 4) × (v < 8 * w)) }
     ensures { result ≡ member_at s.now at w v }
 {
-    let i = byte_of(at, w, v);
-    if i >= s.len() {
-        return false;
-    }
-    has(s[i] as u32, v % 8)
+    let byte = s.get(byte_of(at, w, v)).copied().unwrap_or(0);
+    has(u32::from(byte), v % 8)
 }
 
 // v put into the set of w bytes at a place, or taken out. Past the end of s nothing is written.
@@ -75,11 +64,10 @@ pub fn put_at(s: &mut [u8], at: usize, w: usize, v: u8, on: bool)
     ensures { s.new ≡ put_at s.old at w v on }
 {
     let i = byte_of(at, w, v);
-    if i >= s.len() {
-        return;
+    // Kept: a test of the index, not `if let Some(byte) = s.get_mut(i)`: the proof did not close, since the rest of `s` is not known afterwards.
+    if i < s.len() {
+        s[i] = with(u32::from(s[i]), v % 8, on) as u8;
     }
-    let x = with(s[i] as u32, v % 8, on);
-    s[i] = x as u8;
 }
 
 // The number that w bytes at a place write.
@@ -87,24 +75,25 @@ pub fn number_at(s: &[u8], at: usize, w: usize) -> u32
     requires { (w ≤ 4) × (at + w ≤ length s.now) }
     ensures { result ≡ number_at s.now at w }
 {
-    let mut number: u32 = 0;
-    let mut j = 0;
-    while j < w {
-        let byte = s[at + j] as u32;
-        number = number * 256 + byte;
-        j += 1;
+    let mut number = 0;
+    for byte in &s[at..at + w] {
+        number = number * 256 + u32::from(*byte);
     }
     number
 }
 
-// The byte at a place, 0 past the end of s.
-fn byte_or_zero(s: &[u8], i: usize) -> u8
-    ensures { result ≡ get_or s.now i 0 }
+// Kept: beside `number_at`, which tests no bound at each byte, since its callers promise that the bytes are there.
+// The same where the bytes may lie past the end of s: those count as 0.
+pub fn padded_number_at(s: &[u8], at: usize, w: usize) -> u32
+    requires { (at < 4294967296) × (w ≤ 4) }
+    ensures { result ≡ number_at s.now at w }
 {
-    if i >= s.len() {
-        return 0;
+    let mut number = 0;
+    for i in at..at + w {
+        let byte = s.get(i).copied().unwrap_or(0);
+        number = number * 256 + u32::from(byte);
     }
-    s[i]
+    number
 }
 
 // Whether the set of w bytes at a place has a member from v on: each byte is looked at once. Past the end of s the set is empty.
@@ -112,12 +101,5 @@ pub fn has_from_at(s: &[u8], at: usize, w: usize, v: u8) -> bool
     requires { (at < 4294967296) × (w ≤ 4) }
     ensures { result ≡ any_from (member_at s.now at w) v (8 * w) }
 {
-    let mut number: u32 = 0;
-    let mut j = 0;
-    while j < w {
-        let byte = byte_or_zero(s, at + j) as u32;
-        number = number * 256 + byte;
-        j += 1;
-    }
-    !is_within(number, v)
+    !is_within(padded_number_at(s, at, w), v)
 }

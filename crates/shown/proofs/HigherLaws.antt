@@ -1,7 +1,7 @@
 -- The flags from place 320 on, whether a value or a higher one is effective: what one more fact does to them, and the loops that write them.
 use mathlib.Core.Path.{◌≡◌, refl, sym, ap, subst, fun_ext, ◌∙◌}
 use mathlib.Core.Logic.{dite}
-use mathlib.Core.Bool.{Bool, true, false, not, ◌&&◌, ◌||◌, and-false, or-false, or-true}
+use mathlib.Core.Bool.{Bool, true, false, not, ◌&&◌, ◌||◌, and-false, or-false}
 use mathlib.Core.List.{List}
 use Prim.Native.Nat.{ℕ, ◌+◌, ◌-◌, ◌*◌, ◌/◌, ◌%◌, ◌≤◌, ◌<◌}
 use native.Mathlib.Decide.{ℕ_discrete, dec_lt}
@@ -144,9 +144,6 @@ module _ (T : List Bool) (f k : ℕ) where
     pub fits : j ≤ 16 * (k / 16) + 16
     pub left : any_from handed (k % 16) 16 ≡ any_from handed (j - 16 * (k / 16)) 16
 
-  pub none_handed : NoneHanded k
-  none_handed = record { from = omega arith; fits = omega arith; left = ap (λ v. any_from handed v 16) (omega arith) }
-
   touch_handed : 128 ≤ f → k < 128 → f < 160 → touches T f (320 + k) ≡ any_from handed (k % 16) 16
   unfolding touches touches_fact row
   touch_handed h l m =
@@ -220,40 +217,7 @@ from_first f j m = dite (dec_lt f j)
     (λ (l : f < j). rw (lt-leb j f l) (sym (and-false (eqb (j / 16) (f / 16)))))
     (λ (l : f < j → ⊥). rw (le-leb j f (omega arith), eq-eqb (j / 16) (f / 16) (omega arith)) refl)
 
--- Before the first.
-pub raised_none : (f : ℕ) (x : List Bool) → RaisedFrom f x x (f + 1)
-raised_none f x = record {
-  size = refl;
-  first = omega arith;
-  fits = omega arith;
-  below = λ j l. refl;
-  above = λ j l. sym (or-false (get_or x (320 + j) false)) ∙ ap (λ (b : Bool). get_or x (320 + j) false || b) (sym (out j));
-}
-  where
-    out : (j : ℕ) → leb (f + 1) j && leb j f ≡ false
-    out j = dite (dec_lt j (f + 1))
-        (λ (l : j < f + 1). rw (lt-leb (f + 1) j l) refl)
-        (λ (l : j < f + 1 → ⊥). rw (lt-leb j f (omega arith)) (and-false (leb (f + 1) j)))
-
 module _ {f : ℕ} {x z : List Bool} (k : ℕ) (h : 16 * (f / 16) ≤ k) (r : RaisedFrom f x z (k + 1)) (small : f < 128) where
-  set_lower : length x ≡ 448 → RaisedFrom f x (set z (320 + k) true) k
-  set_lower s = record {
-    size = length-set z (320 + k) true ∙ r.size;
-    first = omega arith;
-    fits = omega (arith, r.fits);
-    below = λ j l. get_or-set_other z (320 + k) j true false (omega arith) ∙ r.below j l;
-    above = λ j l. dite (ℕ_discrete j k)
-        (λ (e : j ≡ k). rw e (get_or-set_same z (320 + k) true false (omega (arith, r.size, r.fits))
-        ∙ sym (rw (le-leb k k (omega arith), le-leb k f (omega (arith, r.fits))) (or-true (get_or x (320 + k) false)))))
-        (λ (n : j ≡ k → ⊥). get_or-set_other z (320 + k) (320 + j) true false (λ e. n (omega arith)) ∙ r.above j l
-        ∙ ap (λ (b : Bool). get_or x (320 + j) false || (b && leb j f)) (wider j n));
-  }
-    where
-      wider : (j : ℕ) → (j ≡ k → ⊥) → leb (k + 1) j ≡ leb k j
-      wider j n = dite (dec_lt j k)
-          (λ (l : j < k). lt-leb (k + 1) j (omega arith) ∙ sym (lt-leb k j l))
-          (λ (l : j < k → ⊥). le-leb (k + 1) j (omega arith) ∙ sym (le-leb k j (omega arith)))
-
   stop_lower : Falls x → get_or z (320 + k) false ≡ true → Raised f x z
   stop_lower falls e = record { size = r.size; below = r.below; above = λ j l. r.above j l ∙ same j l }
     where
@@ -279,10 +243,6 @@ module _ {f : ℕ} {x z : List Bool} (k : ℕ) (h : 16 * (f / 16) ≤ k) (r : Ra
 module _ {f : ℕ} {x z : List Bool} {k : ℕ} (r : RaisedFrom f x z k) (h : 16 * (f / 16) < k) (small : f < 128) where
   lower_by_one : RaisedFrom f x z (k - 1 + 1)
   lower_by_one = let e : k ≡ k - 1 + 1 = omega arith in subst (λ (i : ℕ). RaisedFrom f x z i) e r
-
-  -- One flag more, of the next lower value.
-  pub raised_more : length x ≡ 448 → RaisedFrom f x (set z (320 + (k - 1)) true) (k - 1)
-  raised_more s = set_lower (k - 1) (omega arith) lower_by_one small s
 
   -- A flag that stands already: those of the lower values stand too.
   pub raised_stands : Falls x → get_or z (320 + (k - 1)) false ≡ true → Raised f x z
@@ -368,9 +328,6 @@ pub record ExtendedSoFar (x z : List Bool) (a : ℕ) : Type 0 where
   pub fits : a ≤ 8
   pub below : (k : ℕ) → k < 320 → get_or z k false ≡ get_or x k false
   pub done : (b v : ℕ) → b < a → v < 16 → get_or z (320 + (16 * b + v)) false ≡ any_from (λ w. get_or x (160 + (16 * b + w)) false) v 16
-
-pub extended_none : (x : List Bool) → ExtendedSoFar x x 0
-extended_none x = record { size = refl; fits = omega arith; below = λ k l. refl; done = λ b v l m. absurd (omega arith) }
 
 -- One attribute more.
 pub extended_more : {x y z : List Bool} {a : ℕ} → ExtendedSoFar x y a → a < 8 → ExtendedAt a y z → ExtendedSoFar x z (a + 1)

@@ -6,7 +6,7 @@ ghost use Rattle.std.specs.Prelude.{◌≡◌, false, ◌||◌, ◌+◌, ◌<◌
 ghost use Rattle.shown.specs.Inner.Shown.{touches, Extended, ExtendedAt, Falls, Raised};
 ghost use Rattle.widths.specs.Inner.Widths.{level_size, higher_at, flags_size, table_size};
 
-use widths::{HIGHER_AT, LEVEL_SIZE};
+use widths::{HIGHER_AT, LEVEL_SIZE, VALUES_SIZE};
 
 // What the fact `f` adds at the place 320 + `k`: a value, the flags of itself and of the lower values of its attribute; a membership, that of a value
 // where its crew hands on this value or a higher one.
@@ -14,16 +14,13 @@ fn touch_higher(table: &[bool], f: usize, k: usize) -> bool
     requires { (f < level_size) × ((k < 128) × (length table.now ≡ table_size)) }
     ensures { result ≡ touches table.now f (higher_at + k) }
 {
-    let first = 16 * (k / 16);
-    if f < 128 {
+    if f < VALUES_SIZE {
         return (k / 16 == f / 16) & (k <= f);
     }
-    let mut j = k;
-    while j < first + 16 {
-        if table[LEVEL_SIZE * (f - 128) + j] {
+    for j in k..16 * (k / 16) + 16 {
+        if table[LEVEL_SIZE * (f - VALUES_SIZE) + j] {
             return true;
         }
-        j += 1;
     }
     false
 }
@@ -39,13 +36,8 @@ fn touch(table: &[bool], f: usize, k: usize) -> bool
     if HIGHER_AT <= k {
         return touch_higher(table, f, k - HIGHER_AT);
     }
-    if k - LEVEL_SIZE == f {
-        return true;
-    }
-    if f < 128 {
-        return false;
-    }
-    table[LEVEL_SIZE * (f - 128) + (k - LEVEL_SIZE)]
+    k - LEVEL_SIZE == f
+        || f >= VALUES_SIZE && table[LEVEL_SIZE * (f - VALUES_SIZE) + (k - LEVEL_SIZE)]
 }
 
 // Whether `x` with the fact `f` put in shows the place `k`.
@@ -53,10 +45,7 @@ pub fn lit(table: &[bool], f: usize, k: usize, x: &[bool]) -> bool
     requires { (f < level_size) × ((k < flags_size) × ((length x.now ≡ flags_size) × (length table.now ≡ table_size))) }
     ensures { result ≡ get_or x.now k false || touches table.now f k }
 {
-    if x[k] {
-        return true;
-    }
-    touch(table, f, k)
+    x[k] || touch(table, f, k)
 }
 
 // Writes the flags of attribute `a` from place 320 on: from its highest value downwards, whether the value or a higher one is effective.
@@ -64,13 +53,10 @@ fn extend_attribute(a: usize, x: &mut [bool])
     requires { (a < 8) × (length x.old ≡ flags_size) }
     ensures { ExtendedAt a x.old x.new }
 {
-    let first = 16 * a;
     let mut on = false;
-    let mut v: usize = 16;
-    while 0 < v {
-        v -= 1;
-        on = on | x[LEVEL_SIZE + (first + v)];
-        x[HIGHER_AT + (first + v)] = on;
+    for v in (0..16).rev() {
+        on |= x[LEVEL_SIZE + (16 * a + v)];
+        x[HIGHER_AT + (16 * a + v)] = on;
     }
 }
 
@@ -79,10 +65,8 @@ pub fn extend(x: &mut [bool])
     requires { length x.old ≡ flags_size }
     ensures { Extended x.old x.new }
 {
-    let mut a: usize = 0;
-    while a < 8 {
+    for a in 0..8 {
         extend_attribute(a, x);
-        a += 1;
     }
 }
 
@@ -91,10 +75,7 @@ pub fn raise(f: usize, x: &mut [bool])
     requires { (f < 128) × Falls x.old }
     ensures { Raised f x.old x.new }
 {
-    let first = 16 * (f / 16);
-    let mut k = f + 1;
-    while first < k {
-        k -= 1;
+    for k in (16 * (f / 16)..f + 1).rev() {
         if x[HIGHER_AT + k] {
             return;
         }

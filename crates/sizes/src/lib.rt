@@ -19,33 +19,28 @@ pub struct Sizes {
 pub fn is_between(lo: u8, hi: u8, n: u8) -> bool
     ensures { result ≡ between lo hi n }
 {
-    (lo <= n) & (n <= hi)
+    lo <= n && n <= hi
 }
 
 // How many values attribute a has.
 pub fn values_of(z: Sizes, a: u8) -> u8
     ensures { result ≡ values_of z a }
 {
-    let i = a as usize;
-    if i < 8 {
-        return z.counts[i];
-    }
-    0
+    lines::byte_at(&z.counts, a as usize)
 }
 
 // Whether v is a value of attribute a.
 pub fn is_value(z: Sizes, a: u8, v: u8) -> bool
     ensures { result ≡ is_value z a v }
 {
-    let n = values_of(z, a);
-    (a < z.attrs) & (v < n)
+    a < z.attrs && v < values_of(z, a)
 }
 
 // Whether a is a crew and v is 00.
 pub fn is_crew_field(z: Sizes, a: u8, v: u8) -> bool
     ensures { result ≡ is_crew_field z a v }
 {
-    (a < z.crews) & (v == 0)
+    a < z.crews && v == 0
 }
 
 // Count j of a 01 frame.
@@ -57,60 +52,48 @@ fn count_at(x: &[u8], j: usize) -> u8
 }
 
 // Whether each of the first n counts is in its range.
+#[tactic(auto, using(quantifiers::proofs::TurnLaws::all_passed))]
 fn are_counts(x: &[u8], n: u8) -> bool
     ensures { result ≡ all_below (count_good_at x.now) n }
 {
-    let m = n as usize;
-    let mut good = true;
-    let mut j: usize = 0;
-    while j < m {
-        let count = count_at(x, j);
-        good = good & is_between(1, 16, count);
-        j += 1;
+    for j in 0..n as usize {
+        if !is_between(1, 16, count_at(x, j)) {
+            return false;
+        }
     }
-    good
+    true
 }
 
 // Whether the sizes of a 01 frame are in their ranges.
+#[tactic(auto, unfolding(crate::specs::Sizes::sizes_good))]
 pub fn are_sizes(x: &[u8]) -> bool
     ensures { result ≡ sizes_good x.now }
 {
-    let p = lines::byte_at(x, 1);
-    let g = lines::byte_at(x, 2);
-    let a = lines::byte_at(x, 3);
-    let counts = are_counts(x, a);
-    let persons = is_between(1, 64, p);
-    let attrs = is_between(1, 8, a);
-    persons & (g <= 32) & attrs & counts
+    let persons = lines::byte_at(x, 1);
+    let crews = lines::byte_at(x, 2);
+    let attrs = lines::byte_at(x, 3);
+    is_between(1, 64, persons) && crews <= 32 && is_between(1, 8, attrs) && are_counts(x, attrs)
 }
 
 fn counts_of(x: &[u8]) -> [u8; 8]
     ensures { result ≡ counts_of x.now }
 {
-    let c0 = count_at(x, 0);
-    let c1 = count_at(x, 1);
-    let c2 = count_at(x, 2);
-    let c3 = count_at(x, 3);
-    let c4 = count_at(x, 4);
-    let c5 = count_at(x, 5);
-    let c6 = count_at(x, 6);
-    let c7 = count_at(x, 7);
-    [c0, c1, c2, c3, c4, c5, c6, c7]
+    let mut counts = [0; 8];
+    for (j, count) in counts.iter_mut().enumerate() {
+        *count = count_at(x, j);
+    }
+    counts
 }
 
 // The sizes that a 01 frame writes.
 pub fn sizes_of(x: &[u8]) -> Sizes
     ensures { result ≡ sizes_of x.now }
 {
-    let persons = lines::byte_at(x, 1);
-    let crews = lines::byte_at(x, 2);
-    let attrs = lines::byte_at(x, 3);
-    let counts = counts_of(x);
     Sizes {
-        persons,
-        crews,
-        attrs,
-        counts,
+        persons: lines::byte_at(x, 1),
+        crews: lines::byte_at(x, 2),
+        attrs: lines::byte_at(x, 3),
+        counts: counts_of(x),
     }
 }
 
@@ -119,12 +102,9 @@ fn value_count(z: Sizes) -> usize
     requires { InRange z }
     ensures { result ≡ value_count z }
 {
-    let attrs = z.attrs;
-    let mut n: usize = 0;
-    let mut a: u8 = 0;
-    while a < attrs {
+    let mut n = 0;
+    for a in 0..z.attrs {
         n += values_of(z, a) as usize;
-        a += 1;
     }
     n
 }

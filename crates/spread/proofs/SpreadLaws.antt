@@ -22,38 +22,48 @@ or-none false false = refl
 
 -- ---------------------------------------------------------------- a value's flag and those of the lower ones
 
--- The flags of the values from k to f are set.
+-- The flags of the attribute's values below k are set.
 pub record RaisedLit (f who : ℕ) (before after : List ℕ) (k : ℕ) : Type 0 where
   pub size : length after ≡ 448
   pub first : 16 * (f / 16) ≤ k
   pub fits : k ≤ f + 1
-  pub lit : Lit who (λ j. leb (320 + k) j && leb j (320 + f)) before after
+  pub lit : Lit who (λ j. leb (320 + 16 * (f / 16)) j && ltb j (320 + k)) before after
 
-pub raised_lit_none : (f who : ℕ) {ws : List ℕ} → length ws ≡ 448 → RaisedLit f who ws ws (f + 1)
+pub raised_lit_none : (f who : ℕ) {ws : List ℕ} → length ws ≡ 448 → RaisedLit f who ws ws (16 * (f / 16))
 raised_lit_none f who {ws} size = record { size = size; first = omega arith; fits = omega arith; lit = lit_same (λ j l. sym (out j)) (lit_none who ws) }
   where
-    out : (j : ℕ) → leb (320 + (f + 1)) j && leb j (320 + f) ≡ false
-    out j = dite (dec_lt j (320 + (f + 1)))
-        (λ (l : j < 320 + (f + 1)). rw (lt-leb (320 + (f + 1)) j l) refl)
-        (λ (l : j < 320 + (f + 1) → ⊥). rw (lt-leb j (320 + f) (omega arith)) (and-false (leb (320 + (f + 1)) j)))
+    out : (j : ℕ) → leb (320 + 16 * (f / 16)) j && ltb j (320 + 16 * (f / 16)) ≡ false
+    out j = dite (dec_lt j (320 + 16 * (f / 16)))
+        (λ (l : j < 320 + 16 * (f / 16)). rw (lt-leb (320 + 16 * (f / 16)) j l) refl)
+        (λ (l : j < 320 + 16 * (f / 16) → ⊥).
+        rw (le-ltb j (320 + 16 * (f / 16)) (omega arith)) (and-false (leb (320 + 16 * (f / 16)) j)))
+
+-- Below one place more: that place is one more.
+one_more : (k j : ℕ) → (j ≡ 320 + k → ⊥) → ltb j (320 + k) ≡ ltb j (320 + (k + 1))
+one_more k j n = dite (dec_lt j (320 + k))
+    (λ (l : j < 320 + k). lt-ltb j (320 + k) l ∙ sym (lt-ltb j (320 + (k + 1)) (omega arith)))
+    (λ (l : j < 320 + k → ⊥). le-ltb j (320 + k) (omega arith) ∙ sym (le-ltb j (320 + (k + 1)) (omega arith)))
+
+-- One flag more, of the next higher value.
+pub raised_lit_more : {f who : ℕ} {before ws after : List ℕ} {k : ℕ} → RaisedLit f who before ws k → k < f + 1
+    → Lit who (λ j. eqb j (320 + k)) ws after → RaisedLit f who before after (k + 1)
+raised_lit_more {f} {k = k} r h one =
+    record { size = one.size ∙ r.size; first = omega (arith, r.first); fits = omega arith; lit = lit_same (λ j l. same j) (lit_both r.lit one) }
+  where
+    first : ℕ
+    first = 320 + 16 * (f / 16)
+
+    same : (j : ℕ) → (leb first j && ltb j (320 + k)) || eqb j (320 + k) ≡ leb first j && ltb j (320 + (k + 1))
+    same j = dite (ℕ_discrete j (320 + k))
+        (λ (e : j ≡ 320 + k). rw (eq-eqb j (320 + k) e, le-leb first j (omega (arith, r.first)), lt-ltb j (320 + (k + 1)) (omega arith))
+        (or-true (true && ltb j (320 + k))))
+        (λ (n : j ≡ 320 + k → ⊥). rw (ne_eqb j (320 + k) n, one_more k j n) (or-false (leb first j && ltb j (320 + (k + 1)))))
 
 -- From one place lower on: that place is one more.
 one_lower : (k j : ℕ) → 0 < k → (j ≡ 320 + (k - 1) → ⊥) → leb (320 + k) j ≡ leb (320 + (k - 1)) j
 one_lower k j h n = dite (dec_lt j (320 + k))
     (λ (l : j < 320 + k). lt-leb (320 + k) j l ∙ sym (lt-leb (320 + (k - 1)) j (omega arith)))
     (λ (l : j < 320 + k → ⊥). le-leb (320 + k) j (omega arith) ∙ sym (le-leb (320 + (k - 1)) j (omega arith)))
-
--- One flag more, of the next lower value.
-pub raised_lit_more : {f who : ℕ} {before ws after : List ℕ} {k : ℕ} → RaisedLit f who before ws k → 16 * (f / 16) < k
-    → Lit who (λ j. eqb j (320 + (k - 1))) ws after → RaisedLit f who before after (k - 1)
-raised_lit_more {f} {k = k} r h one =
-    record { size = one.size ∙ r.size; first = omega arith; fits = omega (arith, r.fits); lit = lit_same (λ j l. same j) (lit_both r.lit one) }
-  where
-    same : (j : ℕ) → (leb (320 + k) j && leb j (320 + f)) || eqb j (320 + (k - 1)) ≡ leb (320 + (k - 1)) j && leb j (320 + f)
-    same j = dite (ℕ_discrete j (320 + (k - 1)))
-        (λ (e : j ≡ 320 + (k - 1)). rw (eq-eqb j (320 + (k - 1)) e, le-leb (320 + (k - 1)) j (omega arith), le-leb j (320 + f) (omega (arith, r.fits)))
-        (or-true (leb (320 + k) j && true)))
-        (λ (n : j ≡ 320 + (k - 1) → ⊥). rw (ne_eqb j (320 + (k - 1)) n, one_lower k j (omega arith) n) (or-false (leb (320 + (k - 1)) j && leb j (320 + f))))
 
 -- Of its attribute's values, those not above f: none below the attribute, none above f.
 module _ (f j : ℕ) where
@@ -69,19 +79,22 @@ module _ (f j : ℕ) where
   unfolding not_higher
   inside m l = rw (eq-eqb (j / 16) (f / 16) (omega arith), le-leb j f l) refl
 
--- Behind the lowest value of the attribute all are set.
-pub raised_lit_all : {f who : ℕ} {before after : List ℕ} {k : ℕ} → RaisedLit f who before after k → k ≤ 16 * (f / 16)
+-- After f all are set.
+pub raised_lit_all : {f who : ℕ} {before after : List ℕ} {k : ℕ} → RaisedLit f who before after k → f + 1 ≤ k
     → Lit who (λ j. leb 320 j && not_higher f (j - 320)) before after
 raised_lit_all {f} {k = k} r h = lit_same (λ j l. same j) r.lit
   where
-    same : (j : ℕ) → leb (320 + k) j && leb j (320 + f) ≡ leb 320 j && not_higher f (j - 320)
+    first : ℕ
+    first = 320 + 16 * (f / 16)
+
+    same : (j : ℕ) → leb first j && ltb j (320 + k) ≡ leb 320 j && not_higher f (j - 320)
     same j = dite (dec_lt j 320)
-        (λ (m : j < 320). rw (lt-leb (320 + k) j (omega arith), lt-leb 320 j m) refl)
-        (λ (m : j < 320 → ⊥). rw (le-leb 320 j (omega arith)) (dite (dec_lt j (320 + k))
-        (λ (l : j < 320 + k). rw (lt-leb (320 + k) j l, low_out f (j - 320) (omega arith)) refl)
-        (λ (l : j < 320 + k → ⊥). rw (le-leb (320 + k) j (omega arith)) (dite (dec_lt (320 + f) j)
-        (λ (i : 320 + f < j). rw (lt-leb j (320 + f) i, high_out f (j - 320) (omega arith)) refl)
-        (λ (i : 320 + f < j → ⊥). rw (le-leb j (320 + f) (omega arith), inside f (j - 320) (omega (arith, r.first)) (omega arith)) refl)))))
+        (λ (m : j < 320). rw (lt-leb first j (omega arith), lt-leb 320 j m) refl)
+        (λ (m : j < 320 → ⊥). rw (le-leb 320 j (omega arith)) (dite (dec_lt j first)
+        (λ (l : j < first). rw (lt-leb first j l, low_out f (j - 320) (omega arith)) refl)
+        (λ (l : j < first → ⊥). rw (le-leb first j (omega arith)) (dite (dec_lt (320 + f) j)
+        (λ (i : 320 + f < j). rw (le-ltb j (320 + k) (omega (arith, r.fits)), high_out f (j - 320) (omega arith)) refl)
+        (λ (i : 320 + f < j → ⊥). rw (lt-ltb j (320 + k) (omega arith), inside f (j - 320) (omega arith) (omega arith)) refl)))))
 
 -- ---------------------------------------------------------------- the row of a crew
 

@@ -14,10 +14,7 @@ fn raise(f: usize, who: u64, held: &mut [u64])
     requires { (f < 128) × (length held.old ≡ flags_size) }
     ensures { Lit who (λ k. leb higher_at k && not_higher f (k - higher_at)) held.old held.new }
 {
-    let first = 16 * (f / 16);
-    let mut k = f + 1;
-    while first < k {
-        k -= 1;
+    for k in 16 * (f / 16)..f + 1 {
         words::add(HIGHER_AT + k, who, held);
     }
 }
@@ -28,11 +25,9 @@ fn add_row(table: &[bool], c: usize, who: u64, held: &mut [u64])
     ensures { Lit who (λ k. (leb level_size k && ltb k higher_at) && get_or table.now (level_size * c + (k - level_size)) false)
         held.old held.new }
 {
-    let mut k: usize = 0;
-    while k < LEVEL_SIZE {
+    for k in 0..LEVEL_SIZE {
         let on = table[LEVEL_SIZE * c + k];
         words::add(LEVEL_SIZE + k, words::only(on, who), held);
-        k += 1;
     }
 }
 
@@ -42,9 +37,7 @@ fn add_higher(table: &[bool], c: usize, who: u64, held: &mut [u64])
     ensures { Lit who (λ k. leb higher_at k && touches table.now (128 + c) k) held.old held.new }
 {
     let mut on = false;
-    let mut k: usize = 128;
-    while 0 < k {
-        k -= 1;
+    for k in (0..128).rev() {
         let higher = on & (k % 16 != 15);
         on = table[LEVEL_SIZE * c + k] | higher;
         words::add(HIGHER_AT + k, words::only(on, who), held);

@@ -18,6 +18,7 @@ pub fn read_full<R: Read>(reader: &mut R, buf: &mut [u8]) -> io::Result<usize>
     ensures err { OnErr result (length buf.new ≡ length buf.old) }
 {
     let mut done = 0;
+    // Kept: how far a turn goes is what the read says, so this is no loop over a range.
     while done < buf.len() {
         let n = reader.read(&mut buf[done..])?;
         if n == 0 {

@@ -5,6 +5,9 @@
 // The facts of a level, those of one crew or of the query's person: 8 attributes of 16 values, and 32 crews.
 pub const LEVEL_SIZE: usize = 160;
 
+// The values among the facts of a level: the memberships stand behind them.
+pub const VALUES_SIZE: usize = 128;
+
 // Behind a subject's direct facts and its effective ones: where the flags of "v or any higher value" begin.
 pub const HIGHER_AT: usize = 320;
 

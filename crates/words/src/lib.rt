@@ -12,10 +12,7 @@ use widths::FLAGS_SIZE;
 pub fn only(on: bool, who: u64) -> u64
     ensures { result ≡ cond on who 0 }
 {
-    if on {
-        return who;
-    }
-    0
+    if on { who } else { 0 }
 }
 
 // Sets the flag k for the persons.
@@ -23,8 +20,7 @@ pub fn add(k: usize, who: u64, held: &mut [u64])
     requires { (k < flags_size) × (length held.old ≡ flags_size) }
     ensures { Lit who (λ j. eqb j k) held.old held.new }
 {
-    let old = held[k];
-    held[k] = old | who;
+    held[k] |= who;
 }
 
 // Whether the flag k of person p is set.
@@ -42,13 +38,9 @@ pub fn put_column(s: &[bool], p: u8, held: &mut [u64])
     ensures { ColumnPut p s.now held.old held.new }
 {
     let who = 1u64 << p;
-    let mut k: usize = 0;
-    while k < FLAGS_SIZE {
+    for k in 0..FLAGS_SIZE {
         if s[k] {
             add(k, who, held);
-            k += 1;
-        } else {
-            k += 1;
         }
     }
 }

@@ -1,7 +1,6 @@
 -- What is written in a lent text, and the room for it. No part of what the programs promise.
-use Rattle.std.specs.Prelude.{◌≡◌, List, ◌++◌, ℕ, ◌+◌, ◌*◌, ◌≤◌, length, take, drop}
-use Rattle.planner.specs.declared.Planned.{Planned}
-use Rattle.planner.specs.declared.Planned.TheVariants.{Plan}
+use Rattle.std.specs.Prelude.{Ok, Some, ◌≡◌, List, ◌++◌, ℕ, ◌+◌, ◌*◌, ◌≤◌, length, take, drop}
+use Rattle.planner.specs.Answer.{Planned}
 
 -- The characters cs stand in a lent text from `at` up to `end`, and every other byte is as it was.
 pub record Written (before : List ℕ) (at : ℕ) (cs after : List ℕ) (end : ℕ) : Type 0 where
@@ -13,4 +12,4 @@ pub record Written (before : List ℕ) (at : ℕ) (cs after : List ℕ) (end : �
 -- Room for an answer: the requests of a plan stand in the plan's buffer, and the lines fit the text.
 pub record Room (answer : Planned) (plan text : List ℕ) : Type 0 where
   pub first : 9 ≤ length text
-  pub requests : (n : ℕ) → answer ≡ Plan n → (5 * n ≤ length plan) × (7 + 11 * n ≤ length text)
+  pub requests : (n : ℕ) → answer ≡ Ok (Some n) → (5 * n ≤ length plan) × (7 + 11 * n ≤ length text)

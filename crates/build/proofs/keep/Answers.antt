@@ -1,25 +1,15 @@
--- The facts copied place by place. The measure is the places left. Assumes nothing.
+-- The first places are copied, and those of the facts are these. Assumes nothing.
+use mathlib.Core.Path.{◌∙◌}
 use native.Mathlib.Omega.{arith}
-use mathlib.Core.Path.{refl, sym, ◌∙◌}
-use mathlib.Core.Bool.{false}
-use lib.ListN.{get_or}
-use Rattle.build.proofs.BuildLaws.{so_far_first, so_far_more, copy_all}
+use Rattle.std.proofs.lemmas.List.{length-take-le}
+use Rattle.build.proofs.BuildLaws.{copied_facts}
 use Rattle.build.proofs.keep.Goals as goal
 
-pub loop-k-init : goal.loop-k-init
-loop-k-init c = so_far_first (λ j. get_or c.args.y.now j false) c.requires.1
+pub slice_bounds-copy_from_slice-end : goal.slice_bounds-copy_from_slice-end
+slice_bounds-copy_from_slice-end c = rw (length-take-le 160 c.args.y.now (omega arith))
 
-pub bounds-u-k : goal.bounds-u-k
-bounds-u-k c =
-    omega (arith, c.loop-k.invariant.size)
-
-pub loop-k-preserved : goal.loop-k-preserved
-loop-k-preserved c =
-    so_far_more _ c.loop-k.invariant c.loop-k-test.true refl
-
-pub shape_of-u : goal.shape_of-u
-shape_of-u c =
-    c.loop-k.invariant.size ∙ sym c.requires.1
+pub copy_from_slice-requires : goal.copy_from_slice-requires
+copy_from_slice-requires c = rw (length-take-le 160 c.args.y.now (omega arith)) c.requires.1
 
 pub returns : goal.returns
-returns c = copy_all c.loop-k.invariant c.loop-k-test.false
+returns c = copied_facts c.args.y.now (c.copy_from_slice.ensures.len ∙ c.requires.1) c.copy_from_slice.ensures.after

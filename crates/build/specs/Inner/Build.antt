@@ -1,5 +1,5 @@
 -- Flags and sets made anew: what each function writes.
-use Rattle.std.specs.Prelude.{◌≡◌, Bool, true, false, List, ℕ, ◌≤◌, ◌<◌, length}
+use Rattle.std.specs.Prelude.{Option, Some, None, ◌≡◌, Bool, true, false, List, ℕ, ◌≤◌, ◌<◌, length}
 use Rattle.widths.specs.Inner.Widths.{level_size}
 use Rattle.theory.specs.Inner.Facts.{minus}
 use Rattle.shown.specs.Inner.Shown.{direct, Whole, WholeFacts}
@@ -23,6 +23,11 @@ pub record Stripped (x bad d : List Bool) : Type 0 where
 pub record Copied (y u : List Bool) : Type 0 where
   pub size : length u ≡ level_size
   pub same : direct u ≡ direct y
+
+-- A fact's number; 160 where there is none.
+abbrev pub lacked : Option ℕ → ℕ
+lacked (Some f) = f
+lacked None = level_size
 
 -- `r` is the first fact that `a` has and `b` lacks, or 160.
 pub record Lacks (a b : List Bool) (r : ℕ) : Type 0 where

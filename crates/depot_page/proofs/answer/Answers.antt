@@ -11,17 +11,17 @@ pub slice_bounds-page-end-2 : goal.slice_bounds-page-end-2
 slice_bounds-page-end-2 c =
     sym (length-take-le c.args.n c.args.text.now c.requires.0)
 
-pub returns-in-Filled : goal.returns-in-Filled
-returns-in-Filled c =
+pub returns-in-Ok : goal.returns-in-Ok
+returns-in-Ok c =
     let paged = c.page-paged in
-    let written = filled_written paged.new.out c.in-Filled.is
+    let written = filled_written paged.new.out c.in-Ok.is
     c.put_table.ensures in
     (end-within written, printed paged.result (length-replicate {A = ℕ} 1024 0) paged.ensures written.upto)
 
-pub returns-in-Refused : goal.returns-in-Refused
-returns-in-Refused c =
+pub returns-in-Err : goal.returns-in-Err
+returns-in-Err c =
     let paged = c.page-paged in
-    let written = refused-written paged.new.out _ c.in-Refused.is
+    let written = refused-written paged.new.out _ c.in-Err.is
     c.refusal_number-number.ensures c.refusal_line-line.ensures
     c.put_refused.ensures in
     (end-within written, printed paged.result (length-replicate {A = ℕ} 1024 0) paged.ensures written.upto)

@@ -1,28 +1,15 @@
--- `facts::put_fact` meets its contract: a fact that fits is put at its place, any other changes nothing. Assumes nothing.
-use mathlib.Core.Bool.{true, false}
-use mathlib.Core.Path.{◌≡◌, sym, ◌∙◌}
-use native.Mathlib.Omega.{arith}
-use Rattle.facts.specs.Facts.{fits}
-use Rattle.facts.proofs.FactLaws.{place_fits, put_misfit, put_place}
+-- `facts::put_fact` meets its contract: a fact with a place is put there, any other changes nothing. Assumes nothing.
+use mathlib.Core.Path.{sym, ◌∙◌}
+use Rattle.facts.proofs.FactLaws.{placed, unplaced, put_misfit, put_place}
 use Rattle.facts.proofs.put_fact.Goals as goal
 
-pub returns-then-not-fact_fits : goal.returns-then-not-fact_fits
-returns-then-not-fact_fits c =
-    let misfit : fits c.args.f ≡ false = sym c.fact_fits.ensures ∙ c.if-not-fact_fits.true in
-    sym (put_misfit c.args.ledger.now c.args.f c.args.on misfit)
-
 pub put_at-requires : goal.put_at-requires
-put_at-requires c =
-    let f = c.args.f in
-    let fit : fits f ≡ true = sym c.fact_fits.ensures ∙ c.if-not-fact_fits.false in
-    let room = place_fits f fit in
-    let place = c.place_of-place.ensures in
-    (omega arith, (omega arith, omega arith))
+put_at-requires c = let found = placed _ _ c.in-Some.ensures in (found.small, (found.narrow, found.inside))
 
-pub returns : goal.returns
-returns c =
-    let f = c.args.f in
-    let fit : fits f ≡ true = sym c.fact_fits.ensures ∙ c.if-not-fact_fits.false in
-    let place = c.place_of-place.ensures in
-    c.put_at.ensures
-    ∙ rw (place.0, place.1.0, place.1.1) (sym (put_place c.args.ledger.now f c.args.on fit))
+pub returns-in-Some : goal.returns-in-Some
+returns-in-Some c =
+    let found = placed _ _ c.in-Some.ensures in
+    c.put_at.ensures ∙ rw (found.at, found.width, found.number) (sym (put_place c.args.ledger.now c.args.f c.args.on found.fit))
+
+pub returns-in_default : goal.returns-in_default
+returns-in_default c = sym (put_misfit c.args.ledger.now c.args.f c.args.on (unplaced _ c.in_default.ensures))

@@ -1,29 +1,25 @@
--- `flags::do_listed_reach` meets its contract: the invariant says that no listed crew below d reaches c; the measure is how many are left. Assumes nothing.
-use mathlib.Core.Path.{◌≡◌, ap, sym, ◌∙◌}
-use Rattle.quantifiers.specs.Quantifiers.{any_below}
-use Rattle.quantifiers.proofs.BelowLaws.{any-zero, any_next, any_from_lem}
-use Rattle.flags.specs.Inner.Flags.{listed_reaches}
+-- The first listed crew whose row reaches `c` answers; before crew `d` there is none. Assumes nothing.
+use mathlib.Core.Bool.{and-false}
 use native.Mathlib.Omega.{arith}
+use Rattle.std.proofs.Common.{below_more}
+use Rattle.sets.specs.Sets.{member}
+use Rattle.quantifiers.proofs.TurnLaws.{one_passed, none_passed}
+use Rattle.flags.specs.Inner.Flags.{listed_reaches}
 use Rattle.flags.proofs.do_listed_reach.Goals as goal
+use Rattle.flags.proofs.do_listed_reach.Goals.{else-has-via-then-has+else-rows-d, else-has-via-else-has}
 
-pub loop-d-init : goal.loop-d-init
-loop-d-init c = (omega arith, any-zero _)
-
-pub returns-then-named-reached : goal.returns-then-named-reached
-returns-then-named-reached c =
-    let start = c.args in
-    sym (any_from_lem (listed_reaches start.listed start.rows.now start.c) 32 c.loop-d.d
-    (rw (← c.has-named.ensures) c.if-named-reached.true) c.loop-d-test.true)
+pub returns-then-rows-d : goal.returns-then-rows-d
+returns-then-rows-d c =
+    one_passed (listed_reaches c.args.listed c.args.rows.now c.args.c) 32 c.loop-d.d c.loop-d-test.true
+    (rw (← c.has.ensures, c.if-has.true) c.if-rows-d.true)
 
 pub loop-d-preserved : goal.loop-d-preserved
 loop-d-preserved c =
-    let start = c.args in (
-      omega arith,
-      any_next (listed_reaches start.listed start.rows.now start.c) c.loop-d.d
-          c.loop-d.invariant.1 (rw (← c.has-named.ensures) c.if-named-reached.false),
-    )
+    below_more _ _ c.loop-d.invariant
+    (elim c.else-has.branch [
+      | else-has-via-then-has+else-rows-d w ↦ rw w.if-rows-d.false (and-false (member c.args.listed c.loop-d.d))
+      | else-has-via-else-has w ↦ rw (← c.has.ensures, w.if-has.false)
+    ])
 
 pub returns : goal.returns
-returns c =
-    let last : c.loop-d.d ≡ 32 = omega (arith, c.loop-d.invariant.0, c.loop-d-test.false) in
-    sym (ap (any_below _) (sym last) ∙ c.loop-d.invariant.1)
+returns c = none_passed (listed_reaches c.args.listed c.args.rows.now c.args.c) 32 (λ i l. c.loop-d.invariant i (omega arith))

@@ -1,25 +1,11 @@
--- `flags::write_bits` meets its contract: the invariant says that the first v flags are written; the measure is how many are left.
--- Assumes nothing.
+-- Before flag `v` the first `v` flags are written. Assumes nothing.
 use mathlib.Core.Path.{refl}
 use Prim.Native.Nat.{◌+◌}
 use native.Mathlib.Omega.{arith}
-use Rattle.flags.proofs.FlagLaws.{written_none, written_more, written-end}
+use Rattle.flags.proofs.FlagLaws.{written_more}
 use Rattle.sets.specs.Sets.{member, bit}
 use Rattle.flags.proofs.write_bits.Goals as goal
 
-pub loop-v-init : goal.loop-v-init
-loop-v-init c = (omega arith, written_none _ _ _)
-
-pub bounds-s-at : goal.bounds-s-at
-bounds-s-at c = omega (arith, c.loop-v.invariant.1.size, c.requires.1)
-
 pub loop-v-preserved : goal.loop-v-preserved
 unfolding member bit
-loop-v-preserved c =
-    (omega arith, written_more _ (c.args.at + c.loop-v.v) c.loop-v.invariant.1 refl (omega (arith, c.requires.1)) refl)
-
-pub shape_of-s : goal.shape_of-s
-shape_of-s c = c.loop-v.invariant.1.size
-
-pub returns : goal.returns
-returns c = written-end c.loop-v.invariant.1 (omega (arith, c.loop-v.invariant.0, c.loop-v-test.false))
+loop-v-preserved c = written_more _ (c.args.at + c.loop-v.v) c.loop-v.invariant refl (omega arith) refl

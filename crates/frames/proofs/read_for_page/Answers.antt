@@ -1,16 +1,13 @@
--- `frames::read_for_page` meets its contract as `read` does: over 65,536 characters is refusal 1, else the lines decide. Assumes nothing.
-use mathlib.Core.Path.{sym, ◌∙◌}
-use borrow.Author.Tests.{ltb-false}
+-- `frames::read_for_page` meets its contract: over 65,536 characters is refusal 1, else the lines decide. Assumes nothing.
+use mathlib.Core.Path.{refl}
+use borrow.Author.Tests.{lt-ltb, le-ltb}
 use Rattle.frames.specs.Book.{book_for}
 use Rattle.frames.proofs.read_for_page.Goals as goal
 
-pub returns-then-is_too_long : goal.returns-then-is_too_long
+pub returns-then-book-gt-MOST : goal.returns-then-book-gt-MOST
 unfolding book_for
-returns-then-is_too_long c = rw (sym c.is_too_long.ensures ∙ c.if-is_too_long.true) c.turned_back.ensures
-
-pub read_lines-requires : goal.read_lines-requires
-read_lines-requires c = ltb-false _ _ (sym c.is_too_long.ensures ∙ c.if-is_too_long.false)
+returns-then-book-gt-MOST c = rw (lt-ltb _ _ c.if-book-gt-MOST.true) refl
 
 pub returns : goal.returns
 unfolding book_for
-returns c = rw (sym c.is_too_long.ensures ∙ c.if-is_too_long.false) c.read_lines.ensures
+returns c = rw (le-ltb _ _ c.if-book-gt-MOST.false) c.read_lines.ensures

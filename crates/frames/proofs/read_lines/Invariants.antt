@@ -1,5 +1,5 @@
 -- `frames::read_lines` meets its contract. The invariant `Held` says that what is left of the book decides the answer; the
--- measure is what is left of its length. Each turn is one law of WalkLaws, by the kind of its frame. Assumes nothing.
+-- measure is what is left of its length. Assumes nothing.
 use mathlib.Core.Path.{◌≡◌}
 use Prim.Native.Nat.{◌-◌}
 use lib.ListN.{length}

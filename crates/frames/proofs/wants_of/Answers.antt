@@ -1,17 +1,9 @@
--- `frames::wants_of` meets its contract: the eight places in order. Assumes nothing.
-use Rattle.frames.specs.Book.{wants_of}
+-- `frames::wants_of` meets its contract: all eight places are written. Assumes nothing.
+use Rattle.std.proofs.Common.{arith}
+use Rattle.std.proofs.lemmas.List.FromFn.{fill_by_all}
+use Rattle.frames.specs.Book.{want_at, wants_of, no_want}
 use Rattle.frames.proofs.wants_of.Goals as goal
 
 pub returns : goal.returns
 unfolding wants_of
-returns c =
-    rw (
-      c.want_at-w0.ensures,
-      c.want_at-w1.ensures,
-      c.want_at-w2.ensures,
-      c.want_at-w3.ensures,
-      c.want_at-w4.ensures,
-      c.want_at-w5.ensures,
-      c.want_at-w6.ensures,
-      c.want_at-w7.ensures,
-    )
+returns c = fill_by_all (want_at c.args.x.now) _ 8 no_want c.loop-j.invariant.size (λ k h. c.loop-j.invariant.written k (omega arith))

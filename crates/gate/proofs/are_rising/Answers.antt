@@ -1,20 +1,9 @@
--- `gate::are_rising` meets its contract: the invariant says that `good` is the test of the places below j; the measure is what is left of q. Assumes nothing.
-use mathlib.Core.Path.{ap, ◌∙◌}
-use Rattle.gate.specs.Gate.{rises_at}
-use Rattle.quantifiers.specs.Quantifiers.{all_below}
-use Rattle.quantifiers.proofs.BelowLaws.{all_more, all_none}
+-- `gate::are_rising` meets its contract: at a place where the attribute does not rise not all do. Assumes nothing.
 use native.Mathlib.Omega.{arith}
+use borrow.Author.Tests.{le-ltb}
+use Rattle.quantifiers.proofs.TurnLaws.{one_failed}
 use Rattle.gate.proofs.are_rising.Goals as goal
 
-pub loop-j-init : goal.loop-j-init
-loop-j-init c = (omega arith, all_none _)
-
-pub loop-j-preserved : goal.loop-j-preserved
-loop-j-preserved c = (
-  omega arith,
-  all_more (rises_at c.args.x.now) c.loop-j.j _ _
-      c.loop-j.invariant.1 (rw (c.byte_at-a.ensures, c.byte_at-b.ensures)),
-)
-
-pub returns : goal.returns
-returns c = c.loop-j.invariant.1 ∙ ap (all_below _) (omega arith)
+pub returns-then-byte_at : goal.returns-then-byte_at
+returns-then-byte_at c =
+    one_failed _ _ c.loop-j.j (omega arith) (rw (← c.byte_at.ensures, ← c.byte_at-in-loop-j.ensures) (le-ltb _ _ c.if-byte_at.true))

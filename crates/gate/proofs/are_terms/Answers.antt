@@ -1,20 +1,11 @@
--- `gate::are_terms` meets its contract: the invariant says that `good` is the test of the terms below j; the measure is what is left of n. Assumes nothing.
-use mathlib.Core.Path.{ap, ◌∙◌}
-use Rattle.gate.specs.Gate.{term_good_at}
-use Rattle.quantifiers.specs.Quantifiers.{all_below}
-use Rattle.quantifiers.proofs.BelowLaws.{all_more, all_none}
-use native.Mathlib.Omega.{arith}
+-- `gate::are_terms` meets its contract: a term that passed joins those before it; at one that did not pass not all do. Assumes nothing.
+use mathlib.Core.Path.{sym}
+use Rattle.std.proofs.Common.{below_more}
+use Rattle.quantifiers.proofs.TurnLaws.{one_failed}
 use Rattle.gate.proofs.are_terms.Goals as goal
 
-pub loop-j-init : goal.loop-j-init
-loop-j-init c = (omega arith, all_none _)
+pub returns-then-not-is_term_at : goal.returns-then-not-is_term_at
+returns-then-not-is_term_at c = one_failed _ _ c.loop-j.j c.loop-j-test.true (sym c.if-not-is_term_at.ensures)
 
 pub loop-j-preserved : goal.loop-j-preserved
-loop-j-preserved c = (
-  omega arith,
-  all_more (term_good_at c.args.z c.args.x.now) c.loop-j.j _ _
-      c.loop-j.invariant.1 c.is_term_at-good.ensures,
-)
-
-pub returns : goal.returns
-returns c = c.loop-j.invariant.1 ∙ ap (all_below _) (omega arith)
+loop-j-preserved c = below_more _ _ c.loop-j.invariant (sym c.if-not-is_term_at.ensures)

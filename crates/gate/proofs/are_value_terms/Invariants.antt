@@ -1,13 +1,7 @@
--- `gate::are_value_terms` meets its contract: the invariant says that `good` is the test of the terms below j; the measure is what is left of n.
--- Assumes nothing.
-use mathlib.Core.Path.{◌≡◌}
-use Prim.Native.Nat.{◌≤◌, ◌-◌}
+-- `gate::are_value_terms` meets its contract: what is behind the turn passed.
+use Rattle.std.proofs.Common.{◌≡◌, ℕ, ◌<◌, true}
 use Rattle.gate.specs.Gate.{value_term_at}
-use Rattle.quantifiers.specs.Quantifiers.{all_below}
 use Rattle.gate.proofs.are_value_terms.Given as goal
 
 abbrev pub invariant-loop-j : goal.invariant-loop-j
-invariant-loop-j l = (l.j ≤ l.m) × (l.good ≡ all_below (value_term_at l.x) l.j)
-
-abbrev pub decreases-loop-j : goal.decreases-loop-j
-decreases-loop-j l = l.m - l.j
+invariant-loop-j l = (k : ℕ) → k < l.j → value_term_at l.x k ≡ true

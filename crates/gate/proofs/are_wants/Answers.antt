@@ -1,20 +1,7 @@
--- `gate::are_wants` meets its contract: the invariant says that `good` is the test of the sets below j; the measure is what is left of q. Assumes nothing.
-use mathlib.Core.Path.{ap, ◌∙◌}
-use Rattle.gate.specs.Gate.{want_good_at}
-use Rattle.quantifiers.specs.Quantifiers.{all_below}
-use Rattle.quantifiers.proofs.BelowLaws.{all_more, all_none}
-use native.Mathlib.Omega.{arith}
+-- `gate::are_wants` meets its contract: at an attribute and set that did not pass not all do. Assumes nothing.
+use mathlib.Core.Path.{sym}
+use Rattle.quantifiers.proofs.TurnLaws.{one_failed}
 use Rattle.gate.proofs.are_wants.Goals as goal
 
-pub loop-j-init : goal.loop-j-init
-loop-j-init c = (omega arith, all_none _)
-
-pub loop-j-preserved : goal.loop-j-preserved
-loop-j-preserved c = (
-  omega arith,
-  all_more (want_good_at c.args.z c.args.x.now) c.loop-j.j _ _
-      c.loop-j.invariant.1 c.is_want_at-good.ensures,
-)
-
-pub returns : goal.returns
-returns c = c.loop-j.invariant.1 ∙ ap (all_below _) (omega arith)
+pub returns-then-not-is_want_at : goal.returns-then-not-is_want_at
+returns-then-not-is_want_at c = one_failed _ _ c.loop-j.j c.loop-j-test.true (sym c.if-not-is_want_at.ensures)

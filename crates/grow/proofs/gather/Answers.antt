@@ -19,7 +19,7 @@ pub bounds-d-g : goal.bounds-d-g
 bounds-d-g c =
     omega (
       arith,
-      c.wide-g.ensures,
+      c.from-g.ensures,
       (new_parts _ _ _ _ c.loop-i-test.true
           (sym c.asks_new.ensures ∙ c.if-asks_new.true)).low,
       c.loop-i.invariant.size,
@@ -27,13 +27,13 @@ bounds-d-g c =
 
 pub loop-i-smaller-then-asks_new : goal.loop-i-smaller-then-asks_new
 loop-i-smaller-then-asks_new c =
-    rw c.wide-g.ensures
+    rw c.from-g.ensures
     (gather-less c.loop-i.invariant c.loop-i-test.true
     (sym c.asks_new.ensures ∙ c.if-asks_new.true))
 
 pub loop-i-preserved-then-asks_new : goal.loop-i-preserved-then-asks_new
 loop-i-preserved-then-asks_new c =
-    rw c.wide-g.ensures
+    rw c.from-g.ensures
     (gathering-more c.loop-i.invariant c.loop-i-test.true
     (sym c.asks_new.ensures ∙ c.if-asks_new.true))
 

@@ -1,29 +1,19 @@
--- `grow::has_term` meets its contract: none of the first `j` terms is `k`. The measure is the terms left. Assumes nothing.
+-- `grow::has_term` meets its contract: none of the first `j` terms is `k`. Assumes nothing.
 use mathlib.Core.Path.{sym, ◌∙◌}
+use borrow.Author.Count.{below_more}
 use borrow.Author.Tests.{ne_eqb}
-use Rattle.quantifiers.proofs.BelowLaws.{any-zero, any_next}
+use Rattle.quantifiers.proofs.TurnLaws.{none_passed}
 use Rattle.grow.specs.Inner.Tables.{says}
-use Rattle.grow.proofs.TableLaws.{none_passed, says_from}
+use Rattle.grow.proofs.TableLaws.{says_from}
 use native.Mathlib.Omega.{arith}
 use Rattle.grow.proofs.has_term.Goals as goal
-use Rattle.grow.proofs.has_term.Invariants.{is_term}
 
-pub loop-j-init : goal.loop-j-init
-loop-j-init c = (omega arith, any-zero (is_term c.args.ts.now c.args.f c.args.k))
-
-pub returns-then-wide-k : goal.returns-then-wide-k
-returns-then-wide-k c = sym (says_from _ _ _ _ c.loop-j-test.true (sym c.wide.ensures ∙ c.if-wide-k.true))
+pub returns-then-from-k : goal.returns-then-from-k
+returns-then-from-k c = sym (says_from _ _ _ _ c.loop-j-test.true (sym c.from.ensures ∙ c.if-from-k.true))
 
 pub loop-j-preserved : goal.loop-j-preserved
-loop-j-preserved c = (
-  omega arith,
-  any_next (is_term c.args.ts.now c.args.f
-      c.args.k) _ c.loop-j.invariant.1
-      (ne_eqb _ _ (λ e. c.if-wide-k.false (c.wide.ensures ∙ e))),
-)
+loop-j-preserved c = below_more _ _ c.loop-j.invariant (ne_eqb _ _ (λ e. c.if-from-k.false (c.from.ensures ∙ e)))
 
 pub returns : goal.returns
 unfolding says
-returns c =
-    none_passed (is_term c.args.ts.now c.args.f
-    c.args.k) 8 _ c.loop-j.invariant.0 c.loop-j-test.false c.loop-j.invariant.1
+returns c = none_passed _ 8 (λ i l. c.loop-j.invariant i (omega arith))

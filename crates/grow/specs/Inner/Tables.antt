@@ -1,6 +1,6 @@
 -- The rules of a person's facts as tables: which of the 160 facts a rule adds, and eight terms of each. A term below 160 asks that this
 -- fact is there, one below 320 that the fact 160 lower is lacking; any other asks nothing.
-use Rattle.std.specs.Prelude.{◌≡◌, Bool, true, false, not, cond, ◌&&◌, List, ℕ, ◌+◌, ◌-◌, ◌*◌, ◌/◌, ◌≤◌, ◌<◌, eqb, ltb, length, get_or, take}
+use Rattle.std.specs.Prelude.{Option, Some, None, ◌≡◌, Bool, true, false, not, cond, ◌&&◌, List, ℕ, ◌+◌, ◌-◌, ◌*◌, ◌/◌, ◌≤◌, ◌<◌, eqb, ltb, length, get_or, take}
 use Rattle.widths.specs.Inner.Widths.{level_size, idle_at}
 use Rattle.quantifiers.specs.Quantifiers.{any_below}
 use Rattle.theory.specs.Inner.Facts.{State, ◌⊆◌}
@@ -69,6 +69,15 @@ pub record Added (us : List Bool) (ts : List ℕ) (d x₀ x : List Bool) (order 
   pub few : n ≤ level_size
   pub peeled : Peeled (rules_in us ts) (direct x₀) (direct d) (direct x) (take n order)
   pub done : (f : ℕ) → Free (rules_in us ts) (direct d) (direct x) f → ⊥
+
+-- Whether there is a way, and how many facts it adds.
+abbrev pub is_way : Option ℕ → Bool
+is_way (Some n) = true
+is_way None = false
+
+abbrev pub count_of : Option ℕ → ℕ
+count_of (Some n) = n
+count_of None = 0
 
 -- A way from s to w, in the front of `order`; or there is none.
 pub record Answer (us : List Bool) (ts : List ℕ) (s w : List Bool) (order : List ℕ) (found : Bool) (n : ℕ) : Type 0 where

@@ -1,7 +1,6 @@
 -- `inherit::crew_tried` and `inherit::juniors_tried`, which call each other. The loop's invariant: no junior below `j` passes, and the
--- crews of `tried` were tried; its measure is what is left. The crew's number falls from crew to junior: 2c + 1 for the crew, 2c for its
--- juniors.
-use Rattle.std.proofs.Common.{◌-◌, ◌≡◌, ◌+◌, ◌*◌, ◌≤◌, false}
+-- crews of `tried` were tried. The crew's number falls from crew to junior: 2c + 1 for the crew, 2c for its juniors.
+use Rattle.std.proofs.Common.{◌≡◌, ◌+◌, ◌*◌, false}
 use Rattle.facts.specs.Facts.{holds}
 use Rattle.inherit.specs.Inner.Search.{sought, junior_passes, Tried}
 use Rattle.inherit.proofs.+crew_tried_juniors_tried.Given as goal
@@ -14,7 +13,4 @@ decreases-juniors_tried l = 2 * l.c
 
 abbrev pub invariant-juniors_tried-loop-j : goal.invariant-juniors_tried-loop-j
 invariant-juniors_tried-loop-j l =
-    (l.j ≤ l.c) × ((junior_passes l.juniors (sought (holds l.ledger) l.w) l.c l.j ≡ false) × Tried l.juniors (sought (holds l.ledger) l.w) l.tried)
-
-abbrev pub decreases-juniors_tried-loop-j : goal.decreases-juniors_tried-loop-j
-decreases-juniors_tried-loop-j l = l.c - l.j
+    (junior_passes l.juniors (sought (holds l.ledger) l.w) l.c l.j ≡ false) × Tried l.juniors (sought (holds l.ledger) l.w) l.tried

@@ -1,7 +1,6 @@
--- `inherit::person_holds_at_least` meets its contract: where the person directly holds none of the values, one search from the person's crews
--- decides. Assumes nothing.
-use mathlib.Core.Bool.{true, false}
-use mathlib.Core.Path.{◌≡◌, sym, ◌∙◌}
+-- `inherit::person_holds_at_least` meets its contract: where the person directly holds none of the values, one search from the person's
+-- crews decides.
+use Rattle.std.proofs.Common.{◌≡◌, sym, ◌∙◌, true, false}
 use Rattle.quantifiers.specs.Quantifiers.{any_from}
 use Rattle.facts.specs.Facts.{holds}
 use Rattle.facts.specs.declared.Fact.TheVariants.{Holds}
@@ -15,11 +14,11 @@ returns-then-holds_from c =
     let at = c.args in
     let S = holds at.ledger.now in
     let direct : any_from (λ w. S (Holds at.p at.a w)) at.v 16 ≡ true = sym (c.holds_from.ensures ∙ person_from at.ledger.now at.p at.a at.v) ∙ c.if-holds_from.true in
-    sym (person_at_least-direct at.juniors.now S at.a at.v 16 at.p direct)
+    c.if-holds_from.true ∙ sym (person_at_least-direct at.juniors.now S at.a at.v 16 at.p direct)
 
-pub returns : goal.returns
+pub returns-else-holds_from : goal.returns-else-holds_from
 unfolding sought
-returns c =
+returns-else-holds_from c =
     let at = c.args in
     let S = holds at.ledger.now in
     let direct : any_from (λ w. S (Holds at.p at.a w)) at.v 16 ≡ false = sym (c.holds_from.ensures ∙ person_from at.ledger.now at.p at.a at.v) ∙ c.if-holds_from.false in

@@ -1,6 +1,6 @@
 -- `inherit::person_reaches` meets its contract. The loop's invariant: no crew below `d` that the person is directly in passes downwards,
--- and the crews of `seen` were tried. The measure is the crews left. Assumes nothing.
-use Prim.Native.Nat.{ℕ, ◌-◌, ◌≤◌}
+-- and the crews of `seen` were tried.
+use Prim.Native.Nat.{ℕ}
 use mathlib.Core.Path.{◌≡◌}
 use mathlib.Core.Bool.{Bool, false, ◌&&◌}
 use mathlib.Core.List.{List}
@@ -18,7 +18,4 @@ abbrev pub enters : List ℕ → List ℕ → Person → Sought → ℕ → Bool
 enters ledger juniors p w d = holds ledger (Member p (record { 0 = d })) && downward juniors (sought (holds ledger) w) d
 
 abbrev pub invariant-loop-d : goal.invariant-loop-d
-invariant-loop-d l = (l.d ≤ 32) × ((any_below (enters l.ledger l.juniors l.p l.w) l.d ≡ false) × Tried l.juniors (sought (holds l.ledger) l.w) l.seen)
-
-abbrev pub decreases-loop-d : goal.decreases-loop-d
-decreases-loop-d l = 32 - l.d
+invariant-loop-d l = (any_below (enters l.ledger l.juniors l.p l.w) l.d ≡ false) × Tried l.juniors (sought (holds l.ledger) l.w) l.seen

@@ -1,5 +1,5 @@
 -- The search down the hierarchy: what is looked for, and which crews were tried. No promise of the paper needs these.
-use Rattle.std.specs.Prelude.{ℕ, ◌≡◌, Bool, true, false, ◌&&◌, List, eqb}
+use Rattle.std.specs.Prelude.{ℕ, ◌≡◌, Bool, true, false, ◌&&◌, List, Option, None, Some, eqb}
 use Rattle.sets.specs.Sets.{member}
 use Rattle.facts.specs.declared.Fact.{Fact}
 use Rattle.facts.specs.declared.Fact.TheVariants.{CrewHolds}
@@ -22,3 +22,8 @@ junior_passes js P c n = any_below (λ j. is_junior js c j && downward js P j) n
 -- Every crew of the set was tried: neither it nor a crew below it passes the test.
 pub record Tried (js : List ℕ) (P : ℕ → Bool) (seen : ℕ) : Type 0 where
   pub fails : (x : ℕ) → member seen x ≡ true → downward js P x ≡ false
+
+-- What a search leaves, by whether it passes: nothing where it found what it looked for, else the crews tried.
+abbrev pub Leaves : List ℕ → (ℕ → Bool) → Bool → Option ℕ → Type 0
+Leaves js P passes None = passes ≡ true
+Leaves js P passes (Some seen) = (passes ≡ false) × Tried js P seen

@@ -1,7 +1,6 @@
 -- `judge::answer` meets its contract: what reading the book tells, and the line that answers it. Assumes nothing.
 use mathlib.Core.Path.{ap, sym, ◌∙◌}
 use lib.Seq.{length-take-le}
-use Rattle.frames.specs.Book.{Told}
 use Rattle.answers.specs.Answers.{answer_line}
 use Rattle.answers.proofs.WrittenLaws.{end-within}
 use Rattle.judge.proofs.answer.Goals as goal
@@ -13,4 +12,4 @@ slice_bounds-read-end-2 c =
 pub returns : goal.returns
 returns c =
     let written = c.put_reading.ensures in
-    (end-within written, written.upto ∙ ap (λ (t : Told). answer_line t.answer) c.read-reading.ensures)
+    (end-within written, written.upto ∙ ap answer_line c.read.ensures)

@@ -1,9 +1,9 @@
--- `ledger::is_allowed` meets its contract: a request is permitted where the first permitting rule is found before the end of the rules. Assumes nothing.
-use mathlib.Core.Path.{sym, ap, ◌∙◌}
-use lib.Dec.{ltb}
+-- `ledger::is_allowed` meets its contract: a request is permitted where some rule is found that permits it. Assumes nothing.
+use mathlib.Core.Path.{ap, ◌∙◌}
+use Rattle.std.specs.Option.{is_some}
 use Rattle.facts.specs.Facts.{holds}
 use Rattle.rules.specs.Rules.{permits, permitted}
-use Rattle.quantifiers.proofs.FirstLaws.{any-first}
+use Rattle.quantifiers.proofs.PositionLaws.{position-any}
 use Rattle.frames.specs.Book.{contents_of, listed}
 use Rattle.ledger.specs.Ledger.{allowed}
 use Rattle.ledger.proofs.is_allowed.Goals as goal
@@ -17,6 +17,5 @@ first_listed-requires c =
 pub returns : goal.returns
 unfolding allowed permitted contents_of
 returns c =
-    rw c.first_listed.ensures
-    (sym (any-first (permits c.args.b.juniors (holds c.args.ledger.now) c.args.q)
-    (listed c.args.b.rules) ∙ ap (ltb _) c.requires.rules_counted))
+    c.is_some.ensures ∙ (ap is_some c.first_listed.ensures
+    ∙ position-any (permits c.args.b.juniors (holds c.args.ledger.now) c.args.q) (listed c.args.b.rules))

@@ -2,7 +2,7 @@
 use mathlib.Core.Path.{ap}
 use borrow.Author.Tests.{eq-eqb, ne_eqb}
 use Rattle.frames.specs.Book.{contents_of}
-use Rattle.ledger.specs.declared.Outcome.TheVariants.{Done}
+use Rattle.ledger.specs.Ledger.{Done}
 use Rattle.ledger.specs.Ledger.{reply, open_in}
 use Rattle.ledger.proofs.open_in.Goals as goal
 
@@ -13,4 +13,4 @@ returns-then-ledger-ne-LEDGER_SIZE c = rw (ne_eqb _ _ c.if-ledger-ne-LEDGER_SIZE
 pub returns : goal.returns
 unfolding open_in contents_of
 returns c =
-    rw (eq-eqb _ _ c.if-ledger-ne-LEDGER_SIZE.false) (ap (reply Done) c.copy_facts.ensures)
+    rw (eq-eqb _ _ c.if-ledger-ne-LEDGER_SIZE.false) (ap (reply Done) c.copy_from_slice.ensures.after)

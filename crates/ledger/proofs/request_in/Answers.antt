@@ -2,7 +2,7 @@
 use mathlib.Core.Path.{sym, ap, ◌∙◌}
 use Rattle.frames.specs.Book.{contents_of}
 use Rattle.ledger.specs.Ledger.{reply, request_in, after}
-use Rattle.ledger.specs.declared.Outcome.TheVariants.{Done}
+use Rattle.ledger.specs.Ledger.{Done}
 use Rattle.ledger.proofs.DeniedLaws.{denied-said}
 use Rattle.ledger.proofs.request_in.Goals as goal
 
@@ -26,8 +26,8 @@ returns-then-not-is_allowed c =
       sym c.is_request.ensures ∙ c.if-not-is_request.false,
       ← c.request_of-q.ensures,
       sym c.is_allowed.ensures ∙ c.if-not-is_allowed.true,
-      ← c.why_not-d.ensures,
-    ) (denied-said c.why_not-d.result _)
+      ← c.why_not.ensures,
+    ) (denied-said c.why_not.result _)
 
 pub returns : goal.returns
 unfolding request_in contents_of after

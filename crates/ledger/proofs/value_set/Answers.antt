@@ -1,6 +1,9 @@
 -- `ledger::value_set` meets its contract: an absent attribute has the empty set, any other the values that are effective. Assumes nothing.
 use borrow.Author.Tests.{le-ltb, lt-ltb}
 use Rattle.ledger.specs.Show.{value_set}
+use Rattle.facts.specs.Facts.{holds}
+use Rattle.inherit.specs.Inheritance.{person_holds}
+use Rattle.std.proofs.Common.{rules}
 use native.Mathlib.Omega.{arith}
 use Rattle.ledger.proofs.value_set.Goals as goal
 
@@ -8,10 +11,15 @@ pub returns-then-z-a : goal.returns-then-z-a
 unfolding value_set
 returns-then-z-a c = rw (le-ltb _ _ c.if-z-a.true)
 
-pub values_below-requires : goal.values_below-requires
-values_below-requires c =
-    (rw c.values_of-n.ensures (omega (arith, c.requires.0.values_most c.args.a)), c.requires.1)
+pub set_below-requires : goal.set_below-requires
+set_below-requires c = record {
+  few = rw c.values_of.ensures (omega (arith, c.requires.0.values_most c.args.a));
+  callable = search rules;
+}
 
 pub returns : goal.returns
 unfolding value_set
-returns c = rw (lt-ltb _ _ c.if-z-a.false, ← c.values_of-n.ensures) c.values_below.ensures
+returns c =
+    rw (lt-ltb _ _ c.if-z-a.false, ← c.values_of.ensures)
+    (c.set_below.ensures (person_holds c.args.juniors.now (holds c.args.ledger.now) c.args.p (record { 0 = c.args.a }))
+    (λ v on below gives. search rules))

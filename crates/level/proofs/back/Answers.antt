@@ -1,6 +1,5 @@
 -- The sweep that puts deletions back. Its invariant is `KeptBack`, and `Backing`: the last `quiet` moves before `i` put nothing back. Its turns and its
 -- measure are those of `close`; its notes go downwards from `end`. Assumes nothing.
-use mathlib.Core.Path.{sym, ◌∙◌}
 use Prim.Native.Nat.{◌+◌, ◌<◌}
 use native.Mathlib.Omega.{arith}
 use lib.ListN.{length-set}
@@ -98,15 +97,6 @@ pub loop-quiet-preserved : goal.loop-quiet-preserved
 loop-quiet-preserved c =
     let inv = c.loop-quiet.invariant in
     (inv.0, sweeping-quiet inv.1 c.turn_at-t.ensures c.backs.ensures c.if-backs.false c.next-i-else-backs.ensures)
-
-pub shape_of-deleted : goal.shape_of-deleted
-shape_of-deleted c = c.loop-quiet.invariant.1.named ∙ sym c.requires.deleted_len
-
-pub shape_of-y : goal.shape_of-y
-shape_of-y c = c.loop-quiet.invariant.0.whole.size ∙ sym c.requires.ready_back.whole.size
-
-pub shape_of-out : goal.shape_of-out
-shape_of-out c = c.loop-quiet.invariant.0.size
 
 pub returns : goal.returns
 returns c = back_closed c.loop-quiet.invariant.0 c.requires.sound (sweeping_ended c.loop-quiet.invariant.1 c.loop-quiet-test.false)

@@ -1,7 +1,6 @@
 -- The sweep of the additions. Its invariant is `Kept`, and `Adding`: the last `quiet` moves before `i` do not fire. A turn may take it to a move that `added`
 -- names; nothing is claimed of the names but that there are 160. The measure counts the additions that may follow, the names that are left and the
 -- moves that are not quiet. Assumes nothing.
-use mathlib.Core.Path.{sym, ◌∙◌}
 use Prim.Native.Nat.{◌<◌}
 use native.Mathlib.Omega.{arith}
 use lib.ListN.{length-set}
@@ -98,15 +97,6 @@ pub loop-quiet-preserved : goal.loop-quiet-preserved
 loop-quiet-preserved c =
     let inv = c.loop-quiet.invariant in
     (inv.0, sweeping-quiet inv.1 c.turn_at-t.ensures c.fires.ensures c.if-fires.false c.next-i-else-fires.ensures)
-
-pub shape_of-added : goal.shape_of-added
-shape_of-added c = c.loop-quiet.invariant.1.named ∙ sym c.requires.added_len
-
-pub shape_of-x : goal.shape_of-x
-shape_of-x c = c.loop-quiet.invariant.0.whole.size ∙ sym c.requires.ready.whole.size
-
-pub shape_of-out : goal.shape_of-out
-shape_of-out c = c.loop-quiet.invariant.0.size
 
 pub returns : goal.returns
 returns c = kept_closed c.loop-quiet.invariant.0 c.requires.sound (sweeping_ended c.loop-quiet.invariant.1 c.loop-quiet-test.false)

@@ -1,6 +1,7 @@
 -- The rounds of a level, and what a level comes to: a settled set with its requests, or a starting fact that no clear chain can keep.
-use Rattle.std.specs.Prelude.{◌≡◌, Bool, true, false, List, ℕ, ◌+◌, ◌-◌, ◌*◌, ◌≤◌, ◌<◌, length}
-use Rattle.widths.specs.Inner.Widths.{level_size, flags_size, table_size}
+use Rattle.std.specs.Prelude.{Option, Some, None, ◌≡◌, Bool, true, false, List, ℕ, ◌+◌, ◌-◌, ◌*◌, ◌≤◌, ◌<◌, length}
+use Rattle.widths.specs.Inner.Widths.{level_size, flags_size, table_size, depot_size}
+use Rattle.level.specs.declared.Ends.{Ends}
 use Rattle.theory.specs.Inner.Facts.{State, ◌⊆◌, minus}
 use Rattle.theory.specs.Inner.Plan.{World, Brings, AddClosed, BackClosed}
 use Rattle.theory.specs.Inner.Sweep.{Added, PutBack}
@@ -79,6 +80,19 @@ pub record Stuck (adds dels : Moves) (p : ℕ) (T bad s u₀ : List Bool) : Type
   pub missing : bound fact ≡ false
 
 -- What the level comes to, found or not.
+-- Whether a level is settled, how many requests were added, and where the deletions begin: at the end, where it is not.
+abbrev pub found_of : Option Ends → Bool
+found_of (Some e) = true
+found_of None = false
+
+abbrev pub ups_of : Option Ends → ℕ
+ups_of (Some e) = e.ups
+ups_of None = 0
+
+abbrev pub at_of : Option Ends → ℕ
+at_of (Some e) = e.at
+at_of None = depot_size
+
 pub record Result (adds dels : Moves) (p : ℕ) (T bad s u₀ x : List Bool)
     (start : ℕ) (up₀ up : List ℕ) (end : ℕ) (down₀ down : List ℕ) (ok : Bool) (n at : ℕ) : Type 0 where
   pub found : ok ≡ true → Settled adds dels p T bad s u₀ x start up₀ up n end down₀ down at

@@ -1,5 +1,5 @@
--- `lines::fill_characters` meets its contract: the values whose characters stand before c have their entries; the measure is how many
--- characters are left up to the last digit. Assumes nothing.
+-- `lines::fill_characters` meets its contract: each character that is a digit has its entry, and no other character is one's.
+-- Assumes nothing.
 use native.Mathlib.Omega.{arith}
 use Prim.Native.Nat.{◌≤◌}
 use Rattle.lines.proofs.FillLaws.{encode_none, encode_digit, encode_other, encode_all}
@@ -8,9 +8,6 @@ use Rattle.lines.proofs.fill_characters.Goals.{then-v-lt16, else-v-lt16}
 
 pub loop-c-init : goal.loop-c-init
 loop-c-init c = encode_none _ c.requires
-
-pub bounds-table-v : goal.bounds-table-v
-bounds-table-v c = c.if-v-lt16.true
 
 pub loop-c-preserved : goal.loop-c-preserved
 loop-c-preserved c =

@@ -1,10 +1,7 @@
--- `lines::fill_digits` meets its contract: the entries below c are filled; the measure is how many are left. Assumes nothing.
-use Prim.Native.Nat.{◌-◌}
-use Rattle.lines.proofs.FillLaws.{Filled}
+-- `lines::fill_digits` meets its contract: the entries before the turn are filled.
+use Rattle.std.proofs.Common.{◌≡◌, ℕ, ◌<◌, get_or, length}
+use Rattle.lines.specs.Digits.{digit}
 use Rattle.lines.proofs.fill_digits.Given as goal
 
 abbrev pub invariant-loop-c : goal.invariant-loop-c
-invariant-loop-c l = Filled l.table l.c
-
-abbrev pub decreases-loop-c : goal.decreases-loop-c
-decreases-loop-c l = 256 - l.c
+invariant-loop-c l = record { size : length l.table ≡ 256; entry : (k : ℕ) → k < l.c → get_or l.table k 0 ≡ digit k }

@@ -1,7 +1,7 @@
--- `moves::moves_of` meets its contract: each turn takes one rule by a call of `rule_at` and hands it, with the buffer, to `gather`.
--- Assumes nothing.
+-- Each turn hands one rule, with the buffer, to `gather`. Assumes nothing.
 use mathlib.Core.Path.{◌≡◌, sym, ◌∙◌, subst}
 use mathlib.Core.Bool.{true}
+use mathlib.Core.List.{[]}
 use Rattle.frames.specs.declared.Rule.{Rule}
 use Rattle.level.specs.Inner.Terms.{GoodRule}
 use Rattle.level.specs.Inner.Chosen.{chosen_in}
@@ -9,25 +9,27 @@ use Rattle.moves.specs.Inner.Listed.{Taken}
 use Rattle.moves.proofs.ListedLaws.{gathered_none, gathered_next, gathered_room, rule_same}
 use Rattle.moves.proofs.moves_of.Goals as goal
 
-pub loop-i-init : goal.loop-i-init
-loop-i-init c = gathered_none _ _ _ _ _ _
+-- What the step reads past the end.
+abbrev default : Rule
+default = record { op = 0; role = record { 0 = 0 }; a = 0; v = 0; n = 0; terms = [] }
+
+pub loop-r-init : goal.loop-r-init
+loop-r-init c = gathered_none _ _ _ _ _ _
 
 pub gather-k-requires : goal.gather-k-requires
 gather-k-requires c =
-    let args = c.args in
     let (good, (room, size)) = c.requires in
-    let is = c.rule_at.ensures ∙ rule_same args.rules.now c.loop-i.i c.loop-i-test.true in (
-      subst (λ (y : Rule). GoodRule y) (sym is) (good.good c.loop-i.i c.loop-i-test.true),
+    let is = rule_same c.args.rules.now c.loop-r.r-index default c.loop-r-test.true in (
+      subst (λ (y : Rule). GoodRule y) (sym is) (good.good c.loop-r.r-index c.loop-r-test.true),
       (
-        λ chosen. gathered_room c.loop-i.invariant c.loop-i-test.true room
-            (subst (λ (y : Rule). chosen_in args.one args.two args.roles y ≡ true) is chosen),
-        c.loop-i.invariant.size ∙ size,
+        λ chosen. gathered_room c.loop-r.invariant c.loop-r-test.true room
+            (subst (λ (y : Rule). chosen_in c.args.one c.args.two c.args.roles y ≡ true) is chosen),
+        c.loop-r.invariant.size ∙ size,
       ),
     )
 
-pub loop-i-preserved : goal.loop-i-preserved
-loop-i-preserved c =
-    let args = c.args in
-    let is = c.rule_at.ensures ∙ rule_same args.rules.now c.loop-i.i c.loop-i-test.true in
-    gathered_next c.loop-i.invariant c.loop-i-test.true
-    (subst (λ (y : Rule). Taken args.one args.two args.roles y c.loop-i.k c.loop-i.ms c.gather-k.result c.gather-k.new.ms) is c.gather-k.ensures)
+pub loop-r-preserved : goal.loop-r-preserved
+loop-r-preserved c =
+    gathered_next c.loop-r.invariant c.loop-r-test.true
+    (subst (λ (y : Rule). Taken c.args.one c.args.two c.args.roles y c.loop-r.k c.loop-r.ms c.gather-k.result c.gather-k.new.ms)
+    (rule_same c.args.rules.now c.loop-r.r-index default c.loop-r-test.true) c.gather-k.ensures)

@@ -47,6 +47,11 @@ pub record Gathered (rs : Rules) (one two roles from : ℕ) (before : List ℕ) 
 abbrev pub part_of : ℕ → ℕ → List ℕ → List ℕ
 part_of from n xs = take (move_size * n - move_size * from) (drop (move_size * from) xs)
 
+-- The four sides stand in a buffer of 512 moves, one behind the other.
+pub record Sided (n : Counts) (buffer : List ℕ) : Type 0 where
+  pub size : length buffer ≡ moves_size
+  pub rises : (n.gains ≤ n.losses) × ((n.losses ≤ n.adds) × ((n.adds ≤ n.dels) × (n.dels ≤ 512)))
+
 -- The moves of the four sides stand in one buffer, one side behind the other: of the crews, ops 3 and 4; of the query's person, ops 1
 -- and 5, 2 and 6.
 pub record Prepared (rs : Rules) (roles : ℕ) (n : Counts) (buffer : List ℕ) : Type 0 where

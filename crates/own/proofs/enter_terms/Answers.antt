@@ -1,4 +1,4 @@
--- `own::enter_terms` meets its contract: the first `j` terms are written (`Entering`); the measure is how many are left. Assumes nothing.
+-- `own::enter_terms` meets its contract: the first `j` terms are written (`Entering`). Assumes nothing.
 use Rattle.own.proofs.EnteredLaws.{entering_none, entering_more, entering_all}
 use native.Mathlib.Omega.{arith}
 use Rattle.own.proofs.enter_terms.Goals as goal

@@ -1,4 +1,4 @@
--- `own::fill_tables` meets its contract: the first `k` moves are entered (`Entered`); the measure is how many are left. Assumes nothing.
+-- `own::fill_tables` meets its contract: the first `k` moves are entered (`Entered`). Assumes nothing.
 use mathlib.Core.Path.{sym, ◌∙◌}
 use Rattle.level.proofs.MoveLaws.{listed_room}
 use Rattle.own.proofs.EnteredLaws.{listed_fine, entered_none, entered_more, entered_all}
@@ -6,7 +6,7 @@ use native.Mathlib.Omega.{arith}
 use Rattle.own.proofs.fill_tables.Goals as goal
 
 pub loop-k-init : goal.loop-k-init
-loop-k-init c = (omega arith, entered_none _ c.requires.1)
+loop-k-init c = entered_none _ c.requires.1
 
 pub move_at-m-requires : goal.move_at-m-requires
 move_at-m-requires c = (
@@ -19,7 +19,7 @@ pub enter_terms-requires : goal.enter_terms-requires
 enter_terms-requires c = (
   listed_fine c.requires.0 c.loop-k-test.true
       c.move_at-m.ensures,
-  c.loop-k.invariant.1.size_ts,
+  c.loop-k.invariant.size_ts,
 )
 
 pub bounds-us-f : goal.bounds-us-f
@@ -28,7 +28,7 @@ bounds-us-f c =
       arith,
       (listed_fine c.requires.0 c.loop-k-test.true
           c.move_at-m.ensures).fact,
-      c.loop-k.invariant.1.size_us,
+      c.loop-k.invariant.size_us,
     )
 
 pub overflow_cast-by : goal.overflow_cast-by
@@ -48,32 +48,22 @@ bounds-by-f c =
       arith,
       (listed_fine c.requires.0 c.loop-k-test.true
           c.move_at-m.ensures).fact,
-      c.loop-k.invariant.1.size_by,
+      c.loop-k.invariant.size_by,
     )
 
-pub overflow_add-k : goal.overflow_add-k
-overflow_add-k c = omega (arith, c.requires.0.few, c.loop-k-test.true)
-
-pub loop-k-smaller : goal.loop-k-smaller
-loop-k-smaller c = omega (arith, c.loop-k-test.true)
-
 pub loop-k-preserved : goal.loop-k-preserved
-loop-k-preserved c = (
-  omega (arith, c.loop-k-test.true),
-  entered_more c.loop-k.invariant.1
-      c.move_at-m.ensures
-      (listed_fine c.requires.0 c.loop-k-test.true
-      c.move_at-m.ensures) c.enter_terms.ensures,
-)
+loop-k-preserved c =
+    entered_more c.loop-k.invariant c.move_at-m.ensures
+    (listed_fine c.requires.0 c.loop-k-test.true c.move_at-m.ensures) c.enter_terms.ensures
 
 pub shape_of-us : goal.shape_of-us
-shape_of-us c = c.loop-k.invariant.1.size_us ∙ sym c.requires.1.size_us
+shape_of-us c = c.loop-k.invariant.size_us ∙ sym c.requires.1.size_us
 
 pub shape_of-ts : goal.shape_of-ts
-shape_of-ts c = c.loop-k.invariant.1.size_ts ∙ sym c.requires.1.size_ts
+shape_of-ts c = c.loop-k.invariant.size_ts ∙ sym c.requires.1.size_ts
 
 pub shape_of-by : goal.shape_of-by
-shape_of-by c = c.loop-k.invariant.1.size_by ∙ sym c.requires.1.size_by
+shape_of-by c = c.loop-k.invariant.size_by ∙ sym c.requires.1.size_by
 
 pub returns : goal.returns
-returns c = entered_all c.loop-k.invariant.1 _ c.loop-k.invariant.0 c.loop-k-test.false
+returns c = entered_all c.loop-k.invariant _ c.loop-k.auto.k-end c.loop-k-test.false

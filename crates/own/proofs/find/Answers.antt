@@ -7,13 +7,22 @@ use Rattle.level.proofs.RuleLaws.{book_good}
 use Rattle.own.proofs.FoundLaws.{own_moves}
 use Rattle.own.proofs.find.Goals as goal
 
-pub moves_listed-n-requires : goal.moves_listed-n-requires
-moves_listed-n-requires c =
+pub moves_listed-sides-requires : goal.moves_listed-sides-requires
+moves_listed-sides-requires c =
     let room : length c.args.b.rules.rules ≡ 512 = omega arith in
     (book_good c.args.b c.requires.0.book room, refl)
+
+pub adds_in-requires : goal.adds_in-requires
+adds_in-requires c =
+    let sides = c.moves_listed-sides.ensures in record { size = sides.size; rises = sides.rises }
 
 pub find_by-requires : goal.find_by-requires
 unfolding contents_of
 find_by-requires c =
-    let room : length c.args.b.rules.rules ≡ 512 = omega arith in
-    (c.requires.0, (own_moves c.args.b c.requires.0.book room c.moves_listed-n.ensures.more, c.requires.1))
+    let room : length c.args.b.rules.rules ≡ 512 = omega arith in (
+      c.requires.0,
+      (
+        rw c.adds_in.ensures (own_moves c.args.b c.requires.0.book room c.moves_listed-sides.ensures.more),
+        c.requires.1,
+      ),
+    )

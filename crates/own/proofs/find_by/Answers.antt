@@ -1,7 +1,6 @@
 -- `own::find_by` meets its contract: the tables have the book's rules, the flags its starting and its wanted facts, and what `grow` answers of
 -- these is so of the book. Assumes nothing.
 use mathlib.Core.Path.{refl}
-use borrow.Author.Tests.{not-true, not-false}
 use native.Mathlib.Omega.{arith}
 use Rattle.frames.specs.Book.{contents_of}
 use Rattle.flags.proofs.FlagLaws.{small_wants}
@@ -15,20 +14,21 @@ pub wanted-requires : goal.wanted-requires
 unfolding contents_of
 wanted-requires c = (small_wants c.requires.0.book, refl)
 
-pub returns-then-not-r : goal.returns-then-not-r
+pub returns-in_err-n : goal.returns-in_err-n
 unfolding contents_of
-returns-then-not-r c =
-    found_none c.args.b c.requires.0 c.requires.1.0 c.fill_tables.ensures c.start_flags.ensures
-    c.wanted.ensures c.grow-r.ensures _ (not-true _ c.if-not-r.true)
+returns-in_err-n c =
+    rw c.from_residual.ensures
+    (found_none c.args.b c.requires.0 c.requires.1.0 c.fill_tables.ensures c.start_flags.ensures
+    c.wanted.ensures c.in_err-n.ensures _ refl)
 
 pub write_requests-requires : goal.write_requests-requires
 unfolding contents_of
 write_requests-requires c =
     found_ready c.args.b c.requires.0 c.requires.1.0 c.fill_tables.ensures c.start_flags.ensures
-    c.wanted.ensures c.grow-r.ensures (omega arith) c.requires.1.1 (not-false _ c.if-not-r.false)
+    c.wanted.ensures c.in_ok-n.ensures (omega arith) c.requires.1.1 refl
 
 pub returns : goal.returns
 unfolding contents_of
 returns c =
     found_way c.args.b c.requires.0 c.requires.1.0 c.fill_tables.ensures c.start_flags.ensures
-    c.wanted.ensures c.grow-r.ensures c.write_requests.ensures (not-false _ c.if-not-r.false)
+    c.wanted.ensures c.in_ok-n.ensures c.write_requests.ensures refl

@@ -8,5 +8,5 @@ wants_value-requires c = c.requires
 pub returns-then-f-lt128 : goal.returns-then-f-lt128
 returns-then-f-lt128 c = wanted_value _ _ c.if-f-lt128.true c.wants_value.ensures
 
-pub returns : goal.returns
-returns c = wanted_crew _ _ c.if-f-lt128.false c.has.ensures
+pub returns-else-f-lt128 : goal.returns-else-f-lt128
+returns-else-f-lt128 c = wanted_crew _ _ c.if-f-lt128.false c.has.ensures

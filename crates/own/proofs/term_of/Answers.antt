@@ -5,5 +5,5 @@ use Rattle.own.proofs.term_of.Goals as goal
 pub returns-then-j-m : goal.returns-then-j-m
 returns-then-j-m c = term-own _ _ c.if-j-m.true
 
-pub returns : goal.returns
-returns c = term-none _ _ c.if-j-m.false
+pub returns-else-j-m : goal.returns-else-j-m
+returns-else-j-m c = term-none _ _ c.if-j-m.false

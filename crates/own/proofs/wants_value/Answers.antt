@@ -1,38 +1,29 @@
--- `own::wants_value` meets its contract: none of the first `j` sets has the value; the measure is how many are left. Assumes nothing.
-use mathlib.Core.Path.{◌≡◌, sym}
-use Rattle.quantifiers.proofs.BelowLaws.{any-zero, any_next, any_from_lem}
+-- `own::wants_value` meets its contract: none of the first `j` sets has the value. Assumes nothing.
+use mathlib.Core.Path.{refl, sym}
+use native.Mathlib.Omega.{arith}
+use borrow.Author.Count.{below_more}
+use borrow.Author.Tests.{eq-eqb, ne_eqb}
+use Rattle.quantifiers.proofs.TurnLaws.{one_passed, none_passed}
 use Rattle.frames.specs.Inner.Fits.{want_of}
 use Rattle.own.specs.Inner.Wanted.{has_value}
-use Rattle.own.proofs.WantedLaws.{value_test}
-use native.Mathlib.Omega.{arith}
 use Rattle.own.proofs.wants_value.Goals as goal
+use Rattle.own.proofs.wants_value.Goals.{else-w-a-via-then-w-a+else-has, else-w-a-via-else-w-a}
 
-pub loop-j-init : goal.loop-j-init
-loop-j-init c = (omega arith, any-zero (has_value c.args.q c.args.a c.args.v))
-
-pub bounds-q-j : goal.bounds-q-j
-bounds-q-j c = omega (arith, c.requires.few)
-
-pub returns-then-w-a : goal.returns-then-w-a
+pub returns-then-has : goal.returns-then-has
 unfolding want_of
-returns-then-w-a c =
-    sym (any_from_lem (has_value c.args.q c.args.a
-    c.args.v) _ c.loop-j.j
-    (value_test c.args.q c.args.a
-    c.args.v c.loop-j.j c.has.ensures c.if-w-a.true)
-    c.loop-j-test.true)
+returns-then-has c =
+    one_passed (has_value c.args.q c.args.a c.args.v) _ c.loop-j.j c.loop-j-test.true
+    (rw (eq-eqb _ _ c.if-w-a.true) (sym c.if-has.ensures))
 
 pub loop-j-preserved : goal.loop-j-preserved
 unfolding want_of
-loop-j-preserved c = (
-  omega arith,
-  any_next (has_value c.args.q c.args.a
-      c.args.v) c.loop-j.j c.loop-j.invariant.1
-      (value_test c.args.q c.args.a
-      c.args.v c.loop-j.j c.has.ensures c.if-w-a.false),
-)
+loop-j-preserved c =
+    below_more _ _ c.loop-j.invariant
+    (elim c.else-w-a.branch [
+      | else-w-a-via-then-w-a+else-has w ↦ rw (eq-eqb _ _ w.if-w-a.true) (sym w.if-has.ensures)
+      | else-w-a-via-else-w-a w ↦ rw (ne_eqb _ _ w.if-w-a.false) refl
+    ])
 
 pub returns : goal.returns
 returns c =
-    let last : c.loop-j.j ≡ c.args.q.q = omega (arith, c.loop-j.invariant.0, c.loop-j-test.false) in
-    rw last at (sym c.loop-j.invariant.1)
+    none_passed (has_value c.args.q c.args.a c.args.v) _ (λ k l. c.loop-j.invariant k (omega (arith, c.loop-j.auto.j-end, c.loop-j-test.false)))

@@ -27,9 +27,9 @@ still c = turn_stays c.loop-quiet.quiet (listed c) (omega arith) (omega arith)
 
 -- The fact that is put in is the move's.
 read_fact : (c : After-put_whole)
-    → c.wide-f.result ≡ (move_at (moves_in c.args.adds.now) c.loop-quiet.i).fact
+    → c.from-f.result ≡ (move_at (moves_in c.args.adds.now) c.loop-quiet.i).fact
 read_fact c =
-    fact_read c.args.adds.now c.loop-quiet.i c.wide-f.ensures
+    fact_read c.args.adds.now c.loop-quiet.i c.from-f.ensures
 
 pub loop-quiet-init : goal.loop-quiet-init
 loop-quiet-init c = (
@@ -69,7 +69,7 @@ bounds-adds-i c = omega (arith, move_fits (goal.at.bounds-adds-i c).After-fires-
 
 pub put_whole-requires : goal.put_whole-requires
 put_whole-requires c = (
-  fact_fits c.args.adds.now (14 * c.loop-quiet.i) (listed_stands c.requires.0 (listed (goal.at.put_whole-requires c).After-fires-who)) c.wide-f.ensures,
+  fact_fits c.args.adds.now (14 * c.loop-quiet.i) (listed_stands c.requires.0 (listed (goal.at.put_whole-requires c).After-fires-who)) c.from-f.ensures,
   (c.requires.1.rows, c.loop-quiet.invariant.0.size),
 )
 

@@ -5,17 +5,17 @@ use Rattle.level.proofs.MoveLaws.{listed_room, listed_stands, fact_fits}
 use Rattle.level.specs.Inner.Moves.{move_at}
 use Rattle.persons.proofs.FiringLaws.{firing}
 use Rattle.persons.proofs.fires.Goals as goal
-use Rattle.persons.proofs.fires.Goals.{After-wide-f}
+use Rattle.persons.proofs.fires.Goals.{After-from-f}
 
-fits : (c : After-wide-f) → c.wide-f.result < 160
+fits : (c : After-from-f) → c.from-f.result < 160
 fits c =
-    fact_fits c.args.ms.now (14 * c.args.i) (listed_stands c.requires.0 c.requires.1.0) c.wide-f.ensures
+    fact_fits c.args.ms.now (14 * c.args.i) (listed_stands c.requires.0 c.requires.1.0) c.from-f.ensures
 
 pub offset_bounds-held-f : goal.offset_bounds-held-f
-offset_bounds-held-f c = omega (arith, fits (goal.at.offset_bounds-held-f c).After-wide-f)
+offset_bounds-held-f c = omega (arith, fits (goal.at.offset_bounds-held-f c).After-from-f)
 
 pub bounds-held-f : goal.bounds-held-f
-bounds-held-f c = omega (arith, fits (goal.at.bounds-held-f c).After-wide-f, c.requires.1.1)
+bounds-held-f c = omega (arith, fits (goal.at.bounds-held-f c).After-from-f, c.requires.1.1)
 
 pub meets-requires : goal.meets-requires
 meets-requires c = let pre = c.requires in (listed_room pre.0 pre.1.0, (listed_stands pre.0 pre.1.0, pre.1.1))
@@ -24,4 +24,4 @@ pub returns : goal.returns
 unfolding move_at
 returns c =
     firing c.args.ms.now (14 * c.args.i) c.args.all c.args.held.now
-    (listed_stands c.requires.0 c.requires.1.0) c.wide-f.ensures c.meets.ensures
+    (listed_stands c.requires.0 c.requires.1.0) c.from-f.ensures c.meets.ensures

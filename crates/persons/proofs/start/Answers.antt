@@ -1,5 +1,5 @@
--- `persons::start` meets its contract: the invariant says that the first p persons begin with their starting facts and that nobody else shows anything;
--- the measure is the persons left. Assumes nothing.
+-- `persons::start` meets its contract: the invariant says that the first p persons begin with their starting facts and that nobody else shows anything.
+-- Assumes nothing.
 use Prim.Native.Nat.{◌<◌}
 use native.Mathlib.Omega.{arith}
 use Rattle.persons.proofs.BeginLaws.{begun_first, begun_more, begun_all, next_clear}
@@ -12,31 +12,25 @@ few : (c : After-build) → c.loop-p.p < 64
 few c = omega (arith, c.loop-p-test.true, c.requires.0)
 
 pub loop-p-init : goal.loop-p-init
-loop-p-init c = (
-  omega arith,
-  (search rules, (search rules, begun_first c.args.facts.now c.args.crews c.args.table.now c.requires.1.1)),
-)
+loop-p-init c = (search rules, (search rules, begun_first c.args.facts.now c.args.crews c.args.table.now c.requires.1.1))
 
 pub put_column-requires : goal.put_column-requires
 put_column-requires c =
     record {
-      p_bound = (few (goal.at.put_column-requires c).After-build, (c.build.ensures.whole.size, c.loop-p.invariant.1.1.1.begun.size));
-      column_clear = next_clear c.loop-p.invariant.1.1.1;
+      p_bound = (few (goal.at.put_column-requires c).After-build, (c.build.ensures.whole.size, c.loop-p.invariant.1.1.begun.size));
+      column_clear = next_clear c.loop-p.invariant.1.1;
     }
 
 pub loop-p-preserved : goal.loop-p-preserved
 loop-p-preserved c = (
-  omega (arith, c.loop-p-test.true),
+  c.first-in-loop-p-1.given,
   (
-    c.first-in-loop-p-1.given,
-    (
-      c.s-in-loop-p-1.given,
-      begun_more c.loop-p.invariant.1.1.1 (few (goal.at.loop-p-preserved c).After-build)
-          (record { blank = _; first = _; started = c.start_flags.ensures; built = c.build.ensures })
-          c.put_column.ensures,
-    ),
+    c.s-in-loop-p-1.given,
+    begun_more c.loop-p.invariant.1.1 (few (goal.at.loop-p-preserved c).After-build)
+        (record { blank = _; first = _; started = c.start_flags.ensures; built = c.build.ensures })
+        c.put_column.ensures,
   ),
 )
 
 pub returns : goal.returns
-returns c = begun_all c.loop-p.invariant.1.1.1 (omega (arith, c.loop-p.invariant.0, c.loop-p-test.false))
+returns c = begun_all c.loop-p.invariant.1.1 (omega (arith, c.loop-p.auto.p-end, c.loop-p-test.false))

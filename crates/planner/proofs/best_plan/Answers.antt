@@ -1,24 +1,29 @@
 -- `planner::best_plan` meets its contract: where the search finds no run there is no way; else the best plan's last ledger decides.
 -- Assumes nothing.
-use borrow.Author.Tests.{not-true, not-false}
+use mathlib.Core.Path.{refl}
+use mathlib.Core.Bool.{true}
 use Rattle.frames.specs.Book.{contents_of}
-use Rattle.planner.proofs.AnswerLaws.{found_none, found_best}
+use Rattle.planner.proofs.AnswerLaws.{found_none, found_best, found_not_met}
 use Rattle.planner.proofs.best_plan.Goals as goal
 
-pub returns-then-not-r : goal.returns-then-not-r
-returns-then-not-r c =
-    found_none (contents_of c.args.b) c.requires.leveled (c.search-r.ensures.stuck (not-true _ c.if-not-r.true))
+pub returns-in_err-e : goal.returns-in_err-e
+returns-in_err-e c =
+    rw c.from_residual.ensures (found_none (contents_of c.args.b) c.requires.leveled (c.in_err-e.ensures.stuck refl))
 
-pub is_reached-found-requires : goal.is_reached-found-requires
-is_reached-found-requires c =
-    let w = c.search-r.ensures.written (not-false _ c.if-not-r.false) in
+pub is_reached-requires : goal.is_reached-requires
+is_reached-requires c =
+    let w = c.in_ok-e.ensures.written refl in
     record {
       admitted = (c.requires.leveled.book, (w.few_up, w.most_down));
       up_len = (w.size_up, w.size_down);
     }
 
-pub returns : goal.returns
+pub returns-then-is_reached : goal.returns-then-is_reached
 unfolding contents_of
-returns c =
-    found_best (contents_of c.args.b) c.requires.leveled
-    (c.search-r.ensures.written (not-false _ c.if-not-r.false)) c.is_reached-found.result c.is_reached-found.ensures
+returns-then-is_reached c =
+    found_best (contents_of c.args.b) c.requires.leveled (c.in_ok-e.ensures.written refl) true c.if-is_reached.ensures
+
+pub returns-else-is_reached : goal.returns-else-is_reached
+unfolding contents_of
+returns-else-is_reached c =
+    found_not_met (contents_of c.args.b) c.requires.leveled (c.in_ok-e.ensures.written refl) c.if-is_reached.ensures

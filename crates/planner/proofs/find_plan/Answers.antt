@@ -1,5 +1,5 @@
 -- `planner::find_plan` meets its contract: by the mode the book is one to be planned by levels, or one that only grows. Assumes nothing.
-use borrow.Author.Tests.{not-true, not-false}
+use mathlib.Core.Path.{refl}
 use native.Mathlib.Omega.{arith}
 use Rattle.frames.specs.Book.{contents_of}
 use Rattle.planner.proofs.ModeLaws.{leveled, growing}
@@ -14,19 +14,19 @@ best_plan-requires c =
       up_len = c.requires.up_len;
     }
 
-pub find-r-requires : goal.find-r-requires
+pub find-requires : goal.find-requires
 unfolding contents_of
-find-r-requires c =
+find-requires c =
     (growing (contents_of c.args.b) c.requires.admitted (omega arith), c.requires.up_len.0)
 
-pub returns-then-not-r : goal.returns-then-not-r
+pub returns-in_err-ups : goal.returns-in_err-ups
 unfolding contents_of
-returns-then-not-r c =
+returns-in_err-ups c =
     let b = contents_of c.args.b in
-    found_no_way b (growing b c.requires.admitted (omega arith)) c.find-r.ensures _ (not-true _ c.if-not-r.true)
+    rw c.from_residual.ensures (found_no_way b (growing b c.requires.admitted (omega arith)) c.in_err-ups.ensures _ refl)
 
-pub returns : goal.returns
+pub returns-in_ok-ups : goal.returns-in_ok-ups
 unfolding contents_of
-returns c =
+returns-in_ok-ups c =
     let b = contents_of c.args.b in
-    found_grown b (growing b c.requires.admitted (omega arith)) c.find-r.ensures _ (not-false _ c.if-not-r.false)
+    found_grown b (growing b c.requires.admitted (omega arith)) c.in_ok-ups.ensures _ refl

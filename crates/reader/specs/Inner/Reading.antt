@@ -1,10 +1,9 @@
 -- What reading one line of a book gives.
-use Rattle.std.specs.Prelude.{◌≡◌, ℕ, ◌+◌, ◌-◌, ◌≤◌, ◌<◌, List, length, take, drop}
+use Rattle.std.specs.Prelude.{None, ◌≡◌, ℕ, ◌+◌, ◌-◌, ◌≤◌, ◌<◌, List, length, take, drop}
 use Rattle.reader.specs.Inner.Decoding.{Decoded}
 use Rattle.lines.specs.Lines.{to_end}
 use Rattle.lines.specs.Inner.Cursors.{following}
 use Rattle.lines.specs.declared.Cursor.{Cursor}
-use Rattle.reader.specs.declared.Frame.TheVariants.{Malformed}
 use Rattle.reader.specs.declared.Line.{Line}
 use Rattle.reader.specs.declared.Read.{Read}
 
@@ -20,7 +19,7 @@ line_of book at end = take (end - at) (drop at book)
 -- malformed. Nothing is said of what an unended or malformed line leaves in the buffer.
 pub record LineRead (book : List ℕ) (at : ℕ) (before : List ℕ) (line : Line) (after : List ℕ) : Type 0 where
   pub ends : line.end ≡ line_end book at
-  pub unended : length book ≤ line.end → (line.frame ≡ Malformed) × (length after ≡ length before)
+  pub unended : length book ≤ line.end → (line.frame ≡ None) × (length after ≡ length before)
   pub ended : line.end < length book → Decoded (line_of book at line.end) line.frame before after
 
 -- The same at a cursor, with the cursor of the line behind it.

@@ -1,23 +1,12 @@
--- `readings::facts_in` meets its contract. The invariant: n and what the bytes from i on have are the whole. The measure is the bytes left.
--- Assumes nothing.
-use mathlib.Core.Path.{◌≡◌}
+-- `readings::facts_in` meets its contract. The invariant: n and what the bytes from some place on have are the whole. Assumes nothing.
 use native.Mathlib.Omega.{arith}
-use lib.ListN.{length}
 use Rattle.answers.proofs.AnswerLaws.{total-step, total_end}
 use Rattle.readings.proofs.facts_in.Goals as goal
 
-pub loop-i-init : goal.loop-i-init
-loop-i-init c = (omega arith, (omega arith, omega arith))
-
-pub loop-i-preserved : goal.loop-i-preserved
-loop-i-preserved c =
-    let xs = c.args.ledger in
-    let whole : length xs ≡ 1792 = omega arith in
-    let step = total-step 8 xs c.loop-i.i (omega arith) in
-    (omega arith, (omega arith, omega (arith, c.byte_size-n.ensures.0)))
+pub loop-b-preserved : goal.loop-b-preserved
+loop-b-preserved c =
+    let step = total-step 8 c.args.ledger.now c.loop-b.b-index (omega arith) in
+    (omega arith, omega (arith, rw c.from.ensures at c.size_of-n.ensures.0))
 
 pub returns : goal.returns
-returns c =
-    let xs = c.args.ledger in
-    let whole : length xs ≡ 1792 = omega arith in
-    omega (arith, total_end 8 xs c.loop-i.i (omega arith))
+returns c = omega (arith, total_end 8 c.args.ledger.now c.loop-b.b-index (omega arith))

@@ -23,35 +23,32 @@ counted_room c =
     let sizes = written_as c.put_bytes-sized.ensures (ap hex c.sizes_bytes-sizes.ensures) in
     let edged = written_more sizes c.put_count-edged.ensures in
     let counted = written_more (written_more edged c.put_count-ruled.ensures) c.put_count-counted.ensures in
-    room_behind 39 4 counted refl (omega (arith, c.requires.1))
+    room_behind 39 4 counted refl (omega (arith, c.requires))
 
 pub put_count-edged-requires : goal.put_count-edged-requires
 unfolding hex
 put_count-edged-requires c =
-    (c.requires.0, room_behind 24 5 (sized (goal.at.put_count-edged-requires c).After-put_bytes-sized) refl (omega (arith, c.requires.1)))
+    room_behind 24 5 (sized (goal.at.put_count-edged-requires c).After-put_bytes-sized) refl (omega (arith, c.requires))
 
 pub put_count-ruled-requires : goal.put_count-ruled-requires
 unfolding hex count
 put_count-ruled-requires c =
     let edged = written_more (sized (goal.at.put_count-ruled-requires c).After-put_bytes-sized) c.put_count-edged.ensures in
-    (c.requires.0, room_behind 29 5 edged refl (omega (arith, c.requires.1)))
+    room_behind 29 5 edged refl (omega (arith, c.requires))
 
 pub put_count-counted-requires : goal.put_count-counted-requires
 unfolding hex count
 put_count-counted-requires c =
     let edged = written_more (sized (goal.at.put_count-counted-requires c).After-put_bytes-sized) c.put_count-edged.ensures in
     let ruled = written_more edged c.put_count-ruled.ensures in
-    (c.requires.0, room_behind 34 5 ruled refl (omega (arith, c.requires.1)))
+    room_behind 34 5 ruled refl (omega (arith, c.requires))
 
 pub bounds-text-counted : goal.bounds-text-counted
 bounds-text-counted c = omega (arith, counted_room (goal.at.bounds-text-counted c).After-put_count-counted)
 
-pub overflow_add-digits : goal.overflow_add-digits
-overflow_add-digits c = omega (arith, counted_room (goal.at.overflow_add-digits c).After-put_count-counted)
-
 pub put_line-requires : goal.put_line-requires
 put_line-requires c =
-    (c.requires.0, simp length-set (omega (arith, counted_room (goal.at.put_line-requires c).After-put_count-counted)))
+    simp length-set (omega (arith, counted_room (goal.at.put_line-requires c).After-put_count-counted))
 
 pub shape_of-text : goal.shape_of-text
 shape_of-text c =

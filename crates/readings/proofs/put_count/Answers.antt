@@ -5,15 +5,11 @@ use lib.ListN.{length-set}
 use Rattle.answers.proofs.WrittenLaws.{count_written}
 use Rattle.readings.proofs.put_count.Goals as goal
 
-pub put_bytes-requires : goal.put_bytes-requires
-put_bytes-requires c =
-    (c.requires.0, omega (arith, length-set c.args.text.now c.args.at 32, c.requires.1))
-
 pub shape_of-text : goal.shape_of-text
 shape_of-text c =
     c.put_bytes.ensures.size ∙ length-set c.args.text.now c.args.at 32
 
 pub returns : goal.returns
 returns c =
-    count_written c.args.text.now c.args.at c.args.n (omega (arith, c.requires.1))
+    count_written c.args.text.now c.args.at c.args.n (omega (arith, c.requires))
     c.high_byte-high.ensures c.low_byte-low.ensures c.put_bytes.ensures

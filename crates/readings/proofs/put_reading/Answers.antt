@@ -2,13 +2,9 @@
 use Rattle.answers.proofs.ReadingLaws.{refused_answered, accepted_answered}
 use Rattle.readings.proofs.put_reading.Goals as goal
 
-pub returns-in-Refused : goal.returns-in-Refused
-returns-in-Refused c =
-    refused_answered c.args.r c.in-Refused.f c.in-Refused.is
-    c.refusal_number-number.ensures c.refusal_line-line.ensures
-    c.put_refused.ensures
+pub returns-in-Err : goal.returns-in-Err
+returns-in-Err c =
+    rw c.in-Err.is (refused_answered c.in-Err.f c.refusal_number.ensures c.refusal_line.ensures c.put_refused.ensures)
 
-pub returns-in-Accepted : goal.returns-in-Accepted
-returns-in-Accepted c =
-    accepted_answered c.args.r c.in-Accepted.is
-    c.put_book.ensures
+pub returns-in-Ok : goal.returns-in-Ok
+returns-in-Ok c = rw c.in-Ok.is (accepted_answered c.in-Ok.book c.put_book.ensures)

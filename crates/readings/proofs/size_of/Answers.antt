@@ -1,5 +1,4 @@
--- `readings::size_of` meets its contract. The invariant: n is how many numbers below v are members, at most v. The measure is
--- what is left of the numbers below w. Assumes nothing.
+-- `readings::size_of` meets its contract. The invariant: n is how many numbers below v are members, at most v. Assumes nothing.
 use mathlib.Core.Path.{◌≡◌, refl, ap, sym, ◌∙◌}
 use native.Mathlib.Omega.{arith}
 use Rattle.answers.specs.Answers.{size}
@@ -9,7 +8,7 @@ use Rattle.readings.proofs.size_of.Goals.{then-has, else-has}
 
 pub loop-v-init : goal.loop-v-init
 unfolding size
-loop-v-init c = (omega arith, (refl, omega arith))
+loop-v-init c = (refl, omega arith)
 
 pub loop-v-preserved : goal.loop-v-preserved
 loop-v-preserved c =
@@ -17,12 +16,12 @@ loop-v-preserved c =
     let v = c.loop-v.v in
     let is = sym c.has.ensures in
     elim c.if-has.branch [
-      | then-has w ↦ let more = size_in x v (is ∙ w.if-has.true) in (omega arith, (omega arith, omega arith))
-      | else-has w ↦ let same = size_out x v (is ∙ w.if-has.false) in (omega arith, (omega arith, omega arith))
+      | then-has w ↦ let more = size_in x v (is ∙ w.if-has.true) in (omega arith, omega arith)
+      | else-has w ↦ let same = size_out x v (is ∙ w.if-has.false) in (omega arith, omega arith)
     ]
 
 pub returns : goal.returns
 returns c =
     let args = c.args in
     let e : c.loop-v.v ≡ args.w = omega arith in
-    (c.loop-v.invariant.1.0 ∙ ap (size args.x) e, omega arith)
+    (c.loop-v.invariant.0 ∙ ap (size args.x) e, omega arith)

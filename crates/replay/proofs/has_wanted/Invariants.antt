@@ -1,10 +1,9 @@
--- `replay::has_wanted` meets its contract: the invariant says that the named sets from j on decide; the measure is how many are left.
--- Assumes nothing.
+-- `replay::has_wanted` meets its contract: the invariant says that the wants before this one pass, so that the rest decides. Assumes nothing.
 use mathlib.Core.Path.{◌≡◌}
 use mathlib.Core.Bool.{Bool, cond}
 use mathlib.Core.List.{List}
-use Prim.Native.Nat.{ℕ, ◌≤◌, ◌-◌}
-use lib.ListN.{take, drop}
+use Prim.Native.Nat.{ℕ}
+use lib.ListN.{drop}
 use Rattle.facts.specs.Facts.{holds}
 use Rattle.facts.specs.declared.Fact.TheVariants.{Holds}
 use Rattle.sizes.specs.declared.Sizes.{Sizes}
@@ -23,8 +22,7 @@ test exactly directly ledger z juniors query w =
     (cond directly (set_below (λ v. holds ledger (Holds query.person w.attr v)) (values_of z w.attr.0))
     (value_set z juniors (holds ledger) query.person w.attr.0))
 
-abbrev pub invariant-loop-j : goal.invariant-loop-j
-invariant-loop-j l = (l.j ≤ l.n) × (all (test l.exactly l.directly l.ledger l.z l.juniors l.query) (take l.n l.query.wants) ≡ all (test l.exactly l.directly l.ledger l.z l.juniors l.query) (drop l.j (take l.n l.query.wants)))
-
-abbrev pub decreases-loop-j : goal.decreases-loop-j
-decreases-loop-j l = l.n - l.j
+abbrev pub invariant-loop-w : goal.invariant-loop-w
+invariant-loop-w l =
+    let P = test l.exactly l.directly l.ledger l.b.sizes l.b.juniors l.b.query in
+    all P l.wants ≡ all P (drop l.w-index l.wants)

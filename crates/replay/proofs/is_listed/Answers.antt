@@ -1,9 +1,16 @@
--- `replay::is_listed` meets its contract, by its test. Assumes nothing.
+-- `replay::is_listed` meets its contract: in mode 01 no crews are listed, else those that the person is directly in are compared.
+-- Assumes nothing.
 use borrow.Author.Tests.{eq-eqb, ne_eqb}
+use Rattle.std.proofs.Common.{rules}
+use Rattle.facts.specs.Facts.{holds}
+use Rattle.facts.specs.declared.Fact.TheVariants.{Member}
 use Rattle.replay.proofs.is_listed.Goals as goal
 
 pub returns-then-mode-eq1 : goal.returns-then-mode-eq1
 returns-then-mode-eq1 c = rw (eq-eqb _ _ c.if-mode-eq1.true)
 
 pub returns : goal.returns
-returns c = rw (ne_eqb _ _ c.if-mode-eq1.false, ← c.direct_set-held.ensures) c.is_wanted.ensures
+returns c =
+    let held = c.set_below-held.ensures (λ v. holds c.args.ledger.now (Member c.args.query.person (record { 0 = v })))
+    (λ v on below gives. search rules) in
+    rw (ne_eqb _ _ c.if-mode-eq1.false, ← held) c.is_wanted.ensures

@@ -1,4 +1,4 @@
--- `replay::run_listed` meets its contract: the front of the list is lent to `run_plan`. Assumes nothing.
+-- `replay::run_listed` meets its contract: the rules that count are lent. Assumes nothing.
 use Rattle.frames.specs.Book.{listed}
 use Rattle.replay.proofs.run_listed.Goals as goal
 

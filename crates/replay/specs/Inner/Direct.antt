@@ -1,18 +1,9 @@
 -- What a query's person holds, and whether it is what is wanted, by the query's mode. The words of replay's code that looks it up.
 use Rattle.std.specs.Prelude.{ℕ, Bool, cond, eqb}
 use Rattle.sets.specs.Sets.{subset}
-use Rattle.facts.specs.declared.Person.{Person}
 use Rattle.facts.specs.declared.Fact.{Fact}
-use Rattle.facts.specs.declared.Fact.TheVariants.{Holds, Member}
 use Rattle.frames.specs.Book.{Contents}
-use Rattle.replay.specs.declared.Direct.{Direct}
-use Rattle.replay.specs.declared.Direct.TheVariants.{Crews, Values}
 use Rattle.replay.specs.Met.{effective_set, direct_set}
-
--- Fact i of a row of direct facts: the crews, or the values of an attribute.
-abbrev pub direct_fact : Direct → Person → ℕ → Fact
-direct_fact Crews p i = Member p (record { 0 = i })
-direct_fact (Values a) p i = Holds p a i
 
 -- The values of attribute a that the query's person directly holds, or effectively.
 abbrev pub held_set : Bool → Contents → (Fact → Bool) → ℕ → ℕ

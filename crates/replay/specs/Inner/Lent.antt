@@ -1,13 +1,11 @@
 -- A run under the parts of a book that it looks at: the sizes, the juniors and the rules. The words of replay's code that is handed these
 -- and no book.
-use Rattle.std.specs.Prelude.{ℕ, zero, suc, ◌*◌, Bool, ◌&&◌, List, [], take, drop}
+use Rattle.std.specs.Prelude.{Option, Some, None, ℕ, ◌*◌, Bool, ◌&&◌, List, [], take, drop}
 use Rattle.sets.specs.Sets.{member}
 use Rattle.sizes.specs.declared.Sizes.{Sizes}
 use Rattle.frames.specs.declared.Rule.{Rule}
 use Rattle.frames.specs.Book.{Contents, no_query}
 use Rattle.requests.specs.Requests.{request_of, well_formed}
-use Rattle.replay.specs.declared.Course.{Course}
-use Rattle.replay.specs.declared.Course.TheVariants.{Ended, Stopped}
 use Rattle.replay.specs.Chains.{Run, ends, stops}
 
 -- The parts that a request of a chain is judged by; the rest is blank.
@@ -22,12 +20,7 @@ five_at bytes i = take 5 (drop (5 * i) bytes)
 unfoldable pub due : Sizes → ℕ → List ℕ → Bool
 due z roles q = well_formed z q && member roles (request_of q).role.0
 
--- How far the requests went, by the number of the one that stopped them, 0 where none did, with the ledger that they left.
-unfoldable pub ran_to : ℕ → List ℕ → Run
-ran_to zero l = ends l
-ran_to (suc k) l = stops (suc k)
-
--- The same by the code's own value: how far the requests went, with the ledger that they left.
-abbrev pub run_for : Course → List ℕ → Run
-run_for Ended l = ends l
-run_for (Stopped k) l = stops k
+-- How far the requests went, by the number of the one that stopped them, if one did, with the ledger that they left.
+abbrev pub ran_to : Option ℕ → List ℕ → Run
+ran_to None l = ends l
+ran_to (Some k) l = stops k

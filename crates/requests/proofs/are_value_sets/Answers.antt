@@ -1,21 +1,7 @@
--- `requests::are_value_sets` meets its contract: the invariant says that `good` is the test of the sets below i; the measure is what is left of
--- the count. Assumes nothing.
-use mathlib.Core.Path.{ap, ◌∙◌}
-use native.Mathlib.Omega.{arith}
-use Rattle.quantifiers.specs.Quantifiers.{all_below}
-use Rattle.quantifiers.proofs.BelowLaws.{all_more, all_none}
-use Rattle.requests.specs.Suitable.{value_set_good}
+-- `requests::are_value_sets` meets its contract: a set that is not within the sizes decides.
+use Rattle.std.proofs.Common.{sym, ◌∙◌}
+use Rattle.quantifiers.proofs.TurnLaws.{one_failed}
 use Rattle.requests.proofs.are_value_sets.Goals as goal
 
-pub loop-i-init : goal.loop-i-init
-loop-i-init c = (omega arith, all_none _)
-
-pub loop-i-preserved : goal.loop-i-preserved
-loop-i-preserved c = (
-  omega arith,
-  all_more (value_set_good c.args.z c.args.ledger.now c.args.start c.args.subjects)
-      c.loop-i.i _ _ c.loop-i.invariant.1 c.is_value_set-good.ensures,
-)
-
-pub returns : goal.returns
-returns c = c.loop-i.invariant.1 ∙ ap (all_below _) (omega arith)
+pub returns-then-not-is_value_set : goal.returns-then-not-is_value_set
+returns-then-not-is_value_set c = one_failed _ _ c.loop-i.i c.loop-i-test.true (sym c.is_value_set.ensures ∙ c.if-not-is_value_set.true)

@@ -1,5 +1,5 @@
--- `rows::put_row` meets its contract: the invariant says that the first f bits of the row are put; the measure is how many are left. Assumes nothing.
-use mathlib.Core.Path.{sym, subst, ◌∙◌}
+-- `rows::put_row` meets its contract: the invariant says that the first f bits of the row are put. Assumes nothing.
+use mathlib.Core.Path.{sym, subst}
 use mathlib.Core.List.{List}
 use Prim.Native.Nat.{ℕ, ◌+◌}
 use native.Mathlib.Omega.{arith}
@@ -9,24 +9,14 @@ use Rattle.rows.proofs.RowLaws.{row-none, row_more, row-all}
 use Rattle.rows.proofs.put_row.Goals as goal
 
 pub loop-f-init : goal.loop-f-init
-loop-f-init c = (omega arith, row-none _ _ _ c.requires.row_clear)
-
-pub put_value-requires : goal.put_value-requires
-put_value-requires c =
-    let pre = c.requires in
-    ((pre.p_bound.0, c.loop-f-test.true), pre.p_bound.1)
+loop-f-init c = row-none _ _ _ c.requires.row_clear
 
 pub loop-f-preserved : goal.loop-f-preserved
-loop-f-preserved c = (
-  omega (arith, c.loop-f-test.true),
-  subst (λ (l : List ℕ). RowPut c.args.z c.args.p (column c.args.held.now c.args.p) (c.loop-f.f + 1)
-      c.args.out.now l)
-      (sym c.put_value.ensures)
-      (row_more c.requires.p_bound.0 c.loop-f-test.true c.requires.row_clear c.loop-f.invariant.1),
-)
-
-pub shape_of-out : goal.shape_of-out
-shape_of-out c = c.loop-f.invariant.1.size ∙ sym c.requires.row_clear.size
+loop-f-preserved c =
+    subst (λ (l : List ℕ). RowPut c.args.z c.args.p (column c.args.held.now c.args.p) (c.loop-f.f + 1)
+    c.args.out.now l)
+    (sym c.put_value.ensures)
+    (row_more c.requires.p_bound.0 c.loop-f-test.true c.requires.row_clear c.loop-f.invariant)
 
 pub returns : goal.returns
-returns c = row-all c.loop-f.invariant.1 (omega (arith, c.loop-f.invariant.0, c.loop-f-test.false))
+returns c = row-all c.loop-f.invariant (omega (arith, c.loop-f.auto.f-end, c.loop-f-test.false))

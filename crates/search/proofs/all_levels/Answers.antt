@@ -9,7 +9,6 @@ use Rattle.frames.specs.Book.{Contents, contents_of}
 use Rattle.reach.specs.Inner.Leveled.{Leveled}
 use Rattle.search.specs.Inner.Scan.{NoRun, Scanned, Searched}
 use Rattle.search.proofs.PersonLaws.{to_self, serves_own}
-use Rattle.search.proofs.StepLaws.{no_found, was_found}
 use Rattle.search.proofs.PartLaws.{parts_of, scanned_of}
 use Rattle.search.proofs.all_levels.Goals as goal
 
@@ -37,8 +36,8 @@ slice_bounds-settle_crews-end-3 c = refl
 pub slice_bounds-settle_crews-end-4 : goal.slice_bounds-settle_crews-end-4
 slice_bounds-settle_crews-end-4 c = refl
 
-pub settle_crews-r-requires : goal.settle_crews-r-requires
-settle_crews-r-requires c =
+pub settle_crews-requires : goal.settle_crews-requires
+settle_crews-requires c =
     let pre = c.requires in
     record {
       crew_parts = parts_of c.args.b pre.leveled.0 pre.leveled.1.0;
@@ -46,10 +45,10 @@ settle_crews-r-requires c =
       up_len = pre.up_len;
     }
 
-pub returns-then-not-r : goal.returns-then-not-r
-returns-then-not-r c =
-    let scanned = scanned_of c.args.b c.requires.leveled.0 c.requires.leveled.1.0 c.settle_crews-r.ensures in
-    none_found (no_found _ c.if-not-r.true) (own_stuck c.requires.leveled.0 scanned (no_found _ c.if-not-r.true))
+pub returns-in_err-r : goal.returns-in_err-r
+returns-in_err-r c =
+    let scanned = scanned_of c.args.b c.requires.leveled.0 c.requires.leveled.1.0 c.in_err-r.ensures in
+    rw c.from_residual.ensures (none_found refl (own_stuck c.requires.leveled.0 scanned refl))
 
 pub slice_bounds-person_level-end : goal.slice_bounds-person_level-end
 unfolding contents_of
@@ -62,10 +61,10 @@ slice_bounds-person_level-end-2 c = sym c.rows-2-1.given
 pub slice_bounds-person_level-end-3 : goal.slice_bounds-person_level-end-3
 slice_bounds-person_level-end-3 c = sym c.table-2-1.given
 
-pub person_level-p-requires : goal.person_level-p-requires
-person_level-p-requires c =
+pub person_level-requires : goal.person_level-requires
+person_level-requires c =
     let pre = c.requires in
-    let scanned = scanned_of c.args.b pre.leveled.0 pre.leveled.1.0 c.settle_crews-r.ensures in
+    let scanned = scanned_of c.args.b pre.leveled.0 pre.leveled.1.0 c.in_ok-r.ensures in
     record {
       person_given = record {
         accepted = pre.leveled.0;
@@ -73,26 +72,15 @@ person_level-p-requires c =
         rows = c.table-2-1.given;
         same_facts = refl;
       };
-      driving = serves_own pre.leveled.0 (scanned.settled (was_found _ c.if-not-r.false));
+      driving = serves_own pre.leveled.0 (scanned.settled refl);
     }
 
-pub returns-then-not-p : goal.returns-then-not-p
-returns-then-not-p c =
-    none_found (no_found _ c.if-not-p.true)
-    (c.person_level-p.ensures.stuck (no_found _ c.if-not-p.true))
+pub returns-in_err-p : goal.returns-in_err-p
+returns-in_err-p c = rw c.from_residual-in_err-p.ensures (none_found refl (c.in_err-p.ensures.stuck refl))
 
 pub overflow_add-result : goal.overflow_add-result
-overflow_add-result c =
-    omega (
-      arith,
-      (c.person_level-p.ensures.written
-          (was_found _ c.if-not-p.false)).few_up,
-    )
+overflow_add-result c = omega (arith, (c.in_ok-p.ensures.written refl).few_up)
 
 pub returns : goal.returns
 returns c =
-    record {
-      written = λ e. c.person_level-p.ensures.written
-          (was_found _ c.if-not-p.false);
-      stuck = λ e. absurd (true≢false e);
-    }
+    record { written = λ e. c.in_ok-p.ensures.written refl; stuck = λ e. absurd (true≢false e) }

@@ -1,6 +1,6 @@
 -- `search::crew_levels` meets its contract: crew after crew, until one is stuck; what is settled serves every person. The names that the crews
 -- hand on stay 160. Assumes nothing.
-use mathlib.Core.Path.{◌≡◌, sym, subst, ◌∙◌}
+use mathlib.Core.Path.{◌≡◌, refl, sym, subst, ◌∙◌}
 use mathlib.Core.Bool.{Bool, true, false, true≢false}
 use mathlib.Core.List.{List}
 use Prim.Native.Nat.{ℕ, ◌+◌, ◌*◌, ◌≤◌, ◌<◌}
@@ -8,7 +8,6 @@ use Rattle.frames.specs.Book.{Contents, contents_of}
 use Rattle.search.specs.Inner.Drive.{Driving}
 use Rattle.search.specs.Inner.Scan.{Serves, Scanned}
 use Rattle.search.proofs.PersonLaws.{serves_own}
-use Rattle.search.proofs.StepLaws.{no_found, was_found}
 use Rattle.search.proofs.PartLaws.{crews_few, own_drive}
 use native.Mathlib.Omega.{arith}
 use Rattle.search.proofs.crew_levels.Goals as goal
@@ -16,9 +15,6 @@ use Rattle.search.proofs.crew_levels.Goals.{At-loop-k, Start}
 
 few : {n k crews : ℕ} → n ≤ 160 * (k + 1) → k < crews → crews ≤ 32 → n < 18446744073709551616
 few a h b = omega arith
-
-small : {k crews : ℕ} → k < crews → crews ≤ 32 → k + 1 < 256
-small h b = omega arith
 
 -- After the last crew.
 scanned : {b : Contents} {k n : ℕ} {rows : List Bool} {ups at : ℕ} {up down : List ℕ} → Serves b k rows ups up at down → k ≡ n
@@ -38,60 +34,53 @@ settled_at_first c = own_drive c.requires.crews_given.parts c.requires.serves_of
 
 settled_so_far : (c : At-loop-k) → Driving (contents_of c.requires.crews_given.parts.book) c.loop-k.k c.loop-k.rows
     c.loop-k.ups c.loop-k.up c.loop-k.at c.loop-k.down
-settled_so_far c = own_drive c.requires.crews_given.parts c.loop-k.invariant.1.1
+settled_so_far c = own_drive c.requires.crews_given.parts c.loop-k.invariant.1
 
 pub loop-k-init : goal.loop-k-init
-loop-k-init c = (omega arith, (c.requires.names, c.requires.serves_of))
+loop-k-init c = (c.requires.names, c.requires.serves_of)
 
-pub crew_level-r-requires : goal.crew_level-r-requires
-crew_level-r-requires c =
+pub crew_level-requires : goal.crew_level-requires
+crew_level-requires c =
     record {
       crews_given = (c.requires.crews_given, c.loop-k-test.true);
-      names = c.loop-k.invariant.1.0;
-      serves_of = c.loop-k.invariant.1.1;
+      names = c.loop-k.invariant.0;
+      serves_of = c.loop-k.invariant.1;
     }
 
-pub returns-then-not-r : goal.returns-then-not-r
-returns-then-not-r c =
-    record { each = λ g. stopped (c.crew_level-r.ensures.0.each g) (no_found _ c.if-not-r.true) }
+pub returns-in_err-r : goal.returns-in_err-r
+returns-in_err-r c =
+    rw c.from_residual.ensures (record { each = λ g. stopped (c.in_err-r.ensures.0.each g) refl })
 
 pub overflow_add-ups : goal.overflow_add-ups
 overflow_add-ups c =
     let parts = c.requires.crews_given.parts in
-    let settled = (c.crew_level-r.ensures.0.each parts).settled (was_found _ c.if-not-r.false) in
+    let settled = (c.in_ok-r.ensures.0.each parts).settled refl in
     omega (arith, few (serves_own parts.accepted settled).few_up c.loop-k-test.true (crews_few parts))
-
-pub overflow_add-k : goal.overflow_add-k
-overflow_add-k c =
-    omega (arith, small c.loop-k-test.true (crews_few c.requires.crews_given.parts))
 
 pub loop-k-preserved : goal.loop-k-preserved
 loop-k-preserved c =
-    let names = c.loop-k.invariant.1.0.0 in (
-      omega (arith, c.loop-k-test.true),
+    let names = c.loop-k.invariant.0.0 in (
       (
-        (
-          record {
-            room_added = c.added-1.given ∙ names.room_added;
-            room_deleted = c.deleted-1.given ∙ names.room_deleted;
-          },
-          c.crew_level-r.ensures.1,
-        ),
-        record { each = λ g. (c.crew_level-r.ensures.0.each g).settled (was_found _ c.if-not-r.false) },
+        record {
+          room_added = c.added-1.given ∙ names.room_added;
+          room_deleted = c.deleted-1.given ∙ names.room_deleted;
+        },
+        c.in_ok-r.ensures.1,
       ),
+      record { each = λ g. (c.in_ok-r.ensures.0.each g).settled refl },
     )
 
 pub shape_of-added : goal.shape_of-added
-shape_of-added c = c.loop-k.invariant.1.0.0.room_added ∙ sym c.requires.names.0.room_added
+shape_of-added c = c.loop-k.invariant.0.0.room_added ∙ sym c.requires.names.0.room_added
 
 pub shape_of-deleted : goal.shape_of-deleted
-shape_of-deleted c = c.loop-k.invariant.1.0.0.room_deleted ∙ sym c.requires.names.0.room_deleted
+shape_of-deleted c = c.loop-k.invariant.0.0.room_deleted ∙ sym c.requires.names.0.room_deleted
 
 pub shape_of-rows : goal.shape_of-rows
 shape_of-rows c = (settled_so_far (goal.at.shape_of-rows c).At-loop-k).rows_right.size ∙ sym (settled_at_first (goal.at.shape_of-rows c).Start).rows_right.size
 
 pub shape_of-table : goal.shape_of-table
-shape_of-table c = c.loop-k.invariant.1.0.1.size ∙ sym c.requires.names.1.size
+shape_of-table c = c.loop-k.invariant.0.1.size ∙ sym c.requires.names.1.size
 
 pub shape_of-up : goal.shape_of-up
 shape_of-up c = (settled_so_far (goal.at.shape_of-up c).At-loop-k).size_up ∙ sym (settled_at_first (goal.at.shape_of-up c).Start).size_up
@@ -100,4 +89,4 @@ pub shape_of-down : goal.shape_of-down
 shape_of-down c = (settled_so_far (goal.at.shape_of-down c).At-loop-k).size_down ∙ sym (settled_at_first (goal.at.shape_of-down c).Start).size_down
 
 pub returns : goal.returns
-returns c = record { each = λ g. scanned (c.loop-k.invariant.1.1.each g) (omega (arith, c.loop-k.invariant.0, c.loop-k-test.false)) }
+returns c = record { each = λ g. scanned (c.loop-k.invariant.1.each g) (omega (arith, c.loop-k.auto.k-end, c.loop-k-test.false)) }

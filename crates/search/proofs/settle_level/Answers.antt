@@ -1,7 +1,7 @@
 -- `search::settle_level` meets its contract: the flags written are those of the query and of the facts, and the rounds come to what `settle` says
 -- of them. Assumes nothing.
 use mathlib.Core.Path.{refl, sym}
-use Rattle.search.proofs.StepLaws.{starts-allowed}
+use Rattle.search.proofs.StepLaws.{all_allowed, starts-allowed}
 use Rattle.search.proofs.settle_level.Goals as goal
 
 pub slice_bounds-bad_flags-end : goal.slice_bounds-bad_flags-end
@@ -27,12 +27,6 @@ build-requires c =
     let pre = c.requires in
     (refl, (pre.rows, c.start_flags.ensures.size))
 
-pub slice_bounds-allow_all-end : goal.slice_bounds-allow_all-end
-slice_bounds-allow_all-end c = refl
-
-pub allow_all-requires : goal.allow_all-requires
-allow_all-requires c = refl
-
 pub slice_bounds-settle-end : goal.slice_bounds-settle-end
 slice_bounds-settle-end c =
     sym c.bad_flags.ensures.size
@@ -41,7 +35,7 @@ pub slice_bounds-settle-end-2 : goal.slice_bounds-settle-end-2
 slice_bounds-settle-end-2 c = sym c.build.ensures.whole.size
 
 pub slice_bounds-settle-end-3 : goal.slice_bounds-settle-end-3
-slice_bounds-settle-end-3 c = sym c.allow_all.ensures.size
+slice_bounds-settle-end-3 c = refl
 
 pub slice_bounds-settle-end-4 : goal.slice_bounds-settle-end-4
 slice_bounds-settle-end-4 c = refl
@@ -59,7 +53,7 @@ settle-requires c =
         rows = pre.rows;
         size_bad = c.bad_flags.ensures.size;
         size_s = c.build.ensures.whole.size;
-        size_u = c.allow_all.ensures.size;
+        size_u = refl;
         size_x = pre.size_x;
         size_y = refl;
         size_d = refl;
@@ -68,7 +62,7 @@ settle-requires c =
         room_down = pre.room_down;
       };
       whole_s = c.build.ensures.whole;
-      allowed = starts-allowed _ c.allow_all.ensures;
+      allowed = starts-allowed _ all_allowed;
       names_added = pre.names.room_added;
       names_deleted = pre.names.room_deleted;
     }
@@ -85,6 +79,6 @@ returns c =
       forbidden = c.bad_flags.ensures;
       started = c.start_flags.ensures;
       built = c.build.ensures;
-      allowed = c.allow_all.ensures;
+      allowed = all_allowed;
       result = c.settle.ensures;
     }

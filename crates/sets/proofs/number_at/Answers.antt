@@ -1,42 +1,47 @@
--- `sets::number_at` meets its contract. The invariant: `number` is what the first `j` bytes write. The measure is the bytes left.
+-- `sets::number_at` meets its contract: a byte more is worth as its definition says, and the number of four fits a word.
 -- Assumes nothing.
-use mathlib.Core.Path.{◌≡◌, refl, ap, ◌∙◌}
-use Prim.Native.Nat.{◌+◌, ◌<◌, ◌^◌}
-use native.Mathlib.Numerals.{add-one}
+use mathlib.Core.Path.{◌≡◌, refl}
+use Prim.Native.Nat.{◌<◌, ◌+◌}
 use native.Mathlib.Omega.{arith}
 use Rattle.sets.specs.Sets.{number_at}
-use Rattle.sets.proofs.SetLaws.{number_front_lt}
+use Rattle.sets.proofs.SetLaws.{number_room, number_more, slice_length, slice_byte}
 use Rattle.sets.proofs.number_at.Goals as goal
-use Rattle.sets.proofs.number_at.Goals.{After-shared_slice_known-1}
+use Rattle.sets.proofs.number_at.Goals.{In-loop-byte}
 
-pub loop-j-init : goal.loop-j-init
+pub loop-byte-init : goal.loop-byte-init
 unfolding number_at
-loop-j-init c = (omega arith, refl)
+loop-byte-init c = refl
 
-pub overflow_cast-byte : goal.overflow_cast-byte
-overflow_cast-byte c = omega (arith, c.type_inv.s (c.args.at + c.loop-j.j))
+-- The turn is one of w.
+turn : (c : In-loop-byte) → c.loop-byte.byte-index < c.args.w
+turn c = omega (arith, c.loop-byte-test.true, slice_length c.args.s.now c.args.at c.args.w c.requires.1)
 
--- In the loop at most three bytes are read.
-front_small : (c : After-shared_slice_known-1)
-    → number_at c.args.s.now c.args.at c.loop-j.j < 2 ^ 24
-front_small c =
-    let args = c.args in
-    number_front_lt args.s.now (λ i. omega (arith, c.type_inv.s i)) args.at c.loop-j.j 3
-    (omega arith)
+room : (c : In-loop-byte) → number_at c.args.s.now c.args.at c.loop-byte.byte-index < 16777216
+room c = number_room c.args.s.now (λ i. omega (arith, c.type_inv.s i)) c.args.at c.loop-byte.byte-index c.args.w (turn c) c.requires.0
 
 pub overflow_mul-number : goal.overflow_mul-number
-overflow_mul-number c = omega (arith, front_small (goal.at.overflow_mul-number c).After-shared_slice_known-1)
+overflow_mul-number c = omega (arith, room c)
 
 pub overflow_add-number : goal.overflow_add-number
 overflow_add-number c =
-    let args = c.args in
-    omega (arith, front_small (goal.at.overflow_add-number c).After-shared_slice_known-1, c.type_inv.s (args.at + c.loop-j.j))
+    let at-turn = (goal.at.overflow_add-number c).In-loop-byte in
+    omega (
+      arith,
+      room at-turn,
+      c.from.ensures,
+      slice_byte c.args.s.now c.args.at c.args.w c.requires.1 c.loop-byte.byte-index (turn at-turn),
+      c.type_inv.s (c.args.at + c.loop-byte.byte-index),
+    )
 
-pub loop-j-preserved : goal.loop-j-preserved
-unfolding number_at
-loop-j-preserved c = (omega arith, rw (add-one, c.loop-j.invariant.1))
+pub loop-byte-preserved : goal.loop-byte-preserved
+loop-byte-preserved c =
+    let at-turn = (goal.at.loop-byte-preserved c).In-loop-byte in
+    let more = number_more c.args.s.now c.args.at c.loop-byte.byte-index in
+    let is = slice_byte c.args.s.now c.args.at c.args.w c.requires.1 c.loop-byte.byte-index (turn at-turn) in
+    cc
 
 pub returns : goal.returns
 returns c =
-    let e : c.loop-j.j ≡ c.args.w = omega arith in
-    c.loop-j.invariant.1 ∙ ap (number_at c.args.s.now c.args.at) e
+    let all : c.loop-byte.byte-index ≡ c.args.w =
+    omega (arith, c.loop-byte-test.false, c.loop-byte.auto.byte-index-end, slice_length c.args.s.now c.args.at c.args.w c.requires.1) in
+    cc

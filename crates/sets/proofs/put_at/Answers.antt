@@ -4,26 +4,19 @@ use mathlib.Core.Path.{sym}
 use Prim.Native.Nat.{◌%◌, ◌<◌}
 use native.Mathlib.Omega.{arith}
 use lib.ListN.{get_or}
-use Rattle.sets.specs.Sets.{put, put_at}
+use Rattle.sets.specs.Sets.{put_at}
 use Rattle.sets.proofs.SetLaws.{put_lt, put_at_out}
 use Rattle.sets.proofs.put_at.Goals as goal
 
-pub returns-then-i-s : goal.returns-then-i-s
-returns-then-i-s c =
-    let args = c.args in
-    sym (put_at_out args.s.now args.at args.w args.v args.on (omega arith))
-
 pub overflow_cast-s : goal.overflow_cast-s
-overflow_cast-s c = omega (arith, c.type_inv.s c.byte_of-i.result)
+overflow_cast-s c =
+    let byte : get_or c.args.s.now c.byte_of-i.result 0 < 256 = grind arith in
+    let small = put_lt (get_or c.args.s.now c.byte_of-i.result 0) (c.args.v % 8) 8 c.args.on byte (omega arith) in
+    omega (arith, rw c.from.ensures at c.with.ensures)
 
-pub overflow_cast-s-2 : goal.overflow_cast-s-2
-overflow_cast-s-2 c =
-    let args = c.args in
-    let i = c.byte_of-i.result in
-    let small : put (get_or args.s.now i 0) (args.v % 8) args.on < 256 =
-    put_lt (get_or args.s.now i 0) (args.v % 8) 8 args.on (omega (arith, c.slice_known-2-1.given i)) (omega arith) in
-    omega (arith, c.with-x.ensures)
-
-pub returns : goal.returns
+pub returns-then-i-s : goal.returns-then-i-s
 unfolding put_at
-returns c = rw (c.with-x.ensures, c.byte_of-i.ensures)
+returns-then-i-s c = rw (c.with.ensures, c.from.ensures, c.byte_of-i.ensures)
+
+pub returns-else-i-s : goal.returns-else-i-s
+returns-else-i-s c = sym (put_at_out c.args.s.now c.args.at c.args.w c.args.v c.args.on (omega arith))

@@ -3,9 +3,6 @@ use Rattle.sizes.proofs.SizeLaws.{facts_are, values_few}
 use native.Mathlib.Omega.{arith}
 use Rattle.sizes.proofs.fact_count.Goals as goal
 
-pub value_count-values-requires : goal.value_count-values-requires
-value_count-values-requires c = c.requires
-
 pub overflow_mul-result : goal.overflow_mul-result
 overflow_mul-result c = rw c.value_count-values.ensures (omega (arith, values_few c.args.z c.requires))
 

@@ -4,10 +4,4 @@ use Rattle.sizes.proofs.sizes_of.Goals as goal
 
 pub returns : goal.returns
 unfolding sizes_of
-returns c =
-    rw (
-      c.byte_at-persons.ensures,
-      c.byte_at-crews.ensures,
-      c.byte_at-attrs.ensures,
-      c.counts_of-counts.ensures,
-    )
+returns c = rw (c.byte_at.ensures, c.byte_at-2.ensures, c.byte_at-3.ensures, c.counts_of.ensures)

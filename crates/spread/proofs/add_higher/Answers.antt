@@ -1,5 +1,5 @@
 -- `spread::add_higher` meets its contract: the invariant says that the flags from 320 + k on are set for the persons, and that `on` is the last of them,
--- unless k is the lowest value of its attribute; the measure is k. Assumes nothing.
+-- unless k is the lowest value of its attribute. Assumes nothing.
 use mathlib.Core.Path.{refl}
 use native.Mathlib.Omega.{arith}
 use Rattle.spread.proofs.SpreadLaws.{higher_lit_none, higher_lit_more, higher_lit_all}

@@ -1,4 +1,4 @@
--- `spread::add_row` meets its contract: the invariant says that the first k flags of the row are set for the persons; the measure is the flags left.
+-- `spread::add_row` meets its contract: the invariant says that the first k flags of the row are set for the persons.
 -- Assumes nothing.
 use native.Mathlib.Omega.{arith}
 use Rattle.spread.proofs.SpreadLaws.{row_lit_none, row_lit_more, row_lit_all}

@@ -1,4 +1,4 @@
--- `spread::raise` meets its contract: the invariant says that the flags of the values from k to f are set for the persons; the measure is k. Assumes
+-- `spread::raise` meets its contract: the invariant says that the flags of the attribute's values below k are set for the persons. Assumes
 -- nothing.
 use native.Mathlib.Omega.{arith}
 use Rattle.spread.proofs.SpreadLaws.{raised_lit_none, raised_lit_more, raised_lit_all}

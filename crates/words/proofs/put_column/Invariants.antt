@@ -1,11 +1,7 @@
--- `words::put_column` meets its contract: the invariant says that the first k flags of the person are written, and that all other persons' stand; the
--- measure is the flags left. Assumes nothing.
-use Prim.Native.Nat.{◌-◌}
+-- `words::put_column` meets its contract: the invariant says that the first k flags of the person are written, and that all other persons' stand. Assumes
+-- nothing.
 use Rattle.words.proofs.WordLaws.{PutSoFar}
 use Rattle.words.proofs.put_column.Given as goal
 
 abbrev pub invariant-loop-k : goal.invariant-loop-k
 invariant-loop-k l = PutSoFar l.p l.s l.initial.held l.held l.k
-
-abbrev pub decreases-loop-k : goal.decreases-loop-k
-decreases-loop-k l = 448 - l.k

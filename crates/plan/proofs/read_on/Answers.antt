@@ -1,1 +1,0 @@
--- `plan::read_on` meets its contract: what was read stays in front of what is read behind it.
