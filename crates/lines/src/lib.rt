@@ -76,7 +76,9 @@ pub struct Characters {
 }
 
 impl Characters {
-    pub fn new() -> Characters {
+    pub fn new() -> Characters
+        ensures { Encodings result.table }
+    {
         let mut table = [0; 16];
         fill_characters(&mut table);
         Characters { table }
