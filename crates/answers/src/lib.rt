@@ -11,55 +11,62 @@ ghost use Rattle.answers.specs.Inner.Written.{Written, Room};
 
 use lines::Characters;
 
-// One byte in a lent text, as its two digits, by the table of the values' characters. Each of these functions returns the place behind
-// what it wrote.
-fn put_byte(b: u8, characters: &Characters, text: &mut [u8], at: usize) -> usize
-    requires { at + 2 ≤ length text.old }
-    ensures { Written text.old at (hex (b ∷ [])) text.new result }
+// The bytes of the longest plan: five for each of 8,512 requests, two for each fact of the largest sizes.
+pub const PLAN_SIZE: usize = 42560;
+
+// The characters of the longest answer: 7, and 11 for each request of the longest plan.
+pub const TEXT_SIZE: usize = 93639;
+
+// One byte in the front of a lent text, as its two digits, by the table of the values' characters. Each of these functions writes to the front
+// of the text that it is lent, and returns how many characters it wrote.
+// Kept: by the table and no `Display`, since `lines::digit_of` alone knows a digit; and the table beside the text, no writer of both: of a
+// struct that holds a `&mut` each contract would say too that the reference is the same.
+fn put_byte(b: u8, characters: &Characters, text: &mut [u8]) -> usize
+    requires { 2 ≤ length text.old }
+    ensures { Written text.old 0 (hex (b ∷ [])) text.new result }
 {
     let high = (b / 16) as usize;
     let low = (b % 16) as usize;
-    text[at] = characters.table[high];
-    text[at + 1] = characters.table[low];
-    at + 2
+    text[0] = characters.table[high];
+    text[1] = characters.table[low];
+    2
 }
 
-// The digits of bytes in a lent text.
-pub fn put_bytes(bytes: &[u8], characters: &Characters, text: &mut [u8], at: usize) -> usize
-    requires { at + 2 * length bytes.now ≤ length text.old }
-    ensures { Written text.old at (hex bytes.now) text.new result }
+// The digits of bytes.
+pub fn put_bytes(bytes: &[u8], characters: &Characters, text: &mut [u8]) -> usize
+    requires { 2 * length bytes.now ≤ length text.old }
+    ensures { Written text.old 0 (hex bytes.now) text.new result }
 {
-    let mut end = at;
+    let mut end = 0;
     for b in bytes {
-        end = put_byte(*b, characters, text, end);
+        end += put_byte(*b, characters, &mut text[end..]);
     }
     end
 }
 
-// A line in a lent text.
-pub fn put_line(bytes: &[u8], characters: &Characters, text: &mut [u8], at: usize) -> usize
-    requires { at + 2 * length bytes.now + 1 ≤ length text.old }
-    ensures { Written text.old at (hex_line bytes.now) text.new result }
+// A line.
+pub fn put_line(bytes: &[u8], characters: &Characters, text: &mut [u8]) -> usize
+    requires { 2 * length bytes.now + 1 ≤ length text.old }
+    ensures { Written text.old 0 (hex_line bytes.now) text.new result }
 {
-    let end = put_bytes(bytes, characters, text, at);
+    let end = put_bytes(bytes, characters, text);
     text[end] = b'\n';
     end + 1
 }
 
-// The requests of a plan in a lent text, one a line.
-fn put_requests(plan: &[u8], characters: &Characters, text: &mut [u8], at: usize) -> usize
-    requires { 5 * at + 11 * length plan.now ≤ 5 * length text.old }
-    ensures { Written text.old at (request_lines (fives plan.now)) text.new result }
+// The requests of a plan, one a line.
+fn put_requests(plan: &[u8], characters: &Characters, text: &mut [u8]) -> usize
+    requires { 11 * length plan.now ≤ 5 * length text.old }
+    ensures { Written text.old 0 (request_lines (fives plan.now)) text.new result }
 {
-    let mut end = at;
-    for i in 0..plan.len() / 5 {
-        let from = 5 * i;
-        end = put_line(&plan[from..from + 5], characters, text, end);
+    let mut end = 0;
+    for request in plan.chunks_exact(5) {
+        end += put_line(request, characters, &mut text[end..]);
     }
     end
 }
 
-// Kept: two functions in the definitions' words, here and `low_byte`, which `readings` calls too, not `to_be_bytes` after a cast.
+// Kept: two functions in the words of specs/Answers, here and `low_byte`, which `readings` calls too, not `to_be_bytes` after a cast.
 pub fn high_byte(n: usize) -> u8
     ensures { result ≡ n / 256 % 256 }
 {
@@ -81,7 +88,7 @@ pub fn put_refused(number: u8, line: usize, characters: &[u8; 16], text: &mut [u
     let high = high_byte(line);
     let low = low_byte(line);
     let characters = Characters { table: *characters };
-    put_line(&[0x8F, number, high, low], &characters, text, 0)
+    put_line(&[0x8F, number, high, low], &characters, text)
 }
 
 // The planner's answer in the front of a lent text, with the plan in the front of `plan`.
@@ -95,16 +102,14 @@ pub fn put_answer(
 {
     let characters = Characters::new();
     match answer {
-        Ok(planned) => match planned {
-            None => put_line(&[0x80], &characters, text, 0),
-            Some(n) => {
-                let high = high_byte(n);
-                let low = low_byte(n);
-                let first = put_line(&[0x81, high, low], &characters, text, 0);
-                let end = 5 * n;
-                put_requests(&plan[..end], &characters, text, first)
-            }
-        },
+        Ok(None) => put_line(&[0x80], &characters, text),
+        Ok(Some(n)) => {
+            let high = high_byte(n);
+            let low = low_byte(n);
+            let first = put_line(&[0x81, high, low], &characters, text);
+            let end = 5 * n;
+            first + put_requests(&plan[..end], &characters, &mut text[first..])
+        }
         Err(r) => {
             let number = planner::refusal_number(r);
             let line = planner::refusal_line(r);

@@ -1,14 +1,16 @@
-// Answers each of the books that the arguments name, a line each. One whose name ends in `.book` is planned: the answer's first line, what replay
-// says of the plan, the name. Any other is only judged: the line that answers it, the name.
+// Answers each of the books that the arguments name, a line each. One whose name ends in a dot and four characters, as `.book`, is planned:
+// the answer's first line, what replay says of the plan, the name. Any other is only judged: the line that answers it, the name.
 
 #![tactic(auto)]
 
 ghost use Rattle.std.specs.Prelude.{◌≡◌, ◌≤◌, length, IfOk, IfSome, OnErr};
 
+use answers::{PLAN_SIZE, TEXT_SIZE};
 use std::env::{Env, FillError};
 use std::fs::Files;
 use std::io::{Eprint, Write};
 use std::{fs, io, str};
+use streams::INPUT_SIZE;
 
 // Where the requests of a plan lead, by replay.
 fn write_judgement<W: Write>(writer: &mut W, j: replay::Judgement) -> io::Result<()> {
@@ -29,11 +31,10 @@ fn write_replayed<W: Write>(
     }
 }
 
-// The plan's buffer is long enough for every book, and the text's for every answer.
 fn plan<W: Write>(writer: &mut W, book: &[u8]) -> io::Result<()> {
-    let mut out = [0u8; 42560];
+    let mut out = [0u8; PLAN_SIZE];
     let answer = planner::plan(book, &mut out);
-    let mut text = [0u8; 93639];
+    let mut text = [0u8; TEXT_SIZE];
     answers::put_answer(answer, &out, &mut text);
     let end = lines::line_end(&text, 0);
     writer.write_all(&text[..end])?;
@@ -49,7 +50,9 @@ fn plan<W: Write>(writer: &mut W, book: &[u8]) -> io::Result<()> {
 
 fn judge<W: Write>(writer: &mut W, book: &[u8]) -> io::Result<()> {
     let mut text = [0u8; 64];
-    readings::put_reading(frames::read(book), &mut text);
+    let mut b = frames::no_book();
+    let told = frames::read_into(book, false, &mut b);
+    readings::put_reading(told, &b, &mut text);
     let end = lines::line_end(&text, 0);
     writer.write_all(&text[..end])?;
     writer.write_all(b" ")
@@ -92,9 +95,8 @@ fn is_planned(name: &[u8]) -> bool {
     name[n - 5] == b'.'
 }
 
-// The buffer holds one character more than a book may have, so that refusal 1 shows.
 fn answer<R: Files + Eprint, W: Write>(rt: &R, writer: &mut W, name: &[u8]) -> io::Result<()> {
-    let mut book = [0u8; 65537];
+    let mut book = [0u8; INPUT_SIZE];
     let n = read_named(rt, name, &mut book)?;
     if is_planned(name) {
         plan(writer, &book[..n])?;

@@ -12,6 +12,7 @@ use Rattle.std.proofs.lemmas.List.{get_or-take}
 use Rattle.std.specs.Prelude.{Option, Some, None, is_some, IfSome}
 use borrow.Author.Tests.{lt-ltb, le-ltb}
 use Rattle.quantifiers.proofs.BelowLaws.{any_false}
+use Rattle.quantifiers.proofs.RangeLaws.{IsFirstFrom}
 use Rattle.theory.specs.Inner.Facts.{State, update, minus}
 use Rattle.theory.proofs.FactLaws.{update_same, update_other, minus_in, antisym, at}
 use Rattle.shown.specs.Inner.Shown.{row, inherited, visible_fact, direct, touches_fact, Extended, More, Whole, WholeFacts}
@@ -126,27 +127,29 @@ copied_facts y {u} size e = record {
       (λ (l : f < 160 → ⊥). direct_high u f (omega arith) ∙ sym (direct_high y f (omega arith)));
 }
 
--- None of the first `i` facts is lacking.
-pub record NoneSoFar (a b : List Bool) (i : ℕ) : Type 0 where
-  pub fits : i ≤ 160
-  pub before : (f : ℕ) → f < i → minus (direct a) (direct b) f ≡ false
+-- ---------------------------------------------------------------- what is lacking
 
-minus_low : (a b : List Bool) (k : ℕ) → k < 160 → get_or a k false && not (get_or b k false) ≡ minus (direct a) (direct b) k
+-- Whether `a` has the fact `k` and `b` lacks it.
+abbrev pub lacking : List Bool → List Bool → ℕ → Bool
+lacking a b k = get_or a k false && not (get_or b k false)
+
+minus_low : (a b : List Bool) (k : ℕ) → k < 160 → lacking a b k ≡ minus (direct a) (direct b) k
 minus_low a b k l = rw (direct_low a k l, direct_low b k l)
 
-module _ {a b : List Bool} {i : ℕ} (r : NoneSoFar a b i) where
-  -- One fact more that is not lacking.
-  pub none_more : i < 160 → get_or a i false && not (get_or b i false) ≡ false → NoneSoFar a b (i + 1)
-  none_more h e =
-      record {
-        fits = omega arith;
-        before = λ f l. at (λ f. f < i + 1 → minus (direct a) (direct b) f ≡ false) i f (λ _. sym (minus_low a b i h) ∙ e)
-            (λ n l'. r.before f (omega arith)) l;
-      }
+-- The first of the facts is the first that is lacking.
+pub lacks_first : (a b : List Bool) (r : Option ℕ) → IsFirstFrom (lacking a b) 0 160 r → Lacks a b (lacked r)
+lacks_first a b None h =
+    record { fits = omega arith; before = λ f l. sym (minus_low a b f l) ∙ h f (omega arith) (omega (arith, l)); here = λ l. absurd (omega (arith, l)) }
+lacks_first a b (Some k) h =
+    record {
+      fits = omega (arith, h.1.0);
+      before = λ f l. sym (minus_low a b f (omega (arith, l, h.1.0))) ∙ h.1.1.1 f (omega arith) l;
+      here = λ l. sym (minus_low a b k l) ∙ h.1.1.0;
+    }
 
-  -- The first fact that is lacking.
-  pub none_found : i < 160 → get_or a i false && not (get_or b i false) ≡ true → Lacks a b i
-  none_found h e = record { fits = omega arith; before = r.before; here = λ _. sym (minus_low a b i h) ∙ e }
+pub lacks_within : (a b : List Bool) (r : Option ℕ) → IsFirstFrom (lacking a b) 0 160 r → IfSome r (λ f. f < 160)
+lacks_within a b None h = tt
+lacks_within a b (Some k) h = omega (arith, h.1.0)
 
 -- Where none is lacking, the number is 160; where one is, it is that of a fact.
 pub none_lacked : (r : Option ℕ) → is_some r ≡ false → lacked r ≡ 160

@@ -32,6 +32,9 @@ fn put(table: &[bool], f: usize, x: &mut [bool])
 }
 
 // Puts the fact `f` into whole flags.
+// Kept: beside `spread::put_whole`, not one function over a trait of `bool` and `u64`: `shown::raise` ends at the first flag that stands, which tells
+// nothing of 64 persons, and `put`, `add_row` and `shown::extend` stay for `build`, which extends once behind all facts. Only this function and
+// `raise` would go, and a trait with its law, its two impls and one definition in the place of `Put` and `Lit` would come.
 pub fn put_whole(table: &[bool], f: usize, x: &mut [bool])
     requires { (f < level_size) × Whole table.now x.old }
     ensures { Put table.now x.old f x.new }
@@ -80,6 +83,7 @@ pub fn strip(x: &[bool], bad: &[bool], d: &mut [bool])
 }
 
 // Writes the facts of `y` to `u`.
+// Kept: one call under a name, since what its callers need of the copy is said in its contract: of flags it has the facts.
 pub fn keep(y: &[bool], u: &mut [bool])
     requires { (length y.now ≡ flags_size) × (length u.old ≡ level_size) }
     ensures { Copied y.now u.new }
@@ -93,12 +97,7 @@ pub fn lacks(a: &[bool], b: &[bool]) -> Option<usize>
     ensures first { Lacks a.now b.now (lacked result) }
     ensures within { IfSome result (λ f. f < level_size) }
 {
-    for k in 0..LEVEL_SIZE {
-        if a[k] && !b[k] {
-            return Some(k);
-        }
-    }
-    None
+    (0..LEVEL_SIZE).find(|k| a[*k] && !b[*k])
 }
 
 // Writes to `y` the flags of `d`, which is `x` without its forbidden facts: those of `x` where it has none.

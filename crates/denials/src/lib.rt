@@ -4,13 +4,12 @@
 
 ghost use Rattle.std.specs.Prelude.{position, take, not, ◌≡◌, ◌≤◌, length};
 ghost use Rattle.facts.specs.Facts.{holds};
-ghost use Rattle.frames.specs.Book.{listed};
 ghost use Rattle.frames.specs.Inner.Fits.{Short};
 ghost use Rattle.quantifiers.specs.Inner.Lists.{Each};
 ghost use Rattle.rules.specs.Rules.{subject_of, term_holds, names};
 ghost use Rattle.denials.specs.Denials.{why_not, denial_number};
 
-use frames::{Rule, Rules};
+use frames::Rule;
 use requests::Request;
 
 // Kept: no `Option`: two reasons, each with a number of its own in the table.
@@ -22,6 +21,7 @@ pub enum Denial {
 }
 
 // The table's number of a denial.
+// Kept: the definition of this name; a variant that has places in it has no discriminant.
 pub fn denial_number(d: Denial) -> u8
     ensures { result ≡ denial_number d }
 {
@@ -51,12 +51,11 @@ fn first_unmet(r: &Rule, ledger: &[u8], juniors: &[u32], q: Request) -> Option<u
 
 // Why no rule of the list permits the request: asked only where none does. There some term of the first rule that has the request's op,
 // role, a and v does not hold; elsewhere the count of its terms stands for it.
-pub fn why_not(rs: Rules, ledger: &[u8], juniors: &[u32], q: Request) -> Denial
-    requires count_bound { (rs.count ≤ 512) × Each Short (listed rs) }
+pub fn why_not(rules: &[Rule], ledger: &[u8], juniors: &[u32], q: Request) -> Denial
+    requires count_bound { (length rules.now ≤ 512) × Each Short rules.now }
     requires juniors_len { length juniors.now ≡ 32 }
-    ensures { result ≡ why_not juniors.now (listed rs) (holds ledger.now) q }
+    ensures { result ≡ why_not juniors.now rules.now (holds ledger.now) q }
 {
-    let rules = &rs.rules[..rs.count];
     let Some(i) = first_named(rules, q) else {
         return Denial::NoRule;
     };

@@ -1,16 +1,17 @@
 -- The lines of a table, one behind the other; and what the program prints, by what page promises.
 use mathlib.Core.Path.{◌≡◌, refl, ap, sym, ◌∙◌}
 use mathlib.Core.List.{List, ◌++◌}
-use Prim.Native.Nat.{ℕ, ◌+◌, ◌*◌, ◌≤◌}
+use Prim.Native.Nat.{ℕ, ◌+◌, ◌-◌, ◌*◌, ◌≤◌, ◌<◌}
 use native.Mathlib.Numerals.{add-one}
 use native.Mathlib.Omega.{arith}
-use lib.ListN.{length, take, drop, length-drop}
-use lib.Seq.{length-take-le}
+use lib.ListN.{length, length-append, length-drop, take, drop}
+use lib.Seq.{take_at, drop_at, drop-drop}
+use borrow.Rule.Slice.PartMut.{put_mid}
 use Rattle.frames.specs.Book.{Answer, refused, accepted}
 use Rattle.answers.specs.Answers.{hex_line, refused_bytes}
 use Rattle.answers.specs.Inner.Written.{Written}
 use Rattle.answers.proofs.AnswerLaws.{line_long}
-use Rattle.answers.proofs.WrittenLaws.{written_none, written_more, written_as}
+use Rattle.answers.proofs.WrittenLaws.{written_none, written_as, written_on}
 use Rattle.page.specs.Page.{Paged}
 use Rattle.std.specs.Prelude.{Ok, Err}
 use Rattle.page.specs.declared.Refusal.{Refusal}
@@ -19,30 +20,50 @@ use Rattle.depot_page.specs.Printed.{person_lines, PrintedFor, Printed}
 
 -- ---------------------------------------------------------------- the lines
 
--- The lines of the first p persons are written, up to `end`.
-pub record Lines (before table : List ℕ) (p : ℕ) (text : List ℕ) (end : ℕ) : Type 0 where
+-- The lines of the first p persons are written, up to `end`, and those of the rest of the table are left.
+pub record Lines (before table left text : List ℕ) (end : ℕ) : Type 0 where
+  pub p : ℕ
+  pub within : 16 * p ≤ length table
+  pub rest : left ≡ drop (16 * p) table
   pub place : end ≡ 33 * p
   pub written : Written before 0 (person_lines p table) text end
 
-pub lines_none : (before table : List ℕ) → Lines before table 0 before 0
+pub lines_none : (before table : List ℕ) → Lines before table table before 0
 unfolding person_lines
-lines_none before table = record { place = refl; written = written_none before 0 }
+lines_none before table = record { p = 0; within = omega arith; rest = refl; place = refl; written = written_none before 0 }
 
-pub lines_more : {before table : List ℕ} {p : ℕ} {text : List ℕ} {end : ℕ} → Lines before table p text end → {after : List ℕ} {next : ℕ} (t : ℕ)
-    → 16 * p + 16 ≤ length table → t ≡ 16 → Written text end (hex_line (take t (drop (16 * p) table))) after next → Lines before table (p + 1) after next
-unfolding person_lines
-lines_more {before} {table} {p} so_far {after} {next} t room e w =
-    let long : length (take t (drop (16 * p) table)) ≡ 16 = length-take-le t (drop (16 * p) table) (omega (arith, length-drop (16 * p) table)) ∙ e in
-    let line : Written before 0 (person_lines p table ++ hex_line (take 16 (drop (16 * p) table))) after next =
-    written_as (written_more so_far.written w) (ap (λ (n : ℕ). person_lines p table ++ hex_line (take n (drop (16 * p) table))) e) in
-    record {
-      place = omega (arith, so_far.place, w.long, line_long (take t (drop (16 * p) table)), long);
-      written = written_as line (ap (λ (n : ℕ). person_lines n table) (sym (add-one p)));
-    }
+module _ {before table left text : List ℕ} {end : ℕ} (so_far : Lines before table left text end) where
+  pub lines_more : (row rest : List ℕ) → left ≡ row ++ rest → length row ≡ 16 → {m next : ℕ} {part : List ℕ} → m ≡ length text - end
+      → Written (take m (drop end text)) 0 (hex_line row) part next → Lines before table rest (put_mid end m text part) (end + next)
+  unfolding person_lines
+  lines_more row rest parts long from w =
+      record {
+        p = so_far.p + 1;
+        within = omega (arith, so_far.within, ap length same, length-append row rest, length-drop (16 * so_far.p) table, long);
+        rest =
+            sym (drop_at row rest 16 long)
+            ∙ ap (λ (l : List ℕ). drop 16 l) (sym same)
+            ∙ drop-drop 16 (16 * so_far.p) table
+            ∙ ap (λ (n : ℕ). drop n table) further;
+        place = omega (arith, so_far.place, w.long, line_long row, long);
+        written = rw (add-one so_far.p) (written_as (written_on so_far.written from w) line);
+      }
+    where
+      same : drop (16 * so_far.p) table ≡ row ++ rest
+      same = sym so_far.rest ∙ parts
 
-pub lines-all : {before table : List ℕ} {p : ℕ} {text : List ℕ} {end : ℕ} → Lines before table p text end → p ≡ 64
-    → Written before 0 (person_lines 64 table) text end
-lines-all {before} {table} {p} {text} {end} so_far e = written_as so_far.written (ap (λ (n : ℕ). person_lines n table) e)
+      further : 16 * so_far.p + 16 ≡ 16 * (so_far.p + 1)
+      further = omega arith
+
+      line : person_lines so_far.p table ++ hex_line row ≡ person_lines so_far.p table ++ hex_line (take 16 (drop (16 * so_far.p) table))
+      line = ap (λ (l : List ℕ). person_lines so_far.p table ++ hex_line l) (sym (ap (λ (l : List ℕ). take 16 l) same ∙ take_at row rest 16 long))
+
+  pub lines-all : length table ≡ 1024 → length left < 16 → Written before 0 (person_lines 64 table) text end
+  lines-all size few =
+      written_as so_far.written (ap (λ (n : ℕ). person_lines n table) all)
+    where
+      all : so_far.p ≡ 64
+      all = omega (arith, so_far.within, ap length so_far.rest, length-drop (16 * so_far.p) table)
 
 -- ---------------------------------------------------------------- what is printed
 

@@ -7,28 +7,30 @@ ghost use Rattle.answers.specs.Inner.Written.{Written};
 ghost use Rattle.depot_page.specs.Printed.{person_lines, Printed};
 
 use lines::Characters;
+use page::PAGE_SIZE;
 use std::io;
-use std::io::Write;
 
-// The table in the front of a lent text, sixteen bytes a line. Returns the place behind what it wrote.
+// The characters of a page's 64 lines, each of 32 digits and its end.
+const LINES_SIZE: usize = 2112;
+
+// The table in the front of a lent text, sixteen bytes a line. Returns how many characters it wrote.
 fn put_table(table: &[u8], characters: &Characters, text: &mut [u8]) -> usize
-    requires { (length table.now ≡ 1024) × (2112 ≤ length text.old) }
+    requires { (length table.now ≡ PAGE_SIZE) × (LINES_SIZE ≤ length text.old) }
     ensures { Written text.old 0 (person_lines 64 table.now) text.new result }
 {
-    let mut end: usize = 0;
-    for p in 0..64 {
-        let from = 16 * p;
-        end = answers::put_line(&table[from..from + 16], characters, text, end);
+    let mut end = 0;
+    for row in table.chunks_exact(16) {
+        end += answers::put_line(row, characters, &mut text[end..]);
     }
     end
 }
 
 // The page of the book in the first n bytes of `text`, in the place of the book: the first bytes, as many as returned.
 fn answer(text: &mut [u8], n: usize) -> usize
-    requires { (n ≤ length text.old) × (2112 ≤ length text.old) }
+    requires { (n ≤ length text.old) × (LINES_SIZE ≤ length text.old) }
     ensures { (result ≤ length text.new) × Printed (take n text.old) (take result text.new) }
 {
-    let mut table = [0u8; 1024];
+    let mut table = [0u8; PAGE_SIZE];
     let paged = page::page(&text[..n], &mut table);
     let characters = Characters::new();
     match paged {
@@ -41,10 +43,6 @@ fn answer(text: &mut [u8], n: usize) -> usize
     }
 }
 
-// The buffer holds one character more than a book may have, so that refusal 1 shows.
 fn main(rt: HostRuntime) -> io::Result<()> {
-    let mut text = [0u8; 65537];
-    let n = streams::read_full(&mut rt.stdin(), &mut text)?;
-    let end = answer(&mut text, n);
-    rt.stdout().write_all(&text[..end])
+    streams::print_answer(&mut rt.stdin(), &mut rt.stdout(), answer)
 }

@@ -1,6 +1,5 @@
 -- The laws of drafts: what runs carry out, requests appended, and requests as bytes.
 use mathlib.Core.Path.{◌≡◌, refl, ap, sym, ◌∙◌}
-use mathlib.Core.Bool.{Bool}
 use mathlib.Core.List.{List, [], ◌∷◌, ◌++◌, map, append_assoc}
 use Prim.Native.Nat.{ℕ, zero, suc, ◌+◌, ◌*◌, ◌≤◌}
 use native.Mathlib.Omega.{arith}
@@ -8,11 +7,9 @@ use lib.ListN.{length, get_or, take, drop, length-drop}
 use lib.Seq.{drop-drop, take-add, get_or-drop}
 use borrow.Rule.Slice.PartMut.{put_mid}
 use Rattle.frames.specs.Book.{Contents}
-use Rattle.facts.specs.Facts.{put_fact}
 use Rattle.requests.specs.declared.Request.{Request}
-use Rattle.requests.specs.Requests.{adds, request_of}
+use Rattle.requests.specs.Requests.{request_of}
 use Rattle.ledger.specs.Ledger.{after}
-use Rattle.ledger.proofs.LedgerLaws.{after-put}
 use Rattle.quantifiers.proofs.ListLaws.{map-append}
 use Rattle.theory.specs.Inner.Plan.{Ask}
 use Rattle.level.specs.Inner.Notes.{ask_at, asks}
@@ -100,16 +97,14 @@ unfolding asks carried
 carry_first l d k = refl
 
 -- One request more is carried out.
-pub carry_more : (l₀ l m d : List ℕ) (k i t : ℕ) (r : Request) (on : Bool) → 5 * (k + i) + 5 ≤ length d → t ≡ 5
-    → r ≡ request_of (take t (drop (5 * (k + i)) d)) → on ≡ adds r.op → m ≡ put_fact l r.fact on
+pub carry_more : (l₀ l m d : List ℕ) (k i t : ℕ) (r : Request) → 5 * (k + i) + 5 ≤ length d → t ≡ 5
+    → r ≡ request_of (take t (drop (5 * (k + i)) d)) → m ≡ after l r
     → l ≡ carried l₀ (map bytes_of (asks d k i)) → m ≡ carried l₀ (map bytes_of (asks d k (i + 1)))
-carry_more l₀ l m d k i t r on h five is turn left so_far =
+carry_more l₀ l m d k i t r h five is turn so_far =
     let same : suc i ≡ i + 1 = omega arith in
     let u = ask_at d (k + i) in
     let bytes : take t (drop (5 * (k + i)) d) ≡ bytes_of u = ap (λ (j : ℕ). take j (drop (5 * (k + i)) d)) five ∙ bytes_at d (k + i) h in
-    left
-    ∙ ap (put_fact l r.fact) turn
-    ∙ sym (after-put l r)
+    turn
     ∙ ap (after l) (is ∙ ap request_of bytes)
     ∙ ap (λ (x : List ℕ). after x (request_of (bytes_of u))) so_far
     ∙ sym (carried_one (carried l₀ (map bytes_of (asks d k i))) (bytes_of u))

@@ -15,8 +15,7 @@ pub fn carry_out(ledger: &mut [u8], draft: &[u8], from: usize, n: usize)
     for i in 0..n {
         let at = 5 * (from + i);
         let request = requests::request_of(&draft[at..at + 5]);
-        let on = requests::is_adding(request.op);
-        facts::put_fact(ledger, request.fact, on);
+        ledger::carry_out(ledger, request);
     }
 }
 

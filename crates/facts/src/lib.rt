@@ -66,17 +66,17 @@ fn place_of(f: Fact) -> Option<Place>
     }
     Some(match f {
         Fact::Holds(p, a, v) => Place {
-            at: 16 * p.0 as usize + 2 * a.0 as usize,
+            at: 16 * usize::from(p.0) + 2 * usize::from(a.0),
             w: 2,
             v,
         },
         Fact::CrewHolds(c, a, v) => Place {
-            at: CREWS_AT + 16 * c.0 as usize + 2 * a.0 as usize,
+            at: CREWS_AT + 16 * usize::from(c.0) + 2 * usize::from(a.0),
             w: 2,
             v,
         },
         Fact::Member(p, c) => Place {
-            at: MEMBERS_AT + 4 * p.0 as usize,
+            at: MEMBERS_AT + 4 * usize::from(p.0),
             w: 4,
             v: c.0,
         },
@@ -93,8 +93,9 @@ pub fn fact_holds(ledger: &[u8], f: Fact) -> bool
     }
 }
 
-// Whether the fact, or one of the same set with a higher number, is in the ledger: of a value, whether it or a higher one of its attribute is held. The
-// set is looked at once.
+// Whether the fact, or one of the same set with a higher number, is in the ledger: of a value, whether it or a higher one of its attribute is
+// held. The set is looked at once.
+// Kept: beside `fact_holds`, which differs in the one call.
 pub fn holds_from(ledger: &[u8], f: Fact) -> bool
     ensures { result ≡ any_from (λ w. holds ledger.now (numbered f w)) (member_of f) (8 * set_width f) }
 {

@@ -15,6 +15,7 @@ use frames::{Query, Want};
 use widths::{LEVEL_SIZE, ROWS_SIZE, VALUES_SIZE};
 
 // Clears n flags from a place on.
+// Kept: one call under a name, here and in `copy_flags`: what callers need is its contract.
 fn clear_flags(s: &mut [bool], at: usize, n: usize)
     requires { at + n ≤ length s.old }
     ensures { FlagsWritten s.old at (λ _. false) n s.new }
@@ -157,9 +158,10 @@ fn add_want(w: Want, bad: &mut [bool])
 }
 
 // Adds the values that some named set lacks.
-fn add_banned(q: Query, bad: &mut [bool])
-    requires { SmallWants q × (length bad.old ≡ level_size) }
-    ensures { FlagsWritten bad.old 0 (banned_flag bad.old q q.q) 128 bad.new }
+// Kept: `SmallWants` as a clause, here and in `own`: `query_of` of specs/Book makes a query of any bytes, of q over 8 too.
+fn add_banned(q: &Query, bad: &mut [bool])
+    requires { SmallWants q.now × (length bad.old ≡ level_size) }
+    ensures { FlagsWritten bad.old 0 (banned_flag bad.old q.now q.now.q) 128 bad.new }
 {
     for w in &q.wants[..q.q as usize] {
         add_want(*w, bad);
@@ -167,9 +169,9 @@ fn add_banned(q: Query, bad: &mut [bool])
 }
 
 // The facts of level k that the query forbids. At a crew's level `below` says whether the crew is listed or lies below a listed one.
-pub fn bad_flags(q: Query, crews: u8, k: u8, below: bool, bad: &mut [bool])
-    requires { SmallWants q × (length bad.old ≡ level_size) }
-    ensures { FlagsWritten bad.old 0 (bad_flag q crews k below) level_size bad.new }
+pub fn bad_flags(q: &Query, crews: u8, k: u8, below: bool, bad: &mut [bool])
+    requires { SmallWants q.now × (length bad.old ≡ level_size) }
+    ensures { FlagsWritten bad.old 0 (bad_flag q.now crews k below) level_size bad.new }
 {
     clear_flags(bad, 0, LEVEL_SIZE);
     if q.mode == 1 {
@@ -188,10 +190,6 @@ pub fn do_listed_reach(listed: u32, rows: &[bool], c: u8) -> bool
     requires { (c < 32) × (length rows.now ≡ rows_size) }
     ensures { result ≡ listed_reach listed rows.now c }
 {
-    for d in 0..32 {
-        if sets::has(listed, d) && rows[LEVEL_SIZE * (d as usize) + (VALUES_SIZE + (c as usize))] {
-            return true;
-        }
-    }
-    false
+    let at = VALUES_SIZE + usize::from(c);
+    (0..32).any(|d| sets::has(listed, d) && rows[LEVEL_SIZE * usize::from(d) + at])
 }

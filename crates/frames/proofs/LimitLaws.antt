@@ -1,5 +1,4 @@
 -- What the limits of a book with "not" terms come to: of a term, of a rule, of a list of rules, and of an accepted book.
-use Rattle.std.specs.List.{list_any}
 use mathlib.Core.Path.{◌≡◌, refl, ap, sym, ◌∙◌}
 use mathlib.Core.Bool.{Bool, true, false, not, ◌&&◌, ◌||◌, true≢false}
 use mathlib.Core.List.{List, [], ◌∷◌, ◌++◌}
@@ -114,12 +113,6 @@ once_at (r ∷ rs) d e (suc i) zero h k s =
     absurd (true≢false
     (sym (key_turned (get_or rs i d) r s) ∙ any_get (same_key r) rs d i (or_neither (any (same_key r) rs) (twice rs) e) (omega arith)))
 once_at (r ∷ rs) d e (suc i) (suc j) h k s = ap suc (once_at rs d (or-none (any (same_key r) rs) (twice rs) e) i j (omega arith) (omega arith) s)
-
--- Some one of a list passes a test, in the words of std and in those of the paper's definitions.
-pub any_list : {A : Type 0} (p : A → Bool) (xs : List A) → list_any p xs ≡ any p xs
-unfolding any
-any_list p [] = refl
-any_list p (x ∷ xs) = ap (λ (b : Bool). p x || b) (any_list p xs)
 
 -- A key is given twice where the first rule's is, or one of those behind it; d stands for a rule past the list's end.
 pub twice_turn : (rs : List Rule) (d : Rule) → 1 ≤ length rs

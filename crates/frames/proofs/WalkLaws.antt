@@ -1,7 +1,7 @@
 -- One turn of the walk over a book's lines, over plain values: what is left of the book decides the answer.
 use Rattle.std.specs.Prelude.{Result, Ok, Err, Option, None, Some}
 use mathlib.Core.Path.{◌≡◌, refl, ap, sym, subst, ◌∙◌}
-use mathlib.Core.Bool.{Bool, true, false, not, cond, ◌&&◌, ◌||◌}
+use mathlib.Core.Bool.{Bool, true, false, cond, ◌&&◌}
 use mathlib.Core.List.{List, [], ◌∷◌, ◌++◌}
 use mathlib.Core.Logic.{◌⊎◌, ⊎_elim, inl, inr, dite}
 use Prim.Native.Nat.{ℕ, ◌+◌, ◌-◌, ◌*◌, ◌≤◌, ◌<◌}
@@ -26,7 +26,6 @@ use Rattle.gate.specs.declared.Known.{Known}
 use Rattle.gate.specs.declared.Fault.{Fault}
 use Rattle.gate.specs.declared.Fault.TheVariants.{Malformed, Misplaced}
 use Rattle.gate.specs.Gate.{Verdict, Good, Bad}
-use Rattle.quantifiers.specs.Quantifiers.{all}
 use Rattle.gate.specs.Inner.Long.{long_fault}
 use Rattle.gate.proofs.LongLaws.{long_bad}
 use Rattle.sizes.specs.Sizes.{sizes_of}
@@ -34,7 +33,7 @@ use Rattle.gate.proofs.PassedLaws.{sizes_passed, edge_passed, rule_passed}
 use Rattle.frames.specs.declared.Rule.{Rule}
 use Rattle.frames.specs.declared.Query.{Query}
 use Rattle.frames.specs.declared.Refusal.TheVariants.{BadLine}
-use Rattle.frames.specs.Limits.{plain, all_plain, growing, twice, beyond_not, wrong_mode}
+use Rattle.frames.specs.Limits.{plain, all_plain}
 use Rattle.frames.specs.Book.{Entered, refused, accepted, contents, nothing, onward, last_fault, walk, enter, rule_of}
 use Rattle.frames.specs.Book.{known_after, juniors_after, rules_after, facts_after, query_after}
 use Rattle.frames.specs.Inner.Judged.{sized, judged, whole}

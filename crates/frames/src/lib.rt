@@ -2,28 +2,23 @@
 
 #![tactic(auto)]
 
-ghost use Rattle.std.specs.Prelude.{◌≡◌, true, not, cond, ◌&&◌, ◌||◌, ◌+◌, ◌-◌, ◌*◌, ◌<◌, ◌≤◌, length, eqb};
+ghost use Rattle.std.specs.Prelude.{◌≡◌, true, not, cond, ◌&&◌, ◌||◌, ◌+◌, ◌-◌, ◌*◌, ◌<◌, ◌≤◌, length, eqb, OnErr};
 ghost use Rattle.quantifiers.specs.Quantifiers.{all};
 ghost use Rattle.lines.specs.Digits.{byte_at};
 ghost use Rattle.lines.specs.Lines.{lines};
 ghost use Rattle.frames.specs.Book.{refusal_number, refusal_line, term_at, terms_of, rule_of, known_after, juniors_after, fact_of, facts_after, want_at, wants_of};
-ghost use Rattle.frames.specs.Book.{query_of, query_after, nothing, walk, book_for, book_of, told_by};
+ghost use Rattle.frames.specs.Book.{query_of, query_after, nothing, walk, book_for, book_of, listed, no_book, told_in, told_by};
 ghost use Rattle.frames.specs.Limits.{is_not, plain, all_plain, growing, same_key, twice};
 ghost use Rattle.frames.specs.Inner.Judged.{Fits, judged, whole};
 
 use facts::{Attr, Crew, Fact, LEDGER_SIZE, Person, Role};
-use gate::{Fault, Known};
+use gate::{EDGE, FACT, Fault, Known, QUERY, RULE, SIZES};
 use reader::Frame;
+use sizes::Sizes;
+use std::array;
 
 // The most characters that a book may have.
 const MOST: usize = 65536;
-
-// The kinds of the frames that are an edge between two crews, a rule and a starting fact.
-const EDGE: u8 = 2;
-
-const RULE: u8 = 3;
-
-const FACT: u8 = 4;
 
 // One condition of a rule: kind, a, v as written.
 // Kept: a kind, an op and a mode are numbers and no enums: `term_at`, `rule_of` and `query_of` of specs/Book give each byte as it is written,
@@ -54,6 +49,17 @@ pub struct Rules {
     pub rules: [Rule; 512],
 }
 
+impl Rules {
+    // The rules as a lent slice.
+    #[tactic(auto, unfolding(crate::specs::Book::listed))]
+    pub fn listed(&self) -> &[Rule]
+        requires { self.now.count ≤ 512 }
+        ensures { result.now ≡ listed self.now }
+    {
+        &self.rules[..self.count]
+    }
+}
+
 // A named attribute of the query with its set of values.
 #[derive(Clone, Copy)]
 pub struct Want {
@@ -72,10 +78,10 @@ pub struct Query {
     pub crews: u32,
 }
 
-// An accepted book. Of crew s, juniors[s] is the set of its direct juniors; facts is the ledger of starting facts.
+// An accepted book, or `no_book`. Of crew s, juniors[s] is the set of its direct juniors; facts is the ledger of starting facts.
 #[derive(Clone, Copy)]
 pub struct Book {
-    pub sizes: sizes::Sizes,
+    pub sizes: Sizes,
     pub juniors: [u32; 32],
     pub rules: Rules,
     pub facts: [u8; LEDGER_SIZE],
@@ -90,6 +96,7 @@ pub enum Refusal {
 }
 
 // The table's number of a refusal.
+// Kept: a function each for the number and the line, not `From`: each is the definition of its name.
 pub fn refusal_number(r: Refusal) -> u8
     ensures { result ≡ refusal_number r }
 {
@@ -124,11 +131,7 @@ fn term_at(x: &[u8], j: usize) -> Term
 fn terms_of(x: &[u8]) -> [Term; 8]
     ensures { result ≡ terms_of x.now }
 {
-    let mut terms = [NO_TERM; 8];
-    for j in 0..8 {
-        terms[j] = term_at(x, j);
-    }
-    terms
+    array::from_fn(|j| term_at(x, j))
 }
 
 // The rule that a 03 frame writes.
@@ -153,16 +156,16 @@ fn known_after(k: Known, x: &[u8]) -> Known
     ensures { result ≡ known_after k x.now }
 {
     match lines::byte_at(x, 0) {
-        1 => Known {
+        SIZES => Known {
             headed: true,
             sizes: sizes::sizes_of(x),
             ..k
         },
-        3 => Known {
+        RULE => Known {
             count: k.count + 1,
             ..k
         },
-        5 => Known { asked: true, ..k },
+        QUERY => Known { asked: true, ..k },
         _ => k,
     }
 }
@@ -216,11 +219,7 @@ fn want_at(x: &[u8], j: usize) -> Want
 fn wants_of(x: &[u8]) -> [Want; 8]
     ensures { result ≡ wants_of x.now }
 {
-    let mut wants = [NO_WANT; 8];
-    for j in 0..8 {
-        wants[j] = want_at(x, j);
-    }
-    wants
+    array::from_fn(|j| want_at(x, j))
 }
 
 // The query that a 05 frame writes.
@@ -243,7 +242,7 @@ fn query_of(x: &[u8]) -> Query
 fn query_after(q: Query, x: &[u8]) -> Query
     ensures { result ≡ query_after q x.now }
 {
-    if lines::byte_at(x, 0) == 5 {
+    if lines::byte_at(x, 0) == QUERY {
         query_of(x)
     } else {
         q
@@ -280,12 +279,27 @@ const NO_TERM: Term = Term {
     v: 0,
 };
 
+// The sizes, and what is known of a book, before its first line.
+const NO_SIZES: Sizes = Sizes {
+    persons: 0,
+    crews: 0,
+    attrs: 0,
+    counts: [0; 8],
+};
+
+const NOTHING_KNOWN: Known = Known {
+    headed: false,
+    asked: false,
+    sizes: NO_SIZES,
+    count: 0,
+};
+
 // Whether a term is a "not" term.
 #[tactic(auto, unfolding(crate::specs::Limits::is_not))]
 fn is_not(t: Term) -> bool
     ensures { result ≡ is_not t }
 {
-    t.kind == 0x81 || t.kind == 0x83
+    matches!(t.kind, 0x81 | 0x83)
 }
 
 // Whether a rule has no "not" term.
@@ -299,14 +313,14 @@ fn is_plain(r: &Rule) -> bool
 fn is_growing_term(t: Term) -> bool
     ensures { result ≡ (is_not t || (eqb t.kind 1 || eqb t.kind 3)) }
 {
-    is_not(t) || t.kind == 1 || t.kind == 3
+    is_not(t) || matches!(t.kind, 1 | 3)
 }
 
-// Whether a rule of that op may.
+// Whether a rule of that op may stand there.
 fn is_growing_op(op: u8) -> bool
     ensures { result ≡ (eqb op 1 || (eqb op 3 || eqb op 5)) }
 {
-    op == 1 || op == 3 || op == 5
+    matches!(op, 1 | 3 | 5)
 }
 
 // Whether a rule may stand in a book with "not" terms.
@@ -328,7 +342,8 @@ fn is_same_key(r: &Rule, s: &Rule) -> bool
     r.op == s.op && r.a == s.a && r.v == s.v
 }
 
-// Whether two rules of the list have.
+// Whether two rules of the list have the same.
+// Kept: a `while let`, no loop over indices: each turn takes the first rule and what is behind it, as `twice` of specs/Limits does.
 fn is_twice(rs: &[Rule]) -> bool
     ensures { result ≡ twice rs.now }
 {
@@ -349,7 +364,8 @@ fn is_beyond(rs: &[Rule]) -> bool
     !rs.iter().all(|r| is_growing(r)) || is_twice(rs)
 }
 
-// Whether the mode is wrong for a book of which `unmarked` says that it has no "not" term; for the page every mode is, where it has one.
+// Whether the mode is wrong for a book of which `unmarked` says that it has no "not" term; for the page every mode is wrong in a book that
+// has one.
 fn is_wrong_mode(paged: bool, unmarked: bool, mode: u8) -> bool
     ensures { result ≡ (cond (eqb mode 3) unmarked (not unmarked) || (paged && not unmarked)) }
 {
@@ -371,7 +387,7 @@ fn judge_line(known: Known, frame: Option<Frame>, buffer: &[u8]) -> Result<usize
     }
 }
 
-// The limits are those of a book with "not" terms: the rules of any other are not looked at again.
+// 16 or 17, of the whole book. The limits are those of a book with "not" terms: the rules of any other are not looked at again.
 #[tactic(auto, unfolding(crate::specs::Limits::beyond_not, crate::specs::Limits::wrong_mode))]
 fn judge_whole(rules: &[Rule], unmarked: bool, mode: u8, paged: bool) -> Result<(), Fault>
     requires { unmarked ≡ all_plain rules.now }
@@ -386,26 +402,32 @@ fn judge_whole(rules: &[Rule], unmarked: bool, mode: u8, paged: bool) -> Result<
     Ok(())
 }
 
-// Line by line: the earliest bad line, the end without a query, a fault of the whole, or the book.
-fn read_lines(book: &[u8], paged: bool) -> Result<Book, Refusal>
-    requires { length book.now ≤ 65536 }
-    ensures { told_by result ≡ walk paged nothing 1 (lines book.now) }
+// A book of no line.
+#[tactic(auto, unfolding(facts::specs::Facts::no_facts))]
+pub fn no_book() -> Book
+    ensures { result ≡ no_book }
 {
-    let mut known = Known {
-        headed: false,
-        asked: false,
-        sizes: sizes::Sizes {
-            persons: 0,
-            crews: 0,
-            attrs: 0,
-            counts: [0; 8],
+    Book {
+        sizes: NO_SIZES,
+        juniors: [0; 32],
+        rules: Rules {
+            count: 0,
+            rules: [NO_RULE; 512],
         },
-        count: 0,
-    };
-    let mut query = NO_QUERY;
-    let mut juniors = [0; 32];
-    let mut facts = [0; LEDGER_SIZE];
-    let mut rules = [NO_RULE; 512];
+        facts: [0; LEDGER_SIZE],
+        query: NO_QUERY,
+    }
+}
+
+// Line by line, into a lent book: the earliest bad line, the end without a query, a fault of the whole, or none.
+fn read_lines(book: &[u8], paged: bool, b: &mut Book) -> Result<(), Refusal>
+    requires { length book.now ≤ 65536 }
+    ensures { told_in result b.new ≡ walk paged nothing 1 (lines book.now) }
+{
+    let mut known = NOTHING_KNOWN;
+    b.juniors = [0; 32];
+    b.facts = [0; LEDGER_SIZE];
+    b.query = NO_QUERY;
     // Whether no rule so far has a "not" term.
     let mut unmarked = true;
     let mut frame = [0; 64];
@@ -423,16 +445,16 @@ fn read_lines(book: &[u8], paged: bool) -> Result<Book, Refusal>
         let x = &frame[..n];
         // Of a good frame only what its kind enters is touched.
         match lines::byte_at(x, 0) {
-            EDGE => enter_edge(&mut juniors, x),
-            FACT => enter_fact(&mut facts, x),
+            EDGE => enter_edge(&mut b.juniors, x),
+            FACT => enter_fact(&mut b.facts, x),
             RULE => {
                 let rule = rule_of(x);
                 unmarked &= is_plain(&rule);
-                rules[known.count] = rule;
+                b.rules.rules[known.count] = rule;
                 known.count += 1;
             }
             _ => {
-                query = query_after(query, x);
+                b.query = query_after(b.query, x);
                 known = known_after(known, x);
             }
         }
@@ -441,39 +463,51 @@ fn read_lines(book: &[u8], paged: bool) -> Result<Book, Refusal>
     if !known.asked {
         return Err(Refusal::BadLine(Fault::Misplaced, cursor.line));
     }
-    if let Err(f) = judge_whole(&rules[..known.count], unmarked, query.mode, paged) {
+    if let Err(f) = judge_whole(&b.rules.rules[..known.count], unmarked, b.query.mode, paged) {
         // Behind a query's line no line is good, so that it is the last.
         return Err(Refusal::BadLine(f, cursor.line - 1));
     }
-    Ok(Book {
-        sizes: known.sizes,
-        juniors,
-        rules: Rules {
-            count: known.count,
-            rules,
-        },
-        facts,
-        query,
-    })
+    b.sizes = known.sizes;
+    b.rules.count = known.count;
+    Ok(())
 }
 
-// Any characters at all: the accepted book, or the one refusal 1-9, 16 or 17.
+// Reads any characters at all, for the page or not, into a lent book: the accepted book, or the one refusal 1-9, 16 or 17, beside which the
+// lent book is `no_book`. The page refuses every book with a "not" term by 17.
+// Kept: the book is lent beside a `Result` of nothing, and `paged` is a flag, as `book_for` has it: a `Result` that held the book's 17 KB was
+// copied up to six times, 44% more on the smallest book (docs/PERFORMANCE.md, The code in today's forms).
+#[tactic(auto, unfolding(crate::specs::Book::book_for))]
+pub fn read_into(book: &[u8], paged: bool, b: &mut Book) -> Result<(), Refusal>
+    ensures told { told_in result b.new ≡ book_for paged book.now }
+    ensures cleared { OnErr result (b.new ≡ no_book) }
+{
+    if book.len() > MOST {
+        *b = no_book();
+        return Err(Refusal::TooLong);
+    }
+    if let Err(r) = read_lines(book, paged, b) {
+        *b = no_book();
+        return Err(r);
+    }
+    Ok(())
+}
+
+// The accepted book by value. The operations lend a book to `read_into`, so that none is copied.
+#[tactic(auto, unfolding(crate::specs::Book::book_of))]
 pub fn read(book: &[u8]) -> Result<Book, Refusal>
     ensures { told_by result ≡ book_of book.now }
 {
-    if book.len() > MOST {
-        return Err(Refusal::TooLong);
-    }
-    read_lines(book, false)
+    let mut b = no_book();
+    read_into(book, false, &mut b)?;
+    Ok(b)
 }
 
-// The same for the page, which refuses every book with a "not" term by 17.
-// Kept: beside `read`: docs/ name both, each with a definition of its own that it equals, and both are one call.
+// The same for the page.
+// Kept: beside `read`: docs/PROMISES.md names both.
 pub fn read_for_page(book: &[u8]) -> Result<Book, Refusal>
     ensures { told_by result ≡ book_for true book.now }
 {
-    if book.len() > MOST {
-        return Err(Refusal::TooLong);
-    }
-    read_lines(book, true)
+    let mut b = no_book();
+    read_into(book, true, &mut b)?;
+    Ok(b)
 }

@@ -12,6 +12,17 @@ ghost use Rattle.gate.specs.Inner.Long.{due_length, long_fault};
 
 use sizes::Sizes;
 
+// The kinds of frames: the sizes, an edge between two crews, a rule, a starting fact and the query.
+pub const SIZES: u8 = 1;
+
+pub const EDGE: u8 = 2;
+
+pub const RULE: u8 = 3;
+
+pub const FACT: u8 = 4;
+
+pub const QUERY: u8 = 5;
+
 // What the lines so far tell: whether the sizes stand, whether the query stands, the sizes, and how many rules.
 // Kept: `headed` beside `sizes`, not an `Option`: the definitions of specs/Gate name both.
 #[derive(Clone, Copy)]
@@ -67,9 +78,9 @@ fn is_misplaced(k: Known, kind: u8) -> bool
     ensures { result ≡ misplaced k kind }
 {
     if k.headed {
-        k.asked || !sizes::is_between(2, 5, kind)
+        k.asked || !sizes::is_between(EDGE, QUERY, kind)
     } else {
-        kind != 1
+        kind != SIZES
     }
 }
 
@@ -79,12 +90,12 @@ fn due_length(x: &[u8]) -> usize
     ensures { result ≡ due_length x.now }
 {
     match lines::byte_at(x, 0) {
-        1 => 4 + lines::byte_at(x, 3) as usize,
-        2 => 3,
-        3 => 6 + 3 * lines::byte_at(x, 5) as usize,
-        4 => 5,
+        SIZES => 4 + usize::from(lines::byte_at(x, 3)),
+        EDGE => 3,
+        RULE => 6 + 3 * usize::from(lines::byte_at(x, 5)),
+        FACT => 5,
         _ => {
-            let named = 6 + 3 * lines::byte_at(x, 5) as usize;
+            let named = 6 + 3 * usize::from(lines::byte_at(x, 5));
             if sizes::is_between(2, 3, lines::byte_at(x, 1)) {
                 named + 4
             } else {
@@ -171,18 +182,10 @@ fn is_term_at(z: Sizes, x: &[u8], j: usize) -> bool
     is_term(z, kind, a, v)
 }
 
-// Kept: a `for` here and in `are_value_terms`, `are_wants` and `are_rising`, not `(0..n).all(..)`: the proof did not close, since `true` did
-// not give the test at each number. One function over the test would need its contract at each call, which is no plainer.
-#[tactic(auto, using(quantifiers::proofs::TurnLaws::all_passed))]
 fn are_terms(z: Sizes, x: &[u8], n: u8) -> bool
     ensures { result ≡ all_below (term_good_at z x.now) n }
 {
-    for j in 0..n as usize {
-        if !is_term_at(z, x, j) {
-            return false;
-        }
-    }
-    true
+    (0..n).all(|j| is_term_at(z, x, usize::from(j)))
 }
 
 #[tactic(auto, unfolding(crate::specs::Gate::rule_good))]
@@ -198,17 +201,13 @@ fn is_rule(z: Sizes, x: &[u8]) -> bool
 }
 
 // Whether each term is about a value, not about a crew.
-#[tactic(auto, using(quantifiers::proofs::TurnLaws::all_passed))]
 fn are_value_terms(x: &[u8], n: u8) -> bool
     ensures { result ≡ all_below (value_term_at x.now) n }
 {
-    for j in 0..n as usize {
-        let kind = lines::byte_at(x, 6 + 3 * j);
-        if !asks_value(kind) {
-            return false;
-        }
-    }
-    true
+    (0..n).all(|j| {
+        let kind = lines::byte_at(x, 6 + 3 * usize::from(j));
+        asks_value(kind)
+    })
 }
 
 #[tactic(auto, unfolding(crate::specs::Gate::foreign))]
@@ -262,6 +261,7 @@ fn fact_verdict(z: Sizes, x: &[u8]) -> Result<(), Fault>
     }
 }
 
+// Kept: ops, modes and the kinds of terms and facts are the numbers written, here and above: the definitions of specs/Gate judge any byte.
 fn is_want_at(z: Sizes, x: &[u8], j: usize) -> bool
     requires { j < 256 }
     ensures { result ≡ want_good_at z x.now j }
@@ -270,16 +270,10 @@ fn is_want_at(z: Sizes, x: &[u8], j: usize) -> bool
     a < z.attrs && sets::is_within(pair_at(x, 7 + 3 * j), sizes::values_of(z, a))
 }
 
-#[tactic(auto, using(quantifiers::proofs::TurnLaws::all_passed))]
 fn are_wants(z: Sizes, x: &[u8], q: u8) -> bool
     ensures { result ≡ all_below (want_good_at z x.now) q }
 {
-    for j in 0..q as usize {
-        if !is_want_at(z, x, j) {
-            return false;
-        }
-    }
-    true
+    (0..q).all(|j| is_want_at(z, x, usize::from(j)))
 }
 
 fn are_listed_crews(z: Sizes, x: &[u8]) -> bool
@@ -287,7 +281,7 @@ fn are_listed_crews(z: Sizes, x: &[u8]) -> bool
 {
     let mode = lines::byte_at(x, 1);
     let q = lines::byte_at(x, 5);
-    !sizes::is_between(2, 3, mode) || sets::is_within(quad_at(x, 6 + 3 * q as usize), z.crews)
+    !sizes::is_between(2, 3, mode) || sets::is_within(quad_at(x, 6 + 3 * usize::from(q)), z.crews)
 }
 
 #[tactic(auto, unfolding(crate::specs::Gate::query_good))]
@@ -305,16 +299,13 @@ fn is_query(z: Sizes, x: &[u8]) -> bool
 }
 
 // Whether the query's attributes rise strictly.
-#[tactic(auto, using(quantifiers::proofs::TurnLaws::all_passed))]
 fn are_rising(x: &[u8], q: u8) -> bool
     ensures { result ≡ all_below (rises_at x.now) (q - 1) }
 {
-    for j in 0..(q as usize).saturating_sub(1) {
-        if lines::byte_at(x, 9 + 3 * j) <= lines::byte_at(x, 6 + 3 * j) {
-            return false;
-        }
-    }
-    true
+    (0..q.saturating_sub(1)).all(|j| {
+        let at = 6 + 3 * usize::from(j);
+        lines::byte_at(x, at) < lines::byte_at(x, at + 3)
+    })
 }
 
 #[tactic(auto, unfolding(crate::specs::Gate::query_verdict))]
@@ -337,15 +328,15 @@ fn fields_verdict(k: Known, x: &[u8]) -> Result<(), Fault>
     ensures { result ≡ fields_verdict k x.now }
 {
     match lines::byte_at(x, 0) {
-        1 => sizes_verdict(x),
-        2 => edge_verdict(k.sizes, x),
-        3 => rule_verdict(k, x),
-        4 => fact_verdict(k.sizes, x),
+        SIZES => sizes_verdict(x),
+        EDGE => edge_verdict(k.sizes, x),
+        RULE => rule_verdict(k, x),
+        FACT => fact_verdict(k.sizes, x),
         _ => query_verdict(k.sizes, x),
     }
 }
 
-// The lowest of 3-9 that falls on a frame, or Good.
+// The lowest of 3-9 that falls on a frame, or none.
 #[tactic(auto, unfolding(crate::specs::Gate::verdict))]
 pub fn judge_frame(k: Known, x: &[u8]) -> Result<(), Fault>
     ensures { result ≡ verdict k x.now }

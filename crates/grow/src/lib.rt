@@ -1,6 +1,6 @@
-// The planner of books that only grow, for the facts of one person: which facts are needed, and in which order they can be added. A rule adds the fact
-// `f` where `us[f]`, and asks what the eight terms `ts[8 * f..]` say: below 160 that this fact is there, below 320 that the fact 160 lower is lacking,
-// else nothing.
+// The planner of books that only grow, for the facts of one person: which facts are needed, and in which order they can be added. A rule adds
+// the fact `f` where `us[f]`, and asks what the eight terms `ts[8 * f..]` say: below 160 that this fact is there, below 320 that the fact 160
+// lower is lacking, else nothing.
 
 #![tactic(auto)]
 
@@ -14,6 +14,9 @@ use widths::{IDLE_AT, LEVEL_SIZE, TERMS_SIZE};
 // ---------------------------------------------------------------- what is needed
 
 // Whether term `i` asks for a fact that is not in `d`, for a fact of `d` that is not in `s`.
+// Kept: here and below the tables and the flags as slices, whose lengths clauses say, and no struct: `grow`, which docs/PROMISES.md names, is lent
+// them so, and of the flags it changes two; a term stays a
+// number, as `says` of specs/Inner/Tables reads it.
 fn asks_new(ts: &[u16], s: &[bool], d: &[bool], i: usize) -> bool
     requires { (i < terms_size) × ((length ts.now ≡ terms_size) × ((length s.now ≡ level_size) × (length d.now ≡ level_size))) }
     ensures { result ≡ new_at ts.now s.now d.now i }
@@ -59,31 +62,19 @@ fn fails(ts: &[u16], x: &[bool], i: usize) -> bool
 }
 
 // Whether some term of the rule of `f` does not hold in `x`.
-#[tactic(auto, using(quantifiers::proofs::TurnLaws::none_passed))]
 fn unmet(ts: &[u16], x: &[bool], f: usize) -> bool
     requires { (f < level_size) × ((length ts.now ≡ terms_size) × (length x.now ≡ level_size)) }
     ensures { result ≡ unmet_at ts.now x.now f }
 {
-    for j in 0..8 {
-        if fails(ts, x, 8 * f + j) {
-            return true;
-        }
-    }
-    false
+    (0..8).any(|j| fails(ts, x, 8 * f + j))
 }
 
 // Whether the rule of `f` has the term `k`.
-// Kept: of the shape of `unmet`: a test handed to one loop is no plainer than four lines.
 fn has_term(ts: &[u16], f: usize, k: usize) -> bool
     requires { (f < level_size) × (length ts.now ≡ terms_size) }
     ensures { result ≡ says ts.now f k }
 {
-    for j in 0..8 {
-        if usize::from(ts[8 * f + j]) == k {
-            return true;
-        }
-    }
-    false
+    (0..8).any(|j| usize::from(ts[8 * f + j]) == k)
 }
 
 // Whether `h` is another fact than `f`, still to come, and its rule asks that `f` is lacking.
@@ -96,17 +87,11 @@ fn bars(ts: &[u16], d: &[bool], x: &[bool], f: usize, h: usize) -> bool
 }
 
 // Whether some fact does.
-#[tactic(auto, using(quantifiers::proofs::TurnLaws::none_passed))]
 fn barred(ts: &[u16], d: &[bool], x: &[bool], f: usize) -> bool
     requires { (f < level_size) × ((length ts.now ≡ terms_size) × ((length d.now ≡ level_size) × (length x.now ≡ level_size))) }
     ensures { result ≡ any_below (bars_at ts.now d.now x.now f) level_size }
 {
-    for h in 0..LEVEL_SIZE {
-        if bars(ts, d, x, f, h) {
-            return true;
-        }
-    }
-    false
+    (0..LEVEL_SIZE).any(|h| bars(ts, d, x, f, h))
 }
 
 // Whether the fact `f` is still to come, may be added, and no other still to come asks that it is lacking.
@@ -142,8 +127,8 @@ fn add_all(us: &[bool], ts: &[u16], d: &[bool], x: &mut [bool], order: &mut [u8]
 
 // ---------------------------------------------------------------- the answer
 
-// From the facts `x` a way to the facts `w`: its additions in the front of `order`, and how many; or `None`, where there is none. In the end `w` has all facts that are needed,
-// and `x` those that were reached.
+// From the facts `x` a way to the facts `w`: its additions in the front of `order`, and how many; or `None`, where there is none. In the end
+// `w` has all facts that are needed, and `x` those that were reached.
 pub fn grow(
     us: &[bool],
     ts: &[u16],

@@ -11,6 +11,7 @@ ghost use Rattle.inherit.specs.Inner.Search.{sought, junior_passes, Tried, Leave
 use facts::{Attr, Crew, Fact, Person};
 
 // What is looked for at a crew and below it: a value that it directly holds, that value or a higher one, or the crew named.
+// Kept: an enum and no closure: it goes down a recursion of two functions, whose contracts say `sought` of it (specs/Inner/Search).
 #[derive(Clone, Copy)]
 pub enum Sought {
     Value(Attr, u8),
@@ -31,7 +32,7 @@ fn is_sought(ledger: &[u8], c: u8, w: Sought) -> bool
 }
 
 // Kept: the juniors as a slice whose length a clause says, here and in every function that takes them, not as `&[u32; 32]`: the functions
-// that docs/ name (`person_holds`, `rules::first_permitting` and others) ask no more of a caller than before.
+// that docs/ name (`person_holds`, `rules::first_permitting` and others) ask no more of a caller than before; so no struct of ledger and juniors.
 // Looks at crew c and below it. `None` where what is looked for is found there, which ends the search; else the set of crews tried so far:
 // neither they nor crews below them are what is looked for.
 #[cycle(crew_tried_juniors_tried)]
@@ -57,7 +58,7 @@ fn juniors_tried(ledger: &[u8], juniors: &[u32], c: u8, w: Sought, seen: u32) ->
 {
     let mut tried = seen;
     for j in 0..c {
-        let direct = sets::has(juniors[c as usize], j);
+        let direct = sets::has(juniors[usize::from(c)], j);
         if direct && !sets::has(tried, j) {
             tried = crew_tried(ledger, juniors, j, w, tried)?;
         }
@@ -92,7 +93,8 @@ pub fn crew_holds(ledger: &[u8], juniors: &[u32], c: Crew, a: Attr, v: u8) -> bo
 }
 
 // Whether crew c effectively holds value v of attribute a or a higher one: one search for all of them.
-// Kept: of one shape with `crew_holds`, as `person_holds_at_least` with `person_holds`; other crates call all four by name.
+// Kept: beside `crew_holds`, as `person_holds_at_least` beside `person_holds`: docs/PROMISES.md names them, and each is one call of what they
+// share (`crew_tried`, `person_reaches` over `Sought`).
 #[tactic(auto, using(crate::proofs::InheritanceLaws::tried_none))]
 pub fn crew_holds_at_least(ledger: &[u8], juniors: &[u32], c: Crew, a: Attr, v: u8) -> bool
     requires { (c.0 < 32) × (length juniors.now ≡ 32) }

@@ -9,13 +9,14 @@ ghost use Rattle.sizes.specs.Inner.Ranges.{InRange};
 ghost use Rattle.frames.specs.Book.{listed, contents_of};
 ghost use Rattle.frames.specs.Inner.Fits.{Admitted};
 ghost use Rattle.denials.specs.Denials.{why_not};
-ghost use Rattle.ledger.specs.Ledger.{refusal_number, reply, open_in, open_reply, allowed, request_in, request_reply};
+ghost use Rattle.ledger.specs.Ledger.{refusal_number, reply, open_in, open_reply, allowed, after, request_in, request_reply};
 ghost use Rattle.ledger.specs.Show.{set_below, Tells, value_set, value_sets, show_in, show_view, view_of};
 ghost use Rattle.inherit.specs.Inheritance.{person_holds, person_in};
 
 use denials::Denial;
 use facts::{Attr, Crew, LEDGER_SIZE, Person};
 use frames::Book;
+use std::array;
 
 // The refusals 1-9, 11-13 and 15.
 #[derive(Clone, Copy)]
@@ -27,6 +28,7 @@ pub enum Refusal {
 }
 
 // A refused book is refused.
+// Kept: four such impls, one an operation: each `refusal_number` of specs/, which docs/PROMISES.md names, matches `BadBook` of its own enum.
 impl From<frames::Refusal> for Refusal {
     ghost use Rattle.std.specs.Prelude.{◌≡◌};
     ghost use Rattle.ledger.specs.declared.Refusal.TheVariants.{BadBook};
@@ -46,6 +48,7 @@ pub struct Shown {
 }
 
 // The table's number of a refusal.
+// Kept: the definition of this name, as in `frames`; a variant that has a refusal in it has no discriminant.
 pub fn refusal_number(r: Refusal) -> u8
     ensures { result ≡ refusal_number r }
 {
@@ -57,8 +60,8 @@ pub fn refusal_number(r: Refusal) -> u8
     }
 }
 
-fn open_in(b: Book, ledger: &mut [u8]) -> Result<(), Refusal>
-    ensures { reply result ledger.new ≡ open_in (contents_of b) ledger.old }
+fn open_in(b: &Book, ledger: &mut [u8]) -> Result<(), Refusal>
+    ensures { reply result ledger.new ≡ open_in (contents_of b.now) ledger.old }
 {
     if ledger.len() != LEDGER_SIZE {
         return Err(Refusal::BadLedger);
@@ -71,36 +74,41 @@ fn open_in(b: Book, ledger: &mut [u8]) -> Result<(), Refusal>
 pub fn open(book: &[u8], ledger: &mut [u8]) -> Result<(), Refusal>
     ensures { reply result ledger.new ≡ open_reply book.now ledger.old }
 {
-    open_in(frames::read(book)?, ledger)
+    let mut b = frames::no_book();
+    frames::read_into(book, false, &mut b)?;
+    open_in(&b, ledger)
 }
 
 // Whether some rule permits the request in the ledger.
-fn is_allowed(b: Book, ledger: &[u8], q: requests::Request) -> bool
-    requires { Admitted (contents_of b) }
-    ensures { result ≡ allowed (contents_of b) ledger.now q }
+// Kept: `Admitted` as a clause, here and in `replay`, `page` and `planner`, no type with a ghost field: the book is lent to be read into, so it
+// stands half read on the way, and is `no_book` beside a refusal.
+fn is_allowed(b: &Book, ledger: &[u8], q: requests::Request) -> bool
+    requires { Admitted (contents_of b.now) }
+    ensures { result ≡ allowed (contents_of b.now) ledger.now q }
 {
-    rules::first_listed(b.rules, ledger, &b.juniors, q).is_some()
+    rules::first_permitting(b.rules.listed(), ledger, &b.juniors, q).is_some()
 }
 
 // Why no rule permits the request.
-fn why_not(b: Book, ledger: &[u8], q: requests::Request) -> Denial
-    requires { Admitted (contents_of b) }
-    ensures { result ≡ why_not b.juniors (listed b.rules) (holds ledger.now) q }
+fn why_not(b: &Book, ledger: &[u8], q: requests::Request) -> Denial
+    requires { Admitted (contents_of b.now) }
+    ensures { result ≡ why_not b.now.juniors (listed b.now.rules) (holds ledger.now) q }
 {
-    denials::why_not(b.rules, ledger, &b.juniors, q)
+    denials::why_not(b.rules.listed(), ledger, &b.juniors, q)
 }
 
 // Sets or clears the one fact of a request.
-fn carry_out(ledger: &mut [u8], q: requests::Request)
-    ensures { ledger.new ≡ put_fact ledger.old q.fact (adds q.op) }
+#[tactic(auto, unfolding(crate::specs::Ledger::after))]
+pub fn carry_out(ledger: &mut [u8], q: requests::Request)
+    ensures { ledger.new ≡ after ledger.old q }
 {
     let on = requests::is_adding(q.op);
     facts::put_fact(ledger, q.fact, on);
 }
 
-fn request_in(b: Book, ledger: &mut [u8], request: &[u8]) -> Result<(), Refusal>
-    requires { Admitted (contents_of b) }
-    ensures { reply result ledger.new ≡ request_in (contents_of b) ledger.old request.now }
+fn request_in(b: &Book, ledger: &mut [u8], request: &[u8]) -> Result<(), Refusal>
+    requires { Admitted (contents_of b.now) }
+    ensures { reply result ledger.new ≡ request_in (contents_of b.now) ledger.old request.now }
 {
     let z = b.sizes;
     if !requests::is_suitable(z, ledger) {
@@ -121,7 +129,9 @@ fn request_in(b: Book, ledger: &mut [u8], request: &[u8]) -> Result<(), Refusal>
 pub fn request(book: &[u8], ledger: &mut [u8], request: &[u8]) -> Result<(), Refusal>
     ensures { reply result ledger.new ≡ request_reply book.now ledger.old request.now }
 {
-    request_in(frames::read(book)?, ledger, request)
+    let mut b = frames::no_book();
+    frames::read_into(book, false, &mut b)?;
+    request_in(&b, ledger, request)
 }
 
 // The set of the numbers below n that pass a test.
@@ -156,16 +166,12 @@ fn value_sets(z: sizes::Sizes, ledger: &[u8], juniors: &[u32], p: Person) -> [u3
     requires { InRange z × (length juniors.now ≡ 32) }
     ensures { result ≡ value_sets z juniors.now (holds ledger.now) p }
 {
-    let mut sets = [0u32; 8];
-    for a in 0..8 {
-        sets[a as usize] = value_set(z, ledger, juniors, p, a);
-    }
-    sets
+    array::from_fn(|a| value_set(z, ledger, juniors, p, a as u8))
 }
 
-fn show_in(b: Book, ledger: &[u8], p: Person) -> Result<Shown, Refusal>
-    requires { Admitted (contents_of b) }
-    ensures { view_of result ≡ show_in (contents_of b) ledger.now p }
+fn show_in(b: &Book, ledger: &[u8], p: Person) -> Result<Shown, Refusal>
+    requires { Admitted (contents_of b.now) }
+    ensures { view_of result ≡ show_in (contents_of b.now) ledger.now p }
 {
     let z = b.sizes;
     if !requests::is_suitable(z, ledger) {
@@ -174,11 +180,10 @@ fn show_in(b: Book, ledger: &[u8], p: Person) -> Result<Shown, Refusal>
     if z.persons <= p.0 {
         return Err(Refusal::BadRequest);
     }
-    let juniors = b.juniors;
-    let sets = value_sets(z, ledger, &juniors, p);
+    let sets = value_sets(z, ledger, &b.juniors, p);
     let crews = set_below(
         z.crews,
-        |c| inherit::person_in(ledger, &juniors, p, Crew(c)),
+        |c| inherit::person_in(ledger, &b.juniors, p, Crew(c)),
     );
     Ok(Shown { sets, crews })
 }
@@ -187,5 +192,7 @@ fn show_in(b: Book, ledger: &[u8], p: Person) -> Result<Shown, Refusal>
 pub fn show(book: &[u8], ledger: &[u8], p: Person) -> Result<Shown, Refusal>
     ensures { view_of result ≡ show_view book.now ledger.now p }
 {
-    show_in(frames::read(book)?, ledger, p)
+    let mut b = frames::no_book();
+    frames::read_into(book, false, &mut b)?;
+    show_in(&b, ledger, p)
 }

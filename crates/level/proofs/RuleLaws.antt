@@ -7,6 +7,7 @@ use native.Mathlib.Omega.{arith}
 use lib.Dec.{eqb, leb}
 use lib.ListN.{length, get_or}
 use lib.Seq.{get_or-take, length-take-le}
+use Rattle.std.proofs.lemmas.List.{length-take}
 use borrow.Author.Tests.{ltb-true, lt-ltb, le-ltb}
 use Rattle.gate.specs.Gate.{head_good, asks_value, asks_crew, term_good}
 use Rattle.sizes.specs.Sizes.{between, is_crew, is_value, is_crew_field}
@@ -80,7 +81,7 @@ module _ (z : Sizes) (sized : InRange z) where
       }
 
   -- The rules of an accepted book are good.
-  pub rules_good : (rs : Rules) → rs.count ≤ 512 → length rs.rules ≡ 512 → Each (λ r. rule_fits z r ≡ true) (listed rs) → Each Short (listed rs)
+  pub rules_good : (rs : Rules) → rs.count ≤ 512 → rs.count ≤ length rs.rules → Each (λ r. rule_fits z r ≡ true) (listed rs) → Each Short (listed rs)
       → GoodRules rs
   unfolding listed rule_at
   rules_good rs few room fit short =
@@ -102,6 +103,8 @@ module _ {rules : List Rule} (rs : Rules) (same : rules ≡ listed rs) where
   listed-length few room = rw same (length-take-le rs.count rs.rules (omega arith))
 
 -- So the list by value of an accepted book is good.
-pub book_good : (bk : Book) → Admitted (contents_of bk) → length bk.rules.rules ≡ 512 → GoodRules bk.rules
-unfolding contents_of
-book_good bk ok room = rules_good bk.sizes ok.sized bk.rules ok.rules_few room ok.rules_in ok.rules_short
+pub book_good : (bk : Book) → Admitted (contents_of bk) → GoodRules bk.rules
+unfolding contents_of listed
+book_good bk ok =
+    let fits : bk.rules.count ≤ length bk.rules.rules = omega (arith, ok.rules_counted, length-take bk.rules.count bk.rules.rules) in
+    rules_good bk.sizes ok.sized bk.rules ok.rules_few fits ok.rules_in ok.rules_short

@@ -22,7 +22,8 @@ use Rattle.level.specs.Inner.Sweep.{Ready, Closed}
 use Rattle.level.specs.Inner.BackSweep.{ReadyBack, ClosedBack}
 use Rattle.build.specs.Inner.Build.{Built, Stripped, Copied, Lacks}
 use Rattle.build.proofs.BuildLaws.{not_lacking}
-use Rattle.level.specs.Inner.Settle.{Result, Rounded, Rounds, Settled, Lengths, Stuck, again, none_yet}
+use Rattle.level.specs.declared.Draft.{Draft}
+use Rattle.level.specs.Inner.Settle.{SameBuffers, SameDraft, Result, Rounded, Rounds, Settled, Lengths, Stuck, again, none_yet}
 
 -- The starting facts' flags, copied, are ready for the additions.
 pub ready : {T bad s u x₀ x y d : List Bool} {start : ℕ} {up : List ℕ} {end : ℕ} {down : List ℕ} → Lengths T bad s u x₀ y d start up end down
@@ -173,3 +174,15 @@ result_found r = record { found = λ _. r; none = λ e. absurd (true≢false e) 
 pub result_none : {adds dels : Moves} {p : ℕ} {T bad s u₀ : List Bool} (x : List Bool) (start : ℕ) (up₀ up : List ℕ) (n end : ℕ) (down₀ down : List ℕ) (at : ℕ)
     → Stuck adds dels p T bad s u₀ → Result adds dels p T bad s u₀ x start up₀ up end down₀ down false n at
 result_none x start up₀ up n end down₀ down at r = record { found = λ e. absurd (true≢false (sym e)); none = λ _. r }
+
+-- The buffers are the same over two calls, and so is the plan.
+pub buffers_on : {a b c : Draft} → SameBuffers a b → SameBuffers b c → SameBuffers a c
+buffers_on s t =
+    record { up = t.up ∙ s.up; down = t.down ∙ s.down; length_up = t.length_up ∙ s.length_up; length_down = t.length_down ∙ s.length_down }
+
+pub draft_on : {a b c : Draft} → SameDraft a b → SameDraft b c → SameDraft a c
+draft_on s t = record { buffers = buffers_on s.buffers t.buffers; ends = t.ends ∙ s.ends }
+
+-- No call has been made.
+pub draft_first : {a : Draft} → SameDraft a a
+draft_first = record { buffers = record { up = refl; down = refl; length_up = refl; length_down = refl }; ends = refl }

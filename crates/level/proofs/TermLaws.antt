@@ -6,12 +6,10 @@ use mathlib.Core.List.{List, [], ◌∷◌}
 use Prim.Native.Nat.{ℕ, zero, suc, ◌+◌, ◌-◌, ◌*◌, ◌≤◌, ◌<◌}
 use native.Mathlib.Decide.{dec_lt, ℕ_discrete}
 use native.Mathlib.Omega.{arith}
-use lib.ListN.{length, get_or, take, set, length-set}
-use lib.Seq.{get_or-set_same, get_or-set_other}
+use lib.ListN.{length, get_or, take}
 use borrow.Author.Tests.{lt-ltb, le-ltb, eq-eqb, ne_eqb}
 use Rattle.widths.specs.Inner.Widths.{level_size}
 use Rattle.theory.specs.Inner.Facts.{State, ◌⊆◌}
-use Rattle.theory.proofs.FactLaws.{at}
 use Rattle.gate.proofs.TermKindLaws.{no_value_kind}
 use Rattle.shown.specs.Inner.Shown.{visible, visible_fact}
 use Rattle.shown.proofs.ExtendedLaws.{extended_at, extended_low}

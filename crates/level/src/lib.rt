@@ -1,4 +1,7 @@
-// One level of the planner: the facts of one crew, or of the query's person, the moves that rules permit on them, and the rounds that settle the level.
+// One level of the planner: the facts of one crew, or of the query's person, the moves that rules permit on them, and the rounds that settle
+// the level.
+// Kept: kinds, ops and places are numbers, as in `frames::Term`; the lengths of flags stand in clauses, here and in the planner's other crates,
+// since the functions that docs/PROMISES.md names are lent slices.
 
 #![tactic(auto)]
 
@@ -9,12 +12,12 @@ ghost use Rattle.level.specs.Inner.Terms.{code_of, GoodRule, MoveOf};
 ghost use Rattle.level.specs.Inner.Notes.{Noted};
 ghost use Rattle.level.specs.Inner.Sweep.{fires_in, Next, TurnAt, Ready, Closed};
 ghost use Rattle.level.specs.Inner.BackSweep.{backs_in, ReadyBack, ClosedBack};
-ghost use Rattle.level.specs.Inner.Settle.{RoundReady, Rounded, Result, found_of, ups_of, at_of};
+ghost use Rattle.level.specs.Inner.Settle.{none_fired, new_work, SameDraft, RoundReady, Rounded, Result, found_of, ups_of, at_of};
 ghost use Rattle.widths.specs.Inner.Widths.{level_size, flags_size, table_size, moves_size, move_size};
 ghost use Rattle.quantifiers.specs.Quantifiers.{all};
 
 use frames::Rule;
-use widths::{HIGHER_AT, LEVEL_SIZE, MOVE_SIZE, VALUES_SIZE};
+use widths::{FLAGS_SIZE, HIGHER_AT, LEVEL_SIZE, MOVE_SIZE, VALUES_SIZE};
 
 // A rule as a move: the fact that it adds or deletes, the bytes of its request, and the places of its terms.
 #[derive(Clone, Copy)]
@@ -59,9 +62,9 @@ pub fn aim(op: u8, a: u8, v: u8) -> usize
 }
 
 // The move of a rule.
-pub fn move_of(r: Rule) -> Move
-    requires { GoodRule r }
-    ensures { MoveOf r result }
+pub fn move_of(r: &Rule) -> Move
+    requires { GoodRule r.now }
+    ensures { MoveOf r.now result }
 {
     let mut terms = [0; 8];
     for j in 0..r.n as usize {
@@ -80,7 +83,8 @@ pub fn move_of(r: Rule) -> Move
 }
 
 // A move as 14 numbers.
-// Kept: a move as 14 numbers of a flat list, which `moves_in` and `move_from` of specs/Inner/Moves read; as records 512 moves would take 20 KB for 14.
+// Kept: a move as 14 numbers of a flat list, as `moves_in` and `move_from` of specs/Inner/Moves read it, and as the functions that
+// docs/PROMISES.md names are lent it.
 fn numbers_of(m: Move) -> [u16; MOVE_SIZE]
     requires { Fine m }
     ensures { Numbers m result }
@@ -121,8 +125,8 @@ pub fn move_at(ms: &[u16], i: usize) -> Move
 
 // Whether the rule has one of two ops and one of the roles.
 #[tactic(auto, unfolding(crate::specs::Inner::Chosen::chosen_in))]
-pub fn chosen(r: Rule, one: u8, two: u8, roles: u32) -> bool
-    ensures { result ≡ chosen_in one two roles r }
+pub fn chosen(r: &Rule, one: u8, two: u8, roles: u32) -> bool
+    ensures { result ≡ chosen_in one two roles r.now }
 {
     (r.op == one || r.op == two) && sets::has(roles, r.role.0)
 }
@@ -197,74 +201,84 @@ pub struct Turn {
 
 // Where the sweep goes on: at the move that the next name gives, none quiet before it; or, when no name is left, where it stands.
 // A name that no move has ends the names.
-fn turn_at(names: &[u16], tried: usize, i: usize, quiet: usize, count: usize) -> Turn
-    requires { (length names.now ≡ level_size) × ((tried ≤ level_size) × (i < count)) }
-    ensures { TurnAt count tried i quiet result.tried result.i result.quiet }
+fn turn_at(names: &[u16], turn: Turn, count: usize) -> Turn
+    requires { (length names.now ≡ level_size) × ((turn.tried ≤ level_size) × (turn.i < count)) }
+    ensures { TurnAt count turn.tried turn.i turn.quiet result.tried result.i result.quiet }
 {
-    if tried == LEVEL_SIZE {
-        return Turn { tried, i, quiet };
-    }
-    let k = names[tried] as usize;
+    let Some(name) = names.get(turn.tried) else {
+        return turn;
+    };
+    let k = usize::from(*name);
     if k < count {
         Turn {
-            tried: tried + 1,
+            tried: turn.tried + 1,
             i: k,
             quiet: 0,
         }
     } else {
         Turn {
             tried: LEVEL_SIZE,
-            i,
-            quiet,
+            ..turn
         }
     }
 }
 
-// Adds to `x` what the moves can add within `allowed`, until nothing is left, and notes each request in `out` from request `start` on. Returns how many.
-// `added` has the numbers of the moves that fired last time, in their order (512: none). They are tried first, as most fire again, and those that fire
-// now are written over the front; what stands behind them stays, for a later level that goes further. A wrong name costs one trial and no more.
+// The turn before the first.
+const FIRST: Turn = Turn {
+    tried: 0,
+    i: 0,
+    quiet: 0,
+};
+
+// What a sweep goes over: the moves of one side as a flat list of numbers, the subject that their requests name, and the table of what its
+// facts show.
+// Kept: here, in `Level` and `Draft` and in `search::Parts` plain structs, with clauses on their fields: `Closed`, `RoundReady` and `ScannedOf`
+// speak of the fields one by one, and keep their meaning (docs/DECISIONS.md, 119).
+#[derive(Clone, Copy)]
+pub struct Sweep<'a> {
+    pub moves: &'a [u16],
+    pub subject: u8,
+    pub table: &'a [bool],
+}
+
+// Adds to `x` what the moves can add within `allowed`, until nothing is left, and notes each request in `out` from request `start` on. Returns
+// how many. `added` has the numbers of the moves that fired last time, in their order (512: none). They are tried first, as most fire again, and
+// those that fire now are written over the front; what stands behind them stays, for a later level that goes further. A wrong name costs one
+// trial and no more.
 // Kept: beside `back`, as `fires` beside `backs`: the test, the side that the requests are written from and the promise differ (`Closed`,
 // `ClosedBack`), and one function with all of that as parameters would be no plainer.
 // Kept: 512 for "no move" in `added` and `deleted`, not an `Option`: `turn_at` asks only whether a number is below the count, which covers it.
 pub fn close(
-    adds: &[u16],
+    sweep: &Sweep,
     added: &mut [u16],
-    subject: u8,
-    table: &[bool],
     allowed: &[bool],
     x: &mut [bool],
     start: usize,
     out: &mut [u8],
 ) -> usize
-    requires sound { Sound (moves_in adds.now) }
-    requires ready { Ready table.now allowed.now x.old (length out.old) start }
+    requires sound { Sound (moves_in sweep.now.moves.now) }
+    requires ready { Ready sweep.now.table.now allowed.now x.old (length out.old) start }
     requires added_len { length added.old ≡ level_size }
-    ensures { Closed (moves_in adds.now) subject table.now allowed.now x.old x.new start
-        out.old out.new result }
+    ensures { Closed (moves_in sweep.now.moves.now) sweep.now.subject sweep.now.table.now allowed.now
+        x.old x.new start out.old out.new result }
 {
-    let count = adds.len() / MOVE_SIZE;
+    let count = sweep.moves.len() / MOVE_SIZE;
     let mut n: usize = 0;
-    let mut quiet: usize = 0;
-    let mut i: usize = 0;
-    let mut tried: usize = 0;
-    // Kept: no loop over an index. A turn may set `i` back, and what it adds makes the count of quiet moves begin anew.
-    while quiet < count {
-        let t = turn_at(added, tried, i, quiet, count);
-        tried = t.tried;
-        i = t.i;
-        quiet = t.quiet;
-        if fires(adds, i, allowed, x) {
-            let m = move_at(adds, i);
-            build::put_whole(table, m.fact, x);
-            note(m, subject, start + n, out);
-            added[n] = i as u16;
+    let mut turn = FIRST;
+    // Kept: no loop over an index. A turn may set `turn.i` back, and what it adds makes the count of quiet moves begin anew.
+    while turn.quiet < count {
+        turn = turn_at(added, turn, count);
+        if fires(sweep.moves, turn.i, allowed, x) {
+            let m = move_at(sweep.moves, turn.i);
+            build::put_whole(sweep.table, m.fact, x);
+            note(m, sweep.subject, start + n, out);
+            added[n] = turn.i as u16;
             n += 1;
-            quiet = 0;
-            i = next(i, count);
+            turn.quiet = 0;
         } else {
-            quiet += 1;
-            i = next(i, count);
+            turn.quiet += 1;
         }
+        turn.i = next(turn.i, count);
     }
     n
 }
@@ -292,47 +306,39 @@ pub fn backs(ms: &[u16], i: usize, table: &[bool], x: &[bool], y: &[bool]) -> bo
 
 // Puts back into `y` what of `x` the moves can delete, until nothing is left, and notes each request in `out`, downwards from request `end`. Returns
 // where the notes begin.
-// `deleted` has the numbers of the moves that were put back last time, as `added` has for `close`.
+// `deleted` has the numbers of the moves whose facts were put back last time, as `added` has for `close`.
 pub fn back(
-    dels: &[u16],
+    sweep: &Sweep,
     deleted: &mut [u16],
-    subject: u8,
-    table: &[bool],
     bad: &[bool],
     x: &[bool],
     y: &mut [bool],
     end: usize,
     out: &mut [u8],
 ) -> usize
-    requires sound { Sound (moves_in dels.now) }
-    requires ready_back { ReadyBack table.now bad.now x.now y.old (length out.old) end }
+    requires sound { Sound (moves_in sweep.now.moves.now) }
+    requires ready_back { ReadyBack sweep.now.table.now bad.now x.now y.old (length out.old) end }
     requires deleted_len { length deleted.old ≡ level_size }
-    ensures { ClosedBack (moves_in dels.now) subject table.now bad.now x.now y.new end
-        out.old out.new result }
+    ensures { ClosedBack (moves_in sweep.now.moves.now) sweep.now.subject sweep.now.table.now bad.now
+        x.now y.new end out.old out.new result }
 {
-    let count = dels.len() / MOVE_SIZE;
+    let count = sweep.moves.len() / MOVE_SIZE;
     let mut at = end;
-    let mut quiet: usize = 0;
-    let mut i: usize = 0;
-    let mut tried: usize = 0;
-    // Kept: no loop over an index. A turn may set `i` back, and what it adds makes the count of quiet moves begin anew.
-    while quiet < count {
-        let t = turn_at(deleted, tried, i, quiet, count);
-        tried = t.tried;
-        i = t.i;
-        quiet = t.quiet;
-        if backs(dels, i, table, x, y) {
-            let m = move_at(dels, i);
-            build::put_whole(table, m.fact, y);
-            deleted[end - at] = i as u16;
+    let mut turn = FIRST;
+    // Kept: no loop over an index. A turn may set `turn.i` back, and what it puts back makes the count of quiet moves begin anew.
+    while turn.quiet < count {
+        turn = turn_at(deleted, turn, count);
+        if backs(sweep.moves, turn.i, sweep.table, x, y) {
+            let m = move_at(sweep.moves, turn.i);
+            build::put_whole(sweep.table, m.fact, y);
+            deleted[end - at] = turn.i as u16;
             at -= 1;
-            note(m, subject, at, out);
-            quiet = 0;
-            i = next(i, count);
+            note(m, sweep.subject, at, out);
+            turn.quiet = 0;
         } else {
-            quiet += 1;
-            i = next(i, count);
+            turn.quiet += 1;
         }
+        turn.i = next(turn.i, count);
     }
     at
 }
@@ -346,77 +352,146 @@ pub struct Ends {
     pub at: usize,
 }
 
+// The moves of the two sides of a level, additions and deletions, each as a flat list of numbers.
+#[derive(Clone, Copy)]
+pub struct Sides<'a> {
+    pub adds: &'a [u16],
+    pub dels: &'a [u16],
+}
+
+// A level: its moves, its subject, the table of what its facts show, its forbidden facts, and the flags of its starting facts (`s`).
+#[derive(Clone, Copy)]
+pub struct Level<'a> {
+    pub sides: Sides<'a>,
+    pub subject: u8,
+    pub table: &'a [bool],
+    pub bad: &'a [bool],
+    pub s: &'a [bool],
+}
+
+// Which moves fired last, in their order, by their numbers (512: none): those that added a fact, and those whose facts were put back.
+#[derive(Drop)]
+pub struct Fired {
+    pub added: [u16; LEVEL_SIZE],
+    pub deleted: [u16; LEVEL_SIZE],
+}
+
+impl Fired {
+    // None yet.
+    pub fn new() -> Fired
+        ensures { result ≡ none_fired }
+    {
+        Fired {
+            added: [512; LEVEL_SIZE],
+            deleted: [512; LEVEL_SIZE],
+        }
+    }
+}
+
+// What the rounds of a level work on: the facts that are allowed (`u`), the flags of what was put in (`x`) and of what of it is put back (`y`),
+// and the facts that are left of it without the forbidden ones (`d`).
+#[derive(Drop)]
+pub struct Work {
+    pub u: [bool; LEVEL_SIZE],
+    pub x: [bool; FLAGS_SIZE],
+    pub y: [bool; FLAGS_SIZE],
+    pub d: [bool; LEVEL_SIZE],
+}
+
+impl Work {
+    // Before the first round: leave to add every fact, and nothing else.
+    pub fn new() -> Work
+        ensures { result ≡ new_work }
+    {
+        Work {
+            u: [true; LEVEL_SIZE],
+            x: [false; FLAGS_SIZE],
+            y: [false; FLAGS_SIZE],
+            d: [false; LEVEL_SIZE],
+        }
+    }
+}
+
+// The plan drawn so far, and room to draw on: its first `ends.ups` additions stand in `up`, its deletions in `down` from request `ends.at` on.
+#[derive(Drop)]
+pub struct Draft<'a> {
+    pub ends: Ends,
+    pub up: &'a mut [u8],
+    pub down: &'a mut [u8],
+}
+
 // One round: what can be added within `u` to the flags `s` of the starting facts, to `x`, and what of that can be put back, to `y`.
-pub fn round(
-    adds: &[u16],
-    dels: &[u16],
-    added: &mut [u16],
-    deleted: &mut [u16],
-    subject: u8,
-    table: &[bool],
-    bad: &[bool],
-    s: &[bool],
-    u: &[bool],
-    x: &mut [bool],
-    y: &mut [bool],
-    d: &mut [bool],
-    start: usize,
-    up: &mut [u8],
-    end: usize,
-    down: &mut [u8],
-) -> Ends
-    requires { RoundReady (moves_in adds.now) (moves_in dels.now) added.old deleted.old table.now bad.now s.now u.now x.old y.old
-        d.old start up.old end down.old }
-    ensures { Rounded (moves_in adds.now) (moves_in dels.now) subject table.now bad.now
-        s.now u.now x.new y.new d.new start up.old up.new result.ups end
-        down.old down.new result.at }
+// The requests are written behind the additions of the plan drawn so far, and before its deletions.
+pub fn round(level: &Level, fired: &mut Fired, work: &mut Work, draft: &mut Draft) -> Ends
+    requires { RoundReady (moves_in level.now.sides.adds.now) (moves_in level.now.sides.dels.now)
+        fired.old.added fired.old.deleted level.now.table.now level.now.bad.now level.now.s.now
+        work.old.u work.old.x work.old.y work.old.d draft.old.ends.ups draft.old.up.now
+        draft.old.ends.at draft.old.down.now }
+    ensures rounded { Rounded (moves_in level.now.sides.adds.now) (moves_in level.now.sides.dels.now)
+        level.now.subject level.now.table.now level.now.bad.now level.now.s.now
+        work.old.u work.new.x work.new.y work.new.d draft.old.ends.ups draft.old.up.now draft.new.up.now
+        result.ups draft.old.ends.at draft.old.down.now draft.new.down.now result.at }
+    ensures allowed { work.new.u ≡ work.old.u }
+    ensures names { (length fired.new.added ≡ level_size) × (length fired.new.deleted ≡ level_size) }
+    ensures lent { SameDraft draft.old draft.new }
 {
-    x.copy_from_slice(s);
-    let ups = close(adds, added, subject, table, u, x, start, up);
-    build::strip(x, bad, d);
-    build::build_rest(table, x, bad, d, y);
-    let at = back(dels, deleted, subject, table, bad, x, y, end, down);
+    work.x.copy_from_slice(level.s);
+    let adding = Sweep {
+        moves: level.sides.adds,
+        subject: level.subject,
+        table: level.table,
+    };
+    let ups = close(
+        &adding,
+        &mut fired.added,
+        &work.u,
+        &mut work.x,
+        draft.ends.ups,
+        draft.up,
+    );
+    build::strip(&work.x, level.bad, &mut work.d);
+    build::build_rest(level.table, &work.x, level.bad, &work.d, &mut work.y);
+    let deleting = Sweep {
+        moves: level.sides.dels,
+        ..adding
+    };
+    let at = back(
+        &deleting,
+        &mut fired.deleted,
+        level.bad,
+        &work.x,
+        &mut work.y,
+        draft.ends.at,
+        draft.down,
+    );
     Ends { ups, at }
 }
 
-// The level: rounds until what was put in can all be put back, or a starting fact is lost; then `None`. `s` has the flags of the starting facts, `u` is what is
-// allowed at first; `y` and `d` are room to work in.
-// `added` and `deleted` name the moves to try first, and in the end those of the last round.
-pub fn settle(
-    adds: &[u16],
-    dels: &[u16],
-    added: &mut [u16],
-    deleted: &mut [u16],
-    subject: u8,
-    table: &[bool],
-    bad: &[bool],
-    s: &[bool],
-    u: &mut [bool],
-    x: &mut [bool],
-    y: &mut [bool],
-    d: &mut [bool],
-    start: usize,
-    up: &mut [u8],
-    end: usize,
-    down: &mut [u8],
-) -> Option<Ends>
-    requires { RoundReady (moves_in adds.now) (moves_in dels.now) added.old deleted.old table.now bad.now s.now u.old x.old y.old
-        d.old start up.old end down.old }
-    ensures { Result (moves_in adds.now) (moves_in dels.now) subject table.now bad.now
-        s.now u.old x.new start up.old up.new end down.old down.new
-        (found_of result) (ups_of result) (at_of result) }
+// The level: rounds until what was put in can all be put back, or a starting fact is lost; then `None`. `work.u` is what is allowed at first.
+// `fired` names the moves to try first, and in the end those of the last round.
+pub fn settle(level: &Level, fired: &mut Fired, work: &mut Work, draft: &mut Draft) -> Option<Ends>
+    requires { RoundReady (moves_in level.now.sides.adds.now) (moves_in level.now.sides.dels.now)
+        fired.old.added fired.old.deleted level.now.table.now level.now.bad.now level.now.s.now
+        work.old.u work.old.x work.old.y work.old.d draft.old.ends.ups draft.old.up.now
+        draft.old.ends.at draft.old.down.now }
+    ensures result { Result (moves_in level.now.sides.adds.now) (moves_in level.now.sides.dels.now)
+        level.now.subject level.now.table.now level.now.bad.now level.now.s.now
+        work.old.u work.new.x draft.old.ends.ups draft.old.up.now draft.new.up.now
+        draft.old.ends.at draft.old.down.now draft.new.down.now (found_of result) (ups_of result) (at_of result) }
+    ensures names { (length fired.new.added ≡ level_size) × (length fired.new.deleted ≡ level_size) }
+    ensures sizes { (length work.new.u ≡ level_size) ×
+        ((length work.new.x ≡ flags_size) × ((length work.new.y ≡ flags_size) × (length work.new.d ≡ level_size))) }
+    ensures lent { SameDraft draft.old draft.new }
 {
     // Kept: a round ends by what it finds, so this is no loop over a range.
     loop {
-        let e = round(
-            adds, dels, added, deleted, subject, table, bad, s, u, x, y, d, start, up, end, down,
-        );
-        if build::lacks(x, y).is_none() {
+        let e = round(level, fired, work, draft);
+        if build::lacks(&work.x, &work.y).is_none() {
             return Some(e);
         }
-        if build::lacks(s, y).is_some() {
+        if build::lacks(level.s, &work.y).is_some() {
             return None;
         }
-        build::keep(y, u);
+        build::keep(&work.y, &mut work.u);
     }
 }

@@ -48,8 +48,8 @@ pub fn fill_digits(table: &mut [u8; 256])
     requires { length table.old ≡ 256 }
     ensures { Tabled table.new }
 {
-    for (c, value) in table.iter_mut().enumerate() {
-        *value = digit_of(c as u8);
+    for c in 0..=255 {
+        table[usize::from(c)] = digit_of(c);
     }
 }
 
@@ -60,9 +60,9 @@ pub fn fill_characters(table: &mut [u8; 16])
     ensures { Encodings table.new }
 {
     for c in b'0'..=b'F' {
-        let v = digit_of(c) as usize;
+        let v = digit_of(c);
         if v < 16 {
-            table[v] = c;
+            table[usize::from(v)] = c;
         }
     }
 }

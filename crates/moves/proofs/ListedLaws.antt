@@ -17,7 +17,6 @@ use Rattle.level.specs.Inner.Chosen.{chosen_in, rule_at, GoodRules, MovesOf, Mov
 use Rattle.level.specs.declared.Move.{Move}
 use Rattle.level.proofs.MoveLaws.{move_same}
 use Rattle.level.proofs.ChosenLaws.{moves_more, moves_skip, chosen_none}
-use Rattle.frames.specs.Book.{no_rule}
 use Rattle.frames.specs.declared.Rule.{Rule}
 use Rattle.frames.specs.declared.Rules.{Rules}
 use Rattle.moves.specs.Inner.Listed.{of_list, is_chosen, chosen_count, RoomFrom, Taken, moves_from, Gathered, part_of, Prepared}

@@ -1,4 +1,4 @@
-// The moves of one side of a level, out of the accepted rules as a lent slice.
+// The moves of the sides of the levels, out of the accepted rules as a lent slice.
 
 #![tactic(auto)]
 
@@ -12,9 +12,9 @@ use frames::{Rule, Rules};
 use widths::MOVE_SIZE;
 
 // The move of a rule, where it is chosen, is written as move `k`. Returns how many moves there are then.
-fn gather(r: Rule, one: u8, two: u8, roles: u32, k: usize, ms: &mut [u16]) -> usize
-    requires { GoodRule r × ((chosen_in one two roles r ≡ true → k < 512) × (length ms.old ≡ moves_size)) }
-    ensures { Taken one two roles r k ms.old result ms.new }
+fn gather(r: &Rule, one: u8, two: u8, roles: u32, k: usize, ms: &mut [u16]) -> usize
+    requires { GoodRule r.now × ((chosen_in one two roles r.now ≡ true → k < 512) × (length ms.old ≡ moves_size)) }
+    ensures { Taken one two roles r.now k ms.old result ms.new }
 {
     if level::chosen(r, one, two, roles) {
         level::put_move(level::move_of(r), k, ms);
@@ -32,7 +32,7 @@ fn moves_of(rules: &[Rule], one: u8, two: u8, roles: u32, from: usize, ms: &mut 
 {
     let mut k = from;
     for r in rules {
-        k = gather(*r, one, two, roles, k, ms);
+        k = gather(r, one, two, roles, k, ms);
     }
     k
 }
@@ -48,6 +48,7 @@ pub struct Counts {
 }
 
 // The moves of each side, out of the buffer that has them all.
+// Kept: a method a side: which ends cut it is all that each says.
 impl Counts {
     pub fn gains_in(self, ms: &[u16]) -> &[u16]
         requires { Sided self ms.now }
@@ -78,13 +79,17 @@ impl Counts {
     }
 }
 
-// The moves of all four sides, one behind the other: a rule has one op, so 512 rules give at most 512 moves in all. The front of the
-// list by value is lent once, to each side in turn.
-pub fn moves_listed(rs: Rules, roles: u32, ms: &mut [u16]) -> Counts
-    requires { GoodRules rs × (length ms.old ≡ moves_size) }
-    ensures { Prepared rs roles result ms.new }
+// The moves of all four sides, one behind the other: a rule has one op, so 512 rules give at most 512 moves in all. The
+// list is lent once, to each side in turn.
+pub fn moves_listed(rs: &Rules, roles: u32, ms: &mut [u16]) -> Counts
+    requires { GoodRules rs.now × (length ms.old ≡ moves_size) }
+    ensures sides { Prepared rs.now roles result ms.new }
+    ensures room { length rs.now.rules ≡ 512 }
 {
-    let rules = &rs.rules[..rs.count];
+    // Kept: not `rs.listed()`: of an array of records behind a reference the length is known only where it is lent whole, and callers need `room`.
+    let whole: &[Rule] = &rs.rules;
+    let rules = &whole[..rs.count];
+    // By their ops: 03; 04; 01 and 05; 02 and 06.
     let gains = moves_of(rules, 3, 3, roles, 0, ms);
     let losses = moves_of(rules, 4, 4, roles, gains, ms);
     let adds = moves_of(rules, 1, 5, roles, losses, ms);

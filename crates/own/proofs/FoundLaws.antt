@@ -58,7 +58,7 @@ fresh_tables =
 module _ (bk : Book) (ok : Admitted (contents_of bk)) (room : length bk.rules.rules ≡ 512) where
   -- The moves that add to a person.
   pub own_moves : {roles : ℕ} {xs : List ℕ} → MovesOf bk.rules 1 5 roles (moves_in xs) bk.rules.count → OwnMoves bk.rules roles (moves_in xs)
-  own_moves moves = record { room = room; moves = moves; sound = moves_sound (book_good bk ok room) moves }
+  own_moves moves = record { room = room; moves = moves; sound = moves_sound (book_good bk ok) moves }
 
 -- ---------------------------------------------------------------- what it comes to
 

@@ -16,9 +16,10 @@ ghost use Rattle.own.specs.Inner.Requests.{requests_of, Ready};
 ghost use Rattle.grow.specs.Inner.Tables.{is_way, count_of};
 ghost use Rattle.own.specs.Inner.Found.{OwnMoves, OwnFound};
 
+use facts::Attr;
 use frames::{Book, Query};
 use level::Move;
-use widths::{IDLE_AT, LEVEL_SIZE, MOVE_SIZE, MOVES_SIZE, TERMS_SIZE};
+use widths::{IDLE_AT, LEVEL_SIZE, MOVE_SIZE, MOVES_SIZE, TERMS_SIZE, VALUES_SIZE};
 
 // ---------------------------------------------------------------- the moves as tables
 
@@ -42,6 +43,8 @@ fn enter_terms(m: Move, ts: &mut [u16])
 }
 
 // Enters all moves: the facts that they add in `us`, each with the number of its move in `by` and that move's terms in `ts`.
+// Kept: `us` and `ts` are no row of records, since docs/PROMISES.md names `grow::grow`, which takes them as two lists; and `by` is no
+// list of `Option`: which facts have a move is said in `us` already.
 fn fill_tables(ms: &[u16], us: &mut [bool], ts: &mut [u16], by: &mut [u16])
     requires { Sound (moves_in ms.now) × Fresh us.old ts.old by.old }
     ensures { Entered (moves_in ms.now) (moves_in ms.now).count us.new ts.new by.new }
@@ -58,35 +61,32 @@ fn fill_tables(ms: &[u16], us: &mut [bool], ts: &mut [u16], by: &mut [u16])
 // ---------------------------------------------------------------- the wanted facts
 
 // Whether some named set of attribute `a` has the value `v`.
-fn wants_value(q: Query, a: u8, v: u8) -> bool
-    requires { SmallWants q }
-    ensures { result ≡ wants_value q a v }
+fn wants_value(q: &Query, a: Attr, v: u8) -> bool
+    requires { SmallWants q.now }
+    ensures { result ≡ wants_value q.now a.0 v }
 {
-    for j in 0..q.q {
-        let w = q.wants[j as usize];
-        if w.attr.0 == a && sets::has(w.set, v) {
-            return true;
-        }
-    }
-    false
+    q.wants[..q.q as usize]
+        .iter()
+        .any(|w| w.attr == a && sets::has(w.set, v))
 }
 
 // Whether the fact `f` of the query's person is wanted.
-fn is_wanted(q: Query, f: u8) -> bool
-    requires { SmallWants q }
-    ensures { result ≡ wanted_at q f }
+fn is_wanted(q: &Query, f: u8) -> bool
+    requires { SmallWants q.now }
+    ensures { result ≡ wanted_at q.now f }
 {
-    if f < 128 {
-        wants_value(q, f / 16, f % 16)
+    let values = VALUES_SIZE as u8;
+    if f < values {
+        wants_value(q, Attr(f / 16), f % 16)
     } else {
-        sets::has(q.crews, f - 128)
+        sets::has(q.crews, f - values)
     }
 }
 
 // Writes the flags of the wanted facts.
-fn wanted(q: Query, w: &mut [bool])
-    requires { SmallWants q × (length w.old ≡ level_size) }
-    ensures { FlagsWritten w.old 0 (wanted_at q) level_size w.new }
+fn wanted(q: &Query, w: &mut [bool])
+    requires { SmallWants q.now × (length w.old ≡ level_size) }
+    ensures { FlagsWritten w.old 0 (wanted_at q.now) level_size w.new }
 {
     for f in 0..LEVEL_SIZE as u8 {
         w[f as usize] = is_wanted(q, f);
@@ -110,9 +110,9 @@ fn write_requests(ms: &[u16], by: &[u16], order: &[u8], n: usize, person: u8, up
 // ---------------------------------------------------------------- the search
 
 // With the moves that add to the person: a way from the starting facts to the wanted ones, as requests in the front of `up`, or that there is none.
-fn find_by(b: Book, adds: &[u16], up: &mut [u8]) -> Option<usize>
-    requires { Growing (contents_of b) × (OwnMoves b.rules b.query.roles (moves_in adds.now) × (length up.old ≡ draft_size)) }
-    ensures { OwnFound (contents_of b) up.new (is_way result) (count_of result) }
+fn find_by(b: &Book, adds: &[u16], up: &mut [u8]) -> Option<usize>
+    requires { Growing (contents_of b.now) × (OwnMoves b.now.rules b.now.query.roles (moves_in adds.now) × (length up.old ≡ draft_size)) }
+    ensures { OwnFound (contents_of b.now) up.new (is_way result) (count_of result) }
 {
     let crews = b.sizes.crews;
     let mut us = [false; LEVEL_SIZE];
@@ -123,18 +123,18 @@ fn find_by(b: Book, adds: &[u16], up: &mut [u8]) -> Option<usize>
     let mut order = [0u8; LEVEL_SIZE];
     fill_tables(adds, &mut us, &mut ts, &mut by);
     flags::start_flags(&b.facts, crews, b.query.person, crews, &mut x);
-    wanted(b.query, &mut w);
+    wanted(&b.query, &mut w);
     let n = grow::grow(&us, &ts, &mut w, &mut x, &mut order)?;
     write_requests(adds, &by, &order, n, b.query.person.0, up);
     Some(n)
 }
 
 // The moves out of the accepted rules, then the search among the person's facts.
-pub fn find(b: Book, up: &mut [u8]) -> Option<usize>
-    requires { Growing (contents_of b) × (length up.old ≡ draft_size) }
-    ensures { OwnFound (contents_of b) up.new (is_way result) (count_of result) }
+pub fn find(b: &Book, up: &mut [u8]) -> Option<usize>
+    requires { Growing (contents_of b.now) × (length up.old ≡ draft_size) }
+    ensures { OwnFound (contents_of b.now) up.new (is_way result) (count_of result) }
 {
     let mut buffer = [0u16; MOVES_SIZE];
-    let sides = moves::moves_listed(b.rules, b.query.roles, &mut buffer);
+    let sides = moves::moves_listed(&b.rules, b.query.roles, &mut buffer);
     find_by(b, sides.adds_in(&buffer), up)
 }

@@ -15,8 +15,11 @@ ghost use Rattle.page.specs.Inner.Rows.{asked_nothing, Roams, CrewsSettled, Pers
 
 use facts::{Attr, Person};
 use frames::{Book, Query, Want};
+use level::Sides;
+use search::Parts;
 use widths::{DRAFT_SIZE, FLAGS_SIZE, MOVES_SIZE, ROWS_SIZE, TABLE_SIZE};
 
+// The bytes of a page: sixteen for each of 64 persons.
 pub const PAGE_SIZE: usize = 1024;
 
 // The book's refusals, and 10.
@@ -27,6 +30,7 @@ pub enum Refusal {
 }
 
 // A refused book is refused.
+// Kept: four such impls, one an operation: each `refusal_number` of specs/, which docs/PROMISES.md names, matches `BadBook` of its own enum.
 impl From<frames::Refusal> for Refusal {
     ghost use Rattle.std.specs.Prelude.{◌≡◌};
     ghost use Rattle.page.specs.declared.Refusal.TheVariants.{BadBook};
@@ -39,7 +43,8 @@ impl From<frames::Refusal> for Refusal {
 }
 
 // The table's number of a refusal.
-// Kept: as `replay` and `planner` have theirs: one enum for all three would name refusals that an operation does not have.
+// Kept: as `replay` and `planner` have theirs, here and in `refusal_line`: each definition in specs/ matches the variants of its own
+// enum (`BadTable` here).
 pub fn refusal_number(r: Refusal) -> u8
     ensures { result ≡ refusal_number r }
 {
@@ -60,6 +65,7 @@ pub fn refusal_line(r: Refusal) -> usize
 }
 
 // A query for person 0 that asks for nothing.
+// Kept: the mode as a parameter, as `asked_nothing` of specs/Inner/Rows has it.
 fn asked_nothing(mode: u8, roles: u32) -> Query
     ensures { result ≡ asked_nothing mode roles 0 }
 {
@@ -77,39 +83,35 @@ fn asked_nothing(mode: u8, roles: u32) -> Query
 }
 
 // What the crews come to, once for all persons, as the table of a person's level.
-fn crews_table(b: Book, gains: &[u16], losses: &[u16], table: &mut [bool])
-    requires leveled { Leveled (contents_of b) × Roams (contents_of b) }
-    requires side_moves { SideMoves b.rules b.query.roles 3 3 4 4 (moves_in gains.now) (moves_in losses.now) × BlankTable table.old }
-    ensures { CrewsSettled (contents_of b) table.new }
+fn crews_table(b: &Book, sides: Sides, table: &mut [bool])
+    requires leveled { Leveled (contents_of b.now) × Roams (contents_of b.now) }
+    requires side_moves { SideMoves b.now.rules b.now.query.roles 3 3 4 4 (moves_in sides.adds.now) (moves_in sides.dels.now) × BlankTable table.old }
+    ensures { CrewsSettled (contents_of b.now) table.new }
 {
     let mut rows = [false; ROWS_SIZE];
     let mut up = [0u8; DRAFT_SIZE];
     let mut down = [0u8; DRAFT_SIZE];
-    search::settle_crews(
-        b.query,
-        b.sizes.crews,
-        &b.facts,
-        &b.juniors,
-        gains,
-        losses,
-        &mut rows,
-        table,
-        &mut up,
-        &mut down,
-    );
+    let parts = Parts {
+        query: &b.query,
+        crews: b.sizes.crews,
+        facts: &b.facts,
+        juniors: &b.juniors,
+        sides,
+    };
+    search::settle_crews(&parts, &mut rows, table, &mut up, &mut down);
     flags::person_table(&rows, table);
 }
 
 // The crews once, then the persons, with the moves of both.
-fn fill_by(b: Book, gains: &[u16], losses: &[u16], adds: &[u16], out: &mut [u8])
-    requires leveled { Leveled (contents_of b) × Roams (contents_of b) }
-    requires side_moves { SideMoves b.rules b.query.roles 3 3 4 4 (moves_in gains.now) (moves_in losses.now) ×
-        PersonMoves b.rules b.query.roles (moves_in adds.now) }
+fn fill_by(b: &Book, crews: Sides, adds: &[u16], out: &mut [u8])
+    requires leveled { Leveled (contents_of b.now) × Roams (contents_of b.now) }
+    requires side_moves { SideMoves b.now.rules b.now.query.roles 3 3 4 4 (moves_in crews.adds.now) (moves_in crews.dels.now) ×
+        PersonMoves b.now.rules b.now.query.roles (moves_in adds.now) }
     requires out_len { length out.old ≡ page_size }
-    ensures { RowsRight (contents_of b) b.sizes.persons out.new }
+    ensures { RowsRight (contents_of b.now) b.now.sizes.persons out.new }
 {
     let mut table = [false; TABLE_SIZE];
-    crews_table(b, gains, losses, &mut table);
+    crews_table(b, crews, &mut table);
     rows::clear(out);
     let mut held = [0u64; FLAGS_SIZE];
     persons::settle(
@@ -124,33 +126,31 @@ fn fill_by(b: Book, gains: &[u16], losses: &[u16], adds: &[u16], out: &mut [u8])
 }
 
 // The moves out of the accepted rules, then the crews and the persons.
-fn fill(b: Book, out: &mut [u8])
-    requires leveled { Leveled (contents_of b) × Roams (contents_of b) }
+fn fill(b: &Book, out: &mut [u8])
+    requires leveled { Leveled (contents_of b.now) × Roams (contents_of b.now) }
     requires out_len { length out.old ≡ page_size }
-    ensures { RowsRight (contents_of b) b.sizes.persons out.new }
+    ensures { RowsRight (contents_of b.now) b.now.sizes.persons out.new }
 {
     let mut buffer = [0u16; MOVES_SIZE];
-    let sides = moves::moves_listed(b.rules, b.query.roles, &mut buffer);
-    fill_by(
-        b,
-        sides.gains_in(&buffer),
-        sides.losses_in(&buffer),
-        sides.adds_in(&buffer),
-        out,
-    )
+    let sides = moves::moves_listed(&b.rules, b.query.roles, &mut buffer);
+    let crews = Sides {
+        adds: sides.gains_in(&buffer),
+        dels: sides.losses_in(&buffer),
+    };
+    fill_by(b, crews, sides.adds_in(&buffer), out)
 }
 
 // The page of an accepted book without "not" terms. Of its query the roles alone are used.
 #[tactic(auto, using(crate::proofs::RowLaws::answered_other))]
-fn page_in(b: Book, out: &mut [u8]) -> Result<(), Refusal>
-    requires { Admitted (contents_of b) × (all_plain (contents_of b).rules ≡ true) }
-    ensures { PageAnswered (contents_of b) out.old (said result) out.new }
+fn page_in(b: &mut Book, out: &mut [u8]) -> Result<(), Refusal>
+    requires { Admitted (contents_of b.old) × (all_plain (contents_of b.old).rules ≡ true) }
+    ensures { PageAnswered (contents_of b.old) out.old (said result) out.new }
 {
     if out.len() != PAGE_SIZE {
         return Err(Refusal::BadTable);
     }
-    let query = asked_nothing(1, b.query.roles);
-    fill(Book { query, ..b }, out);
+    b.query = asked_nothing(1, b.query.roles);
+    fill(b, out);
     Ok(())
 }
 
@@ -158,5 +158,7 @@ fn page_in(b: Book, out: &mut [u8]) -> Result<(), Refusal>
 pub fn page(book: &[u8], out: &mut [u8]) -> Result<(), Refusal>
     ensures { PagePromise book.now out.old result out.new }
 {
-    page_in(frames::read_for_page(book)?, out)
+    let mut b = frames::no_book();
+    frames::read_into(book, true, &mut b)?;
+    page_in(&mut b, out)
 }

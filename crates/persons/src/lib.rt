@@ -11,7 +11,7 @@ ghost use Rattle.persons.specs.Inner.Persons.{NoFlags, Begun, Meeting, Firing, A
 use facts::Person;
 use widths::{FLAGS_SIZE, LEVEL_SIZE, MOVE_SIZE};
 
-// What each person begins with. Returns the persons.
+// What each person begins with. Returns the persons, a bit each.
 fn start(persons: u8, crews: u8, facts: &[u8], table: &[bool], held: &mut [u64]) -> u64
     requires { (persons ≤ 64) × ((length table.now ≡ table_size) × NoFlags held.old) }
     ensures { Begun facts.now crews table.now persons result held.new }
@@ -29,6 +29,8 @@ fn start(persons: u8, crews: u8, facts: &[u8], table: &[bool], held: &mut [u64])
 }
 
 // Those of the persons for whom all terms of the move at the place `at` of the numbers hold.
+// Kept: `meets`, `fires` and `close` beside those of `level`: words of persons for flags, no requests, no names tried first, and promises of
+// their own (`Meeting`, `Firing`, `AllEnd`).
 fn meets(ms: &[u16], at: usize, all: u64, held: &[u64]) -> u64
     requires { (at + move_size ≤ length ms.now) × (Fine (move_from ms.now at) × (length held.now ≡ flags_size)) }
     ensures { Meeting (move_from ms.now at) all held.now result }
@@ -69,13 +71,12 @@ fn close(adds: &[u16], table: &[bool], all: u64, held: &mut [u64])
         let who = fires(adds, i, all, held);
         if who == 0 {
             quiet += 1;
-            i = level::next(i, count);
         } else {
             let f = usize::from(adds[MOVE_SIZE * i]);
             spread::put_whole(table, f, who, held);
             quiet = 0;
-            i = level::next(i, count);
         }
+        i = level::next(i, count);
     }
 }
 

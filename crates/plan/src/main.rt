@@ -11,17 +11,24 @@ ghost use Rattle.plan.specs.Printed.{Printed};
 ghost use Rattle.plan.specs.Inner.Front.{Begins};
 ghost use Rattle.plan.specs.Inner.Tried.{is_short, PrintedIfRoom};
 
+use answers::{PLAN_SIZE, TEXT_SIZE};
 use std::io;
 use std::io::{Read, Write};
+
+// The characters that are read before a text is chosen: more than a book's first line.
+const FRONT_SIZE: usize = 64;
+
+// The characters of the smaller text, 292 times those: 7, and 11 for each of at most 1,698 requests, fit it.
+const SMALL_SIZE: usize = 18688;
 
 // Plans the book in the first n bytes of `text`, and puts all that the program prints in its place: the first bytes, as many as returned.
 // The buffer of the plan is long enough for every book.
 #[tactic(auto, using(planner::proofs::RoomLaws::plan_room))]
 fn answer(text: &mut [u8], n: usize) -> usize
-    requires { (n ≤ length text.old) × (93639 ≤ length text.old) }
+    requires { (n ≤ length text.old) × (TEXT_SIZE ≤ length text.old) }
     ensures { (result ≤ length text.new) × Printed (take n text.old) (take result text.new) }
 {
-    let mut plan = [0u8; 42560];
+    let mut plan = [0u8; PLAN_SIZE];
     let planned = planner::plan(&text[..n], &mut plan);
     answers::put_answer(planned, &plan, text)
 }
@@ -48,7 +55,7 @@ fn answer_in(text: &mut [u8], n: usize, plan: &mut [u8]) -> Option<usize>
 
 // With a buffer for the plans of books of up to N / 10 facts.
 fn answer_within<const N: usize>(text: &mut [u8], n: usize) -> Option<usize>
-    requires { (n ≤ length text.old) × ((N ≤ 8490) × (18688 ≤ length text.old)) }
+    requires { (n ≤ length text.old) × ((N ≤ 8490) × (SMALL_SIZE ≤ length text.old)) }
     ensures { PrintedIfRoom (take n text.old) text.old result text.new }
 {
     let mut plan = [0u8; N];
@@ -79,6 +86,7 @@ fn values_asked(book: &[u8], attrs: usize) -> usize
 
 // How many facts the sizes in the book's first line give, where they stand there: F. No book is shorter than 24 characters, no first line
 // longer.
+// Kept: beside `sizes::fact_count`: from characters that may be no digits, before the book is read.
 #[tactic(auto, using(crate::proofs::FactLaws::values_fit))]
 fn facts_asked(book: &[u8]) -> usize {
     if book.len() < 24 {
@@ -92,7 +100,7 @@ fn facts_asked(book: &[u8]) -> usize {
 
 // With a small buffer for the plan. `None` where that is too short, and where the book fills the text, so that more of it may follow.
 fn answer_small(text: &mut [u8], n: usize) -> Option<usize>
-    requires { (n ≤ length text.old) × (18688 ≤ length text.old) }
+    requires { (n ≤ length text.old) × (SMALL_SIZE ≤ length text.old) }
     ensures { PrintedIfRoom (take n text.old) text.old result text.new × (IfSome result (λ end. n < length text.old)) }
 {
     if n == text.len() {
@@ -106,7 +114,7 @@ fn answer_small(text: &mut [u8], n: usize) -> Option<usize>
 }
 
 // Puts what was read, `front`, in the front of the text, and reads on behind it. Returns how many characters there are. What was read fills
-// its buffer, of 64 characters or 292 times as many, unless the input has ended.
+// its buffer, of `FRONT_SIZE` or `SMALL_SIZE` characters, unless the input has ended.
 fn read_on<R: Read>(reader: &mut R, front: &[u8], text: &mut [u8]) -> io::Result<usize>
     requires { length front.now ≤ length text.old }
     ensures ok { IfOk result (λ n. Begins front.now n text.new) }
@@ -114,28 +122,27 @@ fn read_on<R: Read>(reader: &mut R, front: &[u8], text: &mut [u8]) -> io::Result
 {
     let k = front.len();
     text[..k].copy_from_slice(front);
-    if k % 64 != 0 {
+    if k % FRONT_SIZE != 0 {
         return Ok(k);
     }
     let n = streams::read_full(reader, &mut text[k..])?;
     Ok(k + n)
 }
 
-// The text holds more characters than a book may have, so that refusal 1 shows, and the longest answer: 7 characters, and 11 for each of
-// 8,512 requests.
+// The text holds more characters than a book may have, so that refusal 1 shows, and the longest answer.
 fn print_large<R: Read, W: Write>(reader: &mut R, writer: &mut W, front: &[u8]) -> io::Result<()>
-    requires { length front.now ≤ 18688 }
+    requires { length front.now ≤ SMALL_SIZE }
 {
-    let mut text = [0u8; 93639];
+    let mut text = [0u8; TEXT_SIZE];
     let n = read_on(reader, front, &mut text)?;
     let end = answer(&mut text, n);
     writer.write_all(&text[..end])
 }
 
 fn print_small<R: Read, W: Write>(reader: &mut R, writer: &mut W, front: &[u8]) -> io::Result<()>
-    requires { length front.now ≤ 64 }
+    requires { length front.now ≤ FRONT_SIZE }
 {
-    let mut text = [0u8; 18688];
+    let mut text = [0u8; SMALL_SIZE];
     let n = read_on(reader, front, &mut text)?;
     match answer_small(&mut text, n) {
         Some(end) => writer.write_all(&text[..end]),
@@ -143,10 +150,11 @@ fn print_small<R: Read, W: Write>(reader: &mut R, writer: &mut W, front: &[u8]) 
     }
 }
 
+// Kept: not by `streams::print_answer`, as `judge` and `depot_page`: the text is chosen by what is read first.
 fn main(rt: HostRuntime) -> io::Result<()> {
     let mut input = rt.stdin();
     let mut output = rt.stdout();
-    let mut front = [0u8; 64];
+    let mut front = [0u8; FRONT_SIZE];
     let n = streams::read_full(&mut input, &mut front)?;
     if facts_asked(&front[..n]) <= 849 {
         print_small(&mut input, &mut output, &front[..n])

@@ -27,6 +27,7 @@ pub enum Refusal {
 }
 
 // A refused book is refused.
+// Kept: four such impls, one an operation: each `refusal_number` of specs/, which docs/PROMISES.md names, matches `BadBook` of its own enum.
 impl From<frames::Refusal> for Refusal {
     ghost use Rattle.std.specs.Prelude.{◌≡◌};
     ghost use Rattle.planner.specs.declared.Refusal.TheVariants.{BadBook};
@@ -39,7 +40,8 @@ impl From<frames::Refusal> for Refusal {
 }
 
 // The table's number of a refusal.
-// Kept: as `replay` and `page` have theirs: one enum for all three would name refusals that an operation does not have.
+// Kept: as `replay` and `page` have theirs, here and in `refusal_line`: each definition in specs/ matches the variants of its own
+// enum (`ShortBuffer` here).
 pub fn refusal_number(r: Refusal) -> u8
     ensures { result ≡ refusal_number r }
 {
@@ -60,26 +62,26 @@ pub fn refusal_line(r: Refusal) -> usize
 }
 
 // Whether the requests of two buffers, carried out from the starting facts, end with a ledger that meets the query.
-fn is_reached(b: Book, up: &[u8], ups: usize, down: &[u8], at: usize) -> bool
-    requires admitted { Admitted (contents_of b) × ((ups ≤ depot_size) × (at ≤ depot_size)) }
+// Kept: the two buffers beside the ends, here and below, not a struct: made at each call, and with its lengths as clauses, it is no plainer.
+fn is_reached(b: &Book, up: &[u8], down: &[u8], e: Ends) -> bool
+    requires admitted { Admitted (contents_of b.now) × ((e.ups ≤ depot_size) × (e.at ≤ depot_size)) }
     requires up_len { (length up.now ≡ draft_size) × (length down.now ≡ draft_size) }
-    ensures { result ≡ met (contents_of b) (holds (carried b.facts (drafted up.now ups down.now at))) }
+    ensures { result ≡ met (contents_of b.now) (holds (carried b.now.facts (drafted up.now e.ups down.now e.at))) }
 {
-    let n = DEPOT_SIZE - at;
     let mut ledger = b.facts;
-    drafts::carry_out(&mut ledger, up, 0, ups);
-    drafts::carry_out(&mut ledger, down, at, n);
+    drafts::carry_out(&mut ledger, up, 0, e.ups);
+    drafts::carry_out(&mut ledger, down, e.at, DEPOT_SIZE - e.at);
     replay::is_met(b, &ledger)
 }
 
 // The requests of the best plan, found where they lead to a ledger that meets the query; none else.
-fn best_plan(b: Book, up: &mut [u8], down: &mut [u8]) -> Option<Ends>
-    requires leveled { Leveled (contents_of b) }
+fn best_plan(b: &Book, up: &mut [u8], down: &mut [u8]) -> Option<Ends>
+    requires leveled { Leveled (contents_of b.now) }
     requires up_len { (length up.old ≡ draft_size) × (length down.old ≡ draft_size) }
-    ensures { PlanFound (contents_of b) up.new down.new (found_of result) (ups_of result) (at_of result) }
+    ensures { PlanFound (contents_of b.now) up.new down.new (found_of result) (ups_of result) (at_of result) }
 {
     let e = search::search(b, up, down)?;
-    if is_reached(b, up, e.ups, down, e.at) {
+    if is_reached(b, up, down, e) {
         Some(e)
     } else {
         None
@@ -87,10 +89,11 @@ fn best_plan(b: Book, up: &mut [u8], down: &mut [u8]) -> Option<Ends>
 }
 
 // The requests of a plan, by the query's mode: a book of mode 03 only grows, and any other is planned by levels.
-fn find_plan(b: Book, up: &mut [u8], down: &mut [u8]) -> Option<Ends>
-    requires admitted { Admitted (contents_of b) }
+// Kept: one `if` on the mode, a number since `query_of` of frames gives it as written; a closure or an enum for two ways is no plainer.
+fn find_plan(b: &Book, up: &mut [u8], down: &mut [u8]) -> Option<Ends>
+    requires admitted { Admitted (contents_of b.now) }
     requires up_len { (length up.old ≡ draft_size) × (length down.old ≡ draft_size) }
-    ensures { PlanFound (contents_of b) up.new down.new (found_of result) (ups_of result) (at_of result) }
+    ensures { PlanFound (contents_of b.now) up.new down.new (found_of result) (ups_of result) (at_of result) }
 {
     if b.query.mode != 3 {
         best_plan(b, up, down)
@@ -104,16 +107,16 @@ fn find_plan(b: Book, up: &mut [u8], down: &mut [u8]) -> Option<Ends>
 }
 
 // Writes the plan to the front of the caller's buffer.
-fn write_plan(up: &[u8], ups: usize, down: &[u8], at: usize, out: &mut [u8]) -> usize
-    requires ups_le_depot_size { (ups ≤ depot_size) × ((at ≤ depot_size) × (5 * (ups + (depot_size - at)) ≤ length out.old)) }
+fn write_plan(up: &[u8], down: &[u8], e: Ends, out: &mut [u8]) -> usize
+    requires ups_le_depot_size { (e.ups ≤ depot_size) × ((e.at ≤ depot_size) × (5 * (e.ups + (depot_size - e.at)) ≤ length out.old)) }
     requires up_len { (length up.now ≡ draft_size) × (length down.now ≡ draft_size) }
-    ensures { (result ≡ ups + (depot_size - at)) ×
-        (out.new ≡ flat (drafted up.now ups down.now at) ++ drop (5 * (ups + (depot_size - at))) out.old) }
+    ensures { (result ≡ e.ups + (depot_size - e.at)) ×
+        (out.new ≡ flat (drafted up.now e.ups down.now e.at) ++ drop (5 * (e.ups + (depot_size - e.at))) out.old) }
 {
-    let n = DEPOT_SIZE - at;
-    drafts::copy_requests(up, 0, ups, out, 0);
-    drafts::copy_requests(down, at, n, out, ups);
-    ups + n
+    let downs = DEPOT_SIZE - e.at;
+    drafts::copy_requests(up, 0, e.ups, out, 0);
+    drafts::copy_requests(down, e.at, downs, out, e.ups);
+    e.ups + downs
 }
 
 // The answer to what was found: no way, or the plan in the front of the caller's buffer.
@@ -123,13 +126,13 @@ fn give(found: Option<Ends>, up: &[u8], down: &[u8], out: &mut [u8]) -> Option<u
     ensures { plan_reply (said (Ok result)) out.new ≡ given (found_of found) (drafted up.now (ups_of found) down.now (at_of found)) out.old }
 {
     let e = found?;
-    Some(write_plan(up, e.ups, down, e.at, out))
+    Some(write_plan(up, down, e, out))
 }
 
 // Plans an accepted book.
-fn plan_in(b: Book, out: &mut [u8]) -> Result<Option<usize>, Refusal>
-    requires { Admitted (contents_of b) }
-    ensures { Answered (contents_of b) out.old (said result) out.new }
+fn plan_in(b: &Book, out: &mut [u8]) -> Result<Option<usize>, Refusal>
+    requires { Admitted (contents_of b.now) }
+    ensures { Answered (contents_of b.now) out.old (said result) out.new }
 {
     let f = sizes::fact_count(b.sizes);
     if out.len() < 10 * f {
@@ -145,5 +148,7 @@ fn plan_in(b: Book, out: &mut [u8]) -> Result<Option<usize>, Refusal>
 pub fn plan(book: &[u8], out: &mut [u8]) -> Result<Option<usize>, Refusal>
     ensures { PlanPromise book.now out.old result out.new }
 {
-    plan_in(frames::read(book)?, out)
+    let mut b = frames::no_book();
+    frames::read_into(book, false, &mut b)?;
+    plan_in(&b, out)
 }

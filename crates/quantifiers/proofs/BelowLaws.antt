@@ -229,10 +229,6 @@ one_if_mono false b h = omega arith
 
 -- One number more, that passes or does not.
 module _ (p : ℕ → Bool) (n : ℕ) where
-  pub count_step : count_below p (suc n) ≡ count_below p n + one_if (p n)
-  unfolding count_below
-  count_step = refl
-
   pub count_yes : p n ≡ true → count_below p (n + 1) ≡ count_below p n + 1
   unfolding count_below
   count_yes e = rw (add-one, e)

@@ -1,14 +1,11 @@
--- The first of a list that passes a test: which one it is, and how a search from the front finds it.
+-- The first of a list that passes a test: which one it is, and whether there is one.
 use mathlib.Core.Path.{◌≡◌, refl, ap, sym, ◌∙◌}
-use mathlib.Core.Logic.{◌⊎◌, inl, inr, ⊎_elim}
 use mathlib.Core.Bool.{Bool, true, false, cond, not, ◌&&◌, ◌||◌}
 use mathlib.Core.List.{List, [], ◌∷◌}
-use Prim.Native.Nat.{ℕ, zero, suc, ◌+◌, ◌≤◌, ◌<◌}
-use native.Mathlib.Numerals.{add-one}
+use Prim.Native.Nat.{ℕ, zero, suc, ◌≤◌, ◌<◌}
 use native.Mathlib.Omega.{arith}
 use lib.Dec.{ltb}
-use lib.ListN.{length, get_or, drop, drop_of_length-le}
-use lib.Seq.{drop-cons}
+use lib.ListN.{length, get_or}
 use borrow.Author.Tests.{lt-ltb, le-ltb, ltb-true, ltb-false}
 use Rattle.quantifiers.specs.Quantifiers.{all, any, first}
 
@@ -95,70 +92,3 @@ module _ {A : Type 0} (p : A → Bool) where
           → (b && all p xs) ≡ not (ltb (cond (not b) 0 (suc (first fails xs))) (suc (length xs)))
       by-head true e = e ∙ ap not (further (first fails xs) (length xs))
       by-head false e = sym (ap not (lt-ltb 0 (suc (length xs)) (omega arith)))
-
-  -- ---------------------------------------------------------------- a search from the front
-
-  module _ (xs : List A) where
-    -- No one before i passes: those from i on decide.
-    pub record NoneBefore (i : ℕ) : Type 0 where
-      pub within : i ≤ length xs
-      pub rest : first p xs ≡ i + first p (drop i xs)
-
-    -- At first all are left.
-    pub none_yet : NoneBefore 0
-    none_yet = record { within = omega arith; rest = omega arith }
-
-    module _ (i : ℕ) (h : NoneBefore i) where
-      -- Nothing is left: none passes.
-      pub none_left : length xs ≤ i → length xs ≡ first p xs
-      unfolding first
-      none_left l =
-          let none : first p (drop i xs) ≡ 0 = rw (drop_of_length-le xs {i = i} (omega arith)) refl in
-          omega (arith, h.within, h.rest, none)
-
-      -- The next one fails.
-      pub missed : (d : A) → i < length xs → p (get_or xs i d) ≡ false → NoneBefore (i + 1)
-      unfolding first
-      missed d l e =
-          let on : first p (drop i xs) ≡ suc (first p (drop (i + 1) xs)) = rw (drop-cons xs i d l, e, add-one) refl in
-          record { within = omega arith; rest = omega (arith, h.rest, on) }
-
-      -- The next one passes: it is the first.
-      pub hit : (d : A) → i < length xs → p (get_or xs i d) ≡ true → i ≡ first p xs
-      unfolding first
-      hit d l e =
-          let here : first p (drop i xs) ≡ 0 = rw (drop-cons xs i d l, e) refl in
-          omega (arith, h.rest, here)
-
-    -- A search keeps what it found in f, the list's length at first, and goes on while its place is before it: nothing is found yet and no
-    -- one before i passes, or f is the first and the search is past it.
-    abbrev pub Seeks : ℕ → ℕ → Type 0
-    Seeks i f = ((f ≡ length xs) × NoneBefore i) ⊎ ((f ≡ first p xs) × (f < i))
-
-    pub seek-start : Seeks 0 (length xs)
-    seek-start = inl (refl, none_yet)
-
-    -- The search ends.
-    pub seek-end : (i f : ℕ) → f ≤ i → Seeks i f → f ≡ first p xs
-    seek-end i f l (inl none) = none.0 ∙ none_left i none.1 (omega (arith, none.0))
-    seek-end i f l (inr here) = here.0
-
-    module _ (i f : ℕ) (s : Seeks i f) (d : A) (l : i < f) where
-      yet : (f ≡ length xs) × NoneBefore i
-      yet = ⊎_elim (λ none. none) (λ here. absurd (omega (arith, here.1))) s
-
-      pub seek-inside : i < length xs
-      seek-inside = omega (arith, yet.0)
-
-      -- The next one fails: the search goes on.
-      pub seek-miss : p (get_or xs i d) ≡ false → Seeks (i + 1) f
-      seek-miss e = inl (yet.0, missed i yet.1 d seek-inside e)
-
-      -- The next one passes: it is kept.
-      pub seek_hit : p (get_or xs i d) ≡ true → Seeks (i + 1) i
-      seek_hit e = inr (hit i yet.1 d seek-inside e, omega arith)
-
-    -- What is kept is one of the list or its length.
-    pub seek-within : (i f : ℕ) → Seeks i f → f ≤ length xs
-    seek-within i f (inl none) = omega (arith, none.0)
-    seek-within i f (inr here) = omega (arith, here.0, first-within xs)

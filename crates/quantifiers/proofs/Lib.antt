@@ -2,5 +2,6 @@ pub mod BoolLaws
 pub mod ListLaws
 pub mod BelowLaws
 pub mod FirstLaws
-pub mod TurnLaws
 pub mod PositionLaws
+pub mod RangeLaws
+pub mod FilledLaws

@@ -17,15 +17,6 @@ use Rattle.quantifiers.proofs.BelowLaws.{any-zero, any_step}
 -- ---------------------------------------------------------------- by the elements
 
 module _ {A : Type 0} where
-  -- All of a list pass where the first does and all others do; of an empty list all pass.
-  pub all_nil : (p : A → Bool) → all p [] ≡ true
-  unfolding all
-  all_nil p = refl
-
-  pub all_cons : (p : A → Bool) (x : A) (xs : List A) → all p (x ∷ xs) ≡ p x && all p xs
-  unfolding all
-  all_cons p x xs = refl
-
   -- All pass a test that each of them passes; of each is known that it passes two others, and that what it passes some one passes.
   pub all_in : (p q r : A → Bool) (xs : List A) → all p xs ≡ true → all q xs ≡ true
       → ((x : A) → p x ≡ true → q x ≡ true → ((t : A → Bool) → t x ≡ true → any t xs ≡ true) → r x ≡ true) → all r xs ≡ true

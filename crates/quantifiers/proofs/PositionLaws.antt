@@ -1,7 +1,8 @@
 -- std's words for tests of a list. The place of the first that passes, or that there is none, as `position` says it: it is `first`'s place
--- where that is one of the list, and there is one exactly where some one of the list passes. And all of a list, as `list_all` says it.
+-- where that is one of the list, and there is one exactly where some one of the list passes. And all of a list, or some one, as `list_all`
+-- and `list_any` say it.
 use mathlib.Core.Path.{◌≡◌, refl, ap, sym, ◌∙◌}
-use mathlib.Core.Bool.{Bool, true, false, cond, not, ◌&&◌}
+use mathlib.Core.Bool.{Bool, true, false, cond, not, ◌&&◌, ◌||◌}
 use mathlib.Core.List.{List, [], ◌∷◌}
 use Prim.Native.Nat.{ℕ, suc, ◌+◌, ◌≤◌, ◌<◌}
 use native.Mathlib.Omega.{arith}
@@ -9,7 +10,7 @@ use lib.Dec.{ltb}
 use lib.ListN.{length}
 use Rattle.std.specs.Prelude.{None, Some}
 use borrow.Author.Tests.{ltb-true, ltb-false}
-use Rattle.std.specs.List.{list_all, position, position_or_len}
+use Rattle.std.specs.List.{list_all, list_any, position, position_or_len}
 use Rattle.std.specs.Option.{is_some, unwrap_or}
 use Rattle.quantifiers.specs.Quantifiers.{all, any, first}
 use Rattle.quantifiers.proofs.BoolLaws.{by_test}
@@ -72,8 +73,13 @@ module _ {A : Type 0} (p : A → Bool) where
             tested true = refl
             tested false = refl
 
--- All of a list, as std's `list_all` says it.
+-- All of a list, as std's `list_all` says it; and some one, as its `list_any` does.
 pub all_list : {A : Type 0} (p : A → Bool) (xs : List A) → list_all p xs ≡ all p xs
 unfolding all
 all_list p [] = refl
 all_list p (x ∷ xs) = ap (λ (b : Bool). p x && b) (all_list p xs)
+
+pub any_list : {A : Type 0} (p : A → Bool) (xs : List A) → list_any p xs ≡ any p xs
+unfolding any
+any_list p [] = refl
+any_list p (x ∷ xs) = ap (λ (b : Bool). p x || b) (any_list p xs)

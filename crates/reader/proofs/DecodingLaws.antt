@@ -1,8 +1,7 @@
 -- The frame of a line: its bytes written one after the other, until a character is no digit.
 use Rattle.std.specs.Prelude.{Option, None, Some}
-use Rattle.std.specs.List.{list_all}
 use mathlib.Core.Path.{◌≡◌, refl, ap, sym, subst, ◌∙◌}
-use mathlib.Core.Bool.{Bool, true, false, not, ◌&&◌, true≢false}
+use mathlib.Core.Bool.{true, false, not, true≢false}
 use mathlib.Core.List.{List, [], ◌∷◌, ◌++◌, append_assoc, append-nil}
 use Prim.Native.Nat.{ℕ, ◌+◌, ◌*◌, ◌/◌, ◌%◌, ◌≤◌, ◌<◌}
 use native.Mathlib.Numerals.{add-one}
@@ -22,12 +21,6 @@ use Rattle.reader.specs.declared.Frame.{Frame}
 use Rattle.reader.specs.declared.Frame.TheVariants.{Bytes, Long}
 use Rattle.reader.specs.Inner.Decoding.{InFront, FrontOnly, DecodedAs, Decoded}
 use Rattle.reader.specs.Inner.Front.{first_line, Begun}
-
--- All of a list pass a test, in the words of std and in those of the paper's definitions.
-pub all_list : {A : Type 0} (p : A → Bool) (xs : List A) → list_all p xs ≡ all p xs
-unfolding all
-all_list p [] = refl
-all_list p (x ∷ xs) = ap (λ (b : Bool). p x && b) (all_list p xs)
 
 -- One byte more is written, by two digits; all are.
 module _ (x before : List ℕ) (k : ℕ) (now : List ℕ) (b : Begun x before k now) where

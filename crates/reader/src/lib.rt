@@ -71,9 +71,9 @@ fn decode(x: &[u8], frame: &mut [u8]) -> Option<Frame>
     }
 }
 
-// Kept: beside `decode_short`: one pass over a good line of a book, by the table and up to 64 bytes; that one serves any other line, and says
-// that it is malformed.
 // Writes the bytes of the first line of `x` to the front of `frame`, until a character is no digit or 64 are written. Returns how many.
+// Kept: beside `decode_short`, which tells whether any line at all is malformed: this is the one pass by the table that a good line costs
+// (docs/DECISIONS.md, 46).
 fn decode_front(x: &[u8], digits: &[u8], frame: &mut [u8]) -> usize
     requires { Tabled digits.now × (64 ≤ length frame.old) }
     ensures { Begun (first_line x.now) frame.old result frame.new }
@@ -121,8 +121,8 @@ fn any_line_at(book: &[u8], at: usize, frame: &mut [u8]) -> Line
 
 // The line that starts at `at`; its frame is written to the front of `frame`. One pass serves an ended line of up to 64 bytes; any
 // other is read anew, in two.
-// Kept: `Tabled` as a clause here and below, not a type: docs/PROMISES.md names `reader::current` and `read_frame`, so their parameters may
-// not change, and a type made from their slice would be a copy of 256 bytes a line.
+// Kept: `Tabled` and the lengths as clauses here and below, not a type: docs/PROMISES.md names `reader::current` and `read_frame`, so their
+// parameters may not change, and a type made from their slice would be a copy of 256 bytes a line.
 fn line_at(book: &[u8], at: usize, digits: &[u8], frame: &mut [u8]) -> Line
     requires { (at ≤ length book.now) × ((length book.now ≤ 65536) × ((length frame.old ≡ 64) × Tabled digits.now)) }
     ensures { LineRead book.now at frame.old result frame.new }

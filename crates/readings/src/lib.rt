@@ -3,7 +3,7 @@
 #![tactic(auto)]
 
 ghost use Rattle.std.specs.Prelude.{◌≡◌, ◌+◌, ◌≤◌, length};
-ghost use Rattle.frames.specs.Book.{contents_of, told_by};
+ghost use Rattle.frames.specs.Book.{contents_of, told_in};
 ghost use Rattle.answers.specs.Answers.{size, total, count, sizes_bytes, book_line, answer_line};
 ghost use Rattle.answers.specs.Inner.Written.{Written};
 
@@ -46,16 +46,15 @@ fn facts_in(ledger: &[u8; LEDGER_SIZE]) -> usize
     n
 }
 
-// A blank and a number as two bytes, in a lent text.
-fn put_count(n: usize, characters: &Characters, text: &mut [u8], at: usize) -> usize
-    requires { at + 5 ≤ length text.old }
-    ensures { Written text.old at (count n) text.new result }
+// A blank and a number as two bytes, in the front of a lent text.
+fn put_count(n: usize, characters: &Characters, text: &mut [u8]) -> usize
+    requires { 5 ≤ length text.old }
+    ensures { Written text.old 0 (count n) text.new result }
 {
-    text[at] = b' ';
+    text[0] = b' ';
     let high = answers::high_byte(n);
     let low = answers::low_byte(n);
-    let digits = at + 1;
-    answers::put_bytes(&[high, low], characters, text, digits)
+    1 + answers::put_bytes(&[high, low], characters, &mut text[1..])
 }
 
 // The bytes of the sizes, with the counts of all eight attributes.
@@ -70,29 +69,30 @@ fn sizes_bytes(z: sizes::Sizes) -> [u8; 12]
 }
 
 // The line of an accepted book in the front of a lent text.
-fn put_book(b: frames::Book, characters: &Characters, text: &mut [u8]) -> usize
+fn put_book(b: &frames::Book, characters: &Characters, text: &mut [u8]) -> usize
     requires { 43 ≤ length text.old }
-    ensures { Written text.old 0 (book_line (contents_of b)) text.new result }
+    ensures { Written text.old 0 (book_line (contents_of b.now)) text.new result }
 {
+    let sizes = sizes_bytes(b.sizes);
     let edges = edge_count(&b.juniors);
     let facts = facts_in(&b.facts);
-    let sizes = sizes_bytes(b.sizes);
-    let sized = answers::put_bytes(&sizes, characters, text, 0);
-    let edged = put_count(edges, characters, text, sized);
-    let ruled = put_count(b.rules.count, characters, text, edged);
-    let counted = put_count(facts, characters, text, ruled);
-    text[counted] = b' ';
-    let digits = counted + 1;
-    answers::put_line(&[b.query.q], characters, text, digits)
+    let counts = [edges, b.rules.count, facts];
+    let mut end = answers::put_bytes(&sizes, characters, text);
+    for n in &counts {
+        end += put_count(*n, characters, &mut text[end..]);
+    }
+    text[end] = b' ';
+    end += 1;
+    end + answers::put_line(&[b.query.q], characters, &mut text[end..])
 }
 
 // The line that answers a book that is only judged, in the front of a lent text.
-pub fn put_reading(r: Result<frames::Book, frames::Refusal>, text: &mut [u8]) -> usize
+pub fn put_reading(told: Result<(), frames::Refusal>, b: &frames::Book, text: &mut [u8]) -> usize
     requires { 43 ≤ length text.old }
-    ensures { Written text.old 0 (answer_line (told_by r)) text.new result }
+    ensures { Written text.old 0 (answer_line (told_in told b.now)) text.new result }
 {
     let characters = Characters::new();
-    match r {
+    match told {
         Err(f) => {
             answers::put_refused(
                 frames::refusal_number(f),
@@ -101,6 +101,6 @@ pub fn put_reading(r: Result<frames::Book, frames::Refusal>, text: &mut [u8]) ->
                 text,
             )
         }
-        Ok(book) => put_book(book, &characters, text),
+        Ok(()) => put_book(b, &characters, text),
     }
 }

@@ -20,7 +20,7 @@ ghost use Rattle.replay.specs.Met.{wants, met};
 ghost use Rattle.replay.specs.Replay.{refusal_number, refusal_line, said, replay_in, replayed};
 
 use facts::{Attr, Crew, Fact, Person};
-use frames::{Book, Query, Rule, Rules};
+use frames::{Book, Query, Rule};
 use sizes::Sizes;
 
 // What a list of requests comes to. Stops names the first request that does not go, counted from 1.
@@ -39,6 +39,7 @@ pub enum Refusal {
 }
 
 // A refused book is refused.
+// Kept: four such impls, one an operation: each `refusal_number` of specs/, which docs/PROMISES.md names, matches `BadBook` of its own enum.
 impl From<frames::Refusal> for Refusal {
     ghost use Rattle.std.specs.Prelude.{◌≡◌};
     ghost use Rattle.replay.specs.declared.Refusal.TheVariants.{BadBook};
@@ -51,7 +52,8 @@ impl From<frames::Refusal> for Refusal {
 }
 
 // The table's number of a refusal.
-// Kept: as `planner` and `page` have theirs: one enum for all three would name refusals that an operation does not have.
+// Kept: as `planner` and `page` have theirs, here and in `refusal_line`: each definition in specs/ matches the variants of its own
+// enum (`BadLength` here).
 pub fn refusal_number(r: Refusal) -> u8
     ensures { result ≡ refusal_number r }
 {
@@ -80,7 +82,7 @@ fn is_due(z: Sizes, roles: u32, q: &[u8]) -> bool
 }
 
 // One request of a list: carried out where it is well formed, its role is one of the query's and some rule permits it; else the
-// ledger stays.
+// ledger stays. Says whether it was.
 fn step(
     rules: &[Rule],
     z: Sizes,
@@ -101,8 +103,7 @@ fn step(
     if found.is_none() {
         return false;
     }
-    let on = requests::is_adding(q.op);
-    facts::put_fact(ledger, q.fact, on);
+    ledger::carry_out(ledger, q);
     true
 }
 
@@ -129,29 +130,13 @@ fn run_plan(
     None
 }
 
-// The same of the list by value: its front is lent.
-fn run_listed(
-    rs: Rules,
-    z: Sizes,
-    juniors: &[u32],
-    roles: u32,
-    ledger: &mut [u8],
-    plan: &[u8],
-) -> Option<usize>
-    requires { ((rs.count ≤ 512) × Each Short (listed rs)) × (length juniors.now ≡ 32) }
-    ensures { ran_to result ledger.new ≡ run (standing z juniors.now (listed rs)) roles ledger.old 1
-        (fives plan.now) }
-{
-    run_plan(&rs.rules[..rs.count], z, juniors, roles, ledger, plan)
-}
-
 // The same of an accepted book under its query's roles.
-fn run_in(b: Book, ledger: &mut [u8], plan: &[u8]) -> Option<usize>
-    requires { Admitted (contents_of b) }
-    ensures { ran_to result ledger.new ≡ run (contents_of b) b.query.roles ledger.old 1 (fives plan.now) }
+fn run_in(b: &Book, ledger: &mut [u8], plan: &[u8]) -> Option<usize>
+    requires { Admitted (contents_of b.now) }
+    ensures { ran_to result ledger.new ≡ run (contents_of b.now) b.now.query.roles ledger.old 1 (fives plan.now) }
 {
     let roles = b.query.roles;
-    run_listed(b.rules, b.sizes, &b.juniors, roles, ledger, plan)
+    run_plan(b.rules.listed(), b.sizes, &b.juniors, roles, ledger, plan)
 }
 
 // The values of an attribute that the person directly holds, or effectively.
@@ -181,55 +166,61 @@ fn is_wanted(exactly: bool, set: u32, held: u32) -> bool
 }
 
 // Whether the person holds each named set: exactly, or at least; directly, or effectively.
-fn has_wanted(b: Book, exactly: bool, directly: bool, ledger: &[u8]) -> bool
-    requires { Admitted (contents_of b) }
-    ensures { result ≡ all (λ w. wanted exactly w.set (held_set directly (contents_of b) (holds ledger.now) w.attr.0))
-        (wants (contents_of b)) }
+#[tactic(auto, unfolding(frames::specs::Book::contents_of, crate::specs::Met::wants))]
+fn has_wanted(b: &Book, exactly: bool, directly: bool, ledger: &[u8]) -> bool
+    requires { Admitted (contents_of b.now) }
+    ensures { result ≡ all (λ w. wanted exactly w.set (held_set directly (contents_of b.now) (holds ledger.now) w.attr.0))
+        (wants (contents_of b.now)) }
 {
-    let query = b.query;
-    let wants = &query.wants[..query.q as usize];
-    for w in wants {
-        let held = held_set(directly, b.sizes, ledger, &b.juniors, query.person, w.attr);
-        if !is_wanted(exactly, w.set, held) {
-            return false;
-        }
-    }
-    true
+    let wants = &b.query.wants[..b.query.q as usize];
+    wants.iter().all(|w| {
+        let held = held_set(
+            directly,
+            b.sizes,
+            ledger,
+            &b.juniors,
+            b.query.person,
+            w.attr,
+        );
+        is_wanted(exactly, w.set, held)
+    })
 }
 
 // Whether the person is directly in exactly, or at least, the listed crews, where the query lists them.
-fn is_listed(mode: u8, query: Query, crews: u8, ledger: &[u8]) -> bool
+// Kept: here and in `is_met` the mode is the number that `met` of specs/Met asks for; `exactly` and `directly` are one `if` each (`is_wanted`,
+// `held_set`), and a closure for two ways is no plainer.
+fn is_listed(query: &Query, crews: u8, ledger: &[u8]) -> bool
     requires { crews ≤ 32 }
-    ensures { result ≡ eqb mode 1 || wanted (eqb mode 2) query.crews
-        (set_below (λ c. holds ledger.now (Fact.Member query.person (record { 0 = c }))) crews) }
+    ensures { result ≡ eqb query.now.mode 1 || wanted (eqb query.now.mode 2) query.now.crews
+        (set_below (λ c. holds ledger.now (Fact.Member query.now.person (record { 0 = c }))) crews) }
 {
-    if mode == 1 {
+    if query.mode == 1 {
         return true;
     }
     let held = ledger::set_below(
         crews,
         |c| facts::fact_holds(ledger, Fact::Member(query.person, Crew(c))),
     );
-    is_wanted(mode == 2, query.crews, held)
+    is_wanted(query.mode == 2, query.crews, held)
 }
 
 // Whether the query is met, by its mode: 01 at least, 02 exactly, 03 at least and directly.
-pub fn is_met(b: Book, ledger: &[u8]) -> bool
-    requires { Admitted (contents_of b) }
-    ensures { result ≡ met (contents_of b) (holds ledger.now) }
+pub fn is_met(b: &Book, ledger: &[u8]) -> bool
+    requires { Admitted (contents_of b.now) }
+    ensures { result ≡ met (contents_of b.now) (holds ledger.now) }
 {
     let mode = b.query.mode;
-    if !is_listed(mode, b.query, b.sizes.crews, ledger) {
+    if !is_listed(&b.query, b.sizes.crews, ledger) {
         return false;
     }
-    // Kept: one value by `&`, which `has_wanted` is given in every mode; `&&` would part the proof in branches.
+    // By `&`, so that it is one value in every mode.
     let directly = (mode != 1) & (mode != 2);
     has_wanted(b, mode == 2, directly, ledger)
 }
 
-fn replay_in(b: Book, plan: &[u8]) -> Result<Judgement, Refusal>
-    requires { Admitted (contents_of b) }
-    ensures { said result ≡ replay_in (contents_of b) plan.now }
+fn replay_in(b: &Book, plan: &[u8]) -> Result<Judgement, Refusal>
+    requires { Admitted (contents_of b.now) }
+    ensures { said result ≡ replay_in (contents_of b.now) plan.now }
 {
     if plan.len() % 5 != 0 {
         return Err(Refusal::BadLength);
@@ -249,5 +240,7 @@ fn replay_in(b: Book, plan: &[u8]) -> Result<Judgement, Refusal>
 pub fn replay(book: &[u8], plan: &[u8]) -> Result<Judgement, Refusal>
     ensures { said result ≡ replayed book.now plan.now }
 {
-    replay_in(frames::read(book)?, plan)
+    let mut b = frames::no_book();
+    frames::read_into(book, false, &mut b)?;
+    replay_in(&b, plan)
 }

@@ -2,7 +2,7 @@
 
 #![tactic(auto)]
 
-ghost use Rattle.std.specs.Prelude.{◌≡◌, ◌+◌, ◌*◌, ◌<◌, ◌≤◌, length, get_or};
+ghost use Rattle.std.specs.Prelude.{◌≡◌, ◌+◌, ◌*◌, ◌<◌, ◌≤◌, length};
 ghost use Rattle.facts.specs.Facts.{ledger_size};
 ghost use Rattle.quantifiers.specs.Quantifiers.{all_below};
 ghost use Rattle.requests.specs.Requests.{adds, aimed, request_of, fields_good, well_formed};
@@ -33,13 +33,6 @@ pub fn is_adding(op: u8) -> bool
     op % 2 == 1
 }
 
-// Byte i of a request; 0 past the end.
-fn field_at(q: &[u8], i: usize) -> u8
-    ensures { result ≡ get_or q.now i 0 }
-{
-    q.get(i).copied().unwrap_or(0)
-}
-
 // The fact that an op with its subject, a and v aims at.
 #[tactic(auto, unfolding(crate::specs::Requests::aimed))]
 fn aimed_fact(op: u8, s: u8, a: u8, v: u8) -> Fact
@@ -53,15 +46,20 @@ fn aimed_fact(op: u8, s: u8, a: u8, v: u8) -> Fact
 }
 
 // The request that five bytes write.
-#[tactic(auto, unfolding(crate::specs::Requests::request_of))]
+#[tactic(auto, unfolding(crate::specs::Requests::request_of, lines::specs::Digits::byte_at))]
 pub fn request_of(q: &[u8]) -> Request
     ensures { result ≡ request_of q.now }
 {
-    let op = field_at(q, 0);
+    let op = lines::byte_at(q, 0);
     Request {
         op,
-        role: Role(field_at(q, 1)),
-        fact: aimed_fact(op, field_at(q, 2), field_at(q, 3), field_at(q, 4)),
+        role: Role(lines::byte_at(q, 1)),
+        fact: aimed_fact(
+            op,
+            lines::byte_at(q, 2),
+            lines::byte_at(q, 3),
+            lines::byte_at(q, 4),
+        ),
     }
 }
 
@@ -109,7 +107,7 @@ fn is_value_set(z: sizes::Sizes, ledger: &[u8], start: usize, subjects: u8, i: u
     ensures { result ≡ value_set_good z ledger.now start subjects i }
 {
     let set = sets::number_at(ledger, start + 2 * i, 2);
-    let is_subject = i / 8 < subjects as usize;
+    let is_subject = i / 8 < usize::from(subjects);
     let room = if is_subject {
         room_of(z, (i % 8) as u8)
     } else {
@@ -119,17 +117,11 @@ fn is_value_set(z: sizes::Sizes, ledger: &[u8], start: usize, subjects: u8, i: u
 }
 
 // Whether the first `count` of those sets are within the sizes.
-#[tactic(auto, using(quantifiers::proofs::TurnLaws::all_passed))]
 fn are_value_sets(z: sizes::Sizes, ledger: &[u8], start: usize, subjects: u8, count: usize) -> bool
     requires { (count ≤ 512) × (start + 2 * count ≤ length ledger.now) }
     ensures { result ≡ all_below (value_set_good z ledger.now start subjects) count }
 {
-    for i in 0..count {
-        if !is_value_set(z, ledger, start, subjects, i) {
-            return false;
-        }
-    }
-    true
+    (0..count).all(|i| is_value_set(z, ledger, start, subjects, i))
 }
 
 // Whether the crews of person p are within the sizes.
@@ -139,23 +131,17 @@ fn is_member_set(z: sizes::Sizes, ledger: &[u8], p: usize) -> bool
     ensures { result ≡ member_set_good z ledger.now p }
 {
     let set = sets::number_at(ledger, MEMBERS_AT + 4 * p, 4);
-    let is_person = p < z.persons as usize;
+    let is_person = p < usize::from(z.persons);
     let room = if is_person { z.crews } else { 0 };
     sets::is_within(set, room)
 }
 
 // Whether the crews of every person are.
-#[tactic(auto, using(quantifiers::proofs::TurnLaws::all_passed))]
 fn are_member_sets(z: sizes::Sizes, ledger: &[u8]) -> bool
     requires { length ledger.now ≡ ledger_size }
     ensures { result ≡ all_below (member_set_good z ledger.now) 64 }
 {
-    for p in 0..MEMBER_SETS {
-        if !is_member_set(z, ledger, p) {
-            return false;
-        }
-    }
-    true
+    (0..MEMBER_SETS).all(|p| is_member_set(z, ledger, p))
 }
 
 // Whether a ledger suits the sizes. Refusal 11 falls where it does not.

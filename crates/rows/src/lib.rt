@@ -8,7 +8,7 @@ ghost use Rattle.words.specs.Inner.Words.{column};
 ghost use Rattle.rows.specs.Inner.Rows.{table_bytes, Cleared, value_put, RowPut, RowClear, RowsShown};
 
 use sizes::Sizes;
-use widths::LEVEL_SIZE;
+use widths::{LEVEL_SIZE, VALUES_SIZE};
 
 // Sets the bit of value f % 16 of attribute f / 16 for person p, where it is a value of the book and the person's flags show it.
 fn put_value(z: Sizes, p: u8, held: &[u64], f: u8, out: &mut [u8])
@@ -30,7 +30,7 @@ fn put_row(z: Sizes, p: u8, held: &[u64], out: &mut [u8])
     requires row_clear { RowClear p out.old }
     ensures { RowPut z p (column held.now p) 128 out.old out.new }
 {
-    for f in 0..128 {
+    for f in 0..VALUES_SIZE as u8 {
         put_value(z, p, held, f, out);
     }
 }

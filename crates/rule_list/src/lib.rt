@@ -1,4 +1,6 @@
 // The accepted rules as a lent slice of records, out of which one rule is taken by value.
+// Kept: README.md names this crate, and docs/DECISIONS.md (43) its laws in proofs/ByValue and proofs/Call, which stand. No crate calls
+// `rule_at`: `rules[i]` or an iterator says the same today.
 
 #![tactic(auto)]
 

@@ -4,13 +4,12 @@
 
 ghost use Rattle.std.specs.Prelude.{position, ◌≡◌, ◌≤◌, ◌<◌, length, take};
 ghost use Rattle.facts.specs.Facts.{holds};
-ghost use Rattle.frames.specs.Book.{listed};
 ghost use Rattle.frames.specs.Inner.Fits.{Short};
 ghost use Rattle.quantifiers.specs.Inner.Lists.{Each};
 ghost use Rattle.rules.specs.Rules.{subject_of, a_of, v_of, directly, effectively, in_directly, in_effectively, at_least, term_holds, names, permits};
 
 use facts::{Attr, Crew, Fact, Person};
-use frames::{Rule, Rules, Term};
+use frames::{Rule, Term};
 use requests::Request;
 
 // Who is acted on: a user (U of GURA_G) or a user group (UG).
@@ -139,6 +138,8 @@ pub fn is_named(r: &Rule, q: Request) -> bool
 }
 
 // The terms of a rule.
+// Kept: `Short` as a clause, here, in `denials` and `replay`, not a field of `Rule`: `rule_of` of specs/Book makes a rule of any bytes, of n
+// over 8 too.
 pub fn terms_of(r: &Rule) -> &[Term]
     requires { Short r.now }
     ensures { result.now ≡ take r.now.n r.now.terms }
@@ -166,14 +167,4 @@ pub fn first_permitting(rules: &[Rule], ledger: &[u8], juniors: &[u32], q: Reque
     rules
         .iter()
         .position(|r| does_permit(r, ledger, juniors, q))
-}
-
-// The same of the list by value: its front is lent to the trial.
-#[tactic(auto, unfolding(frames::specs::Book::listed))]
-pub fn first_listed(rs: Rules, ledger: &[u8], juniors: &[u32], q: Request) -> Option<usize>
-    requires count_bound { (rs.count ≤ 512) × Each Short (listed rs) }
-    requires juniors_len { length juniors.now ≡ 32 }
-    ensures { result ≡ position (permits juniors.now (holds ledger.now) q) (listed rs) }
-{
-    first_permitting(&rs.rules[..rs.count], ledger, juniors, q)
 }

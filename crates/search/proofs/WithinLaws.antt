@@ -53,7 +53,7 @@ module _ (b : Contents) (ok : Leveled b) (rs : Rules) (same-rules : b.rules ≡ 
   rules_short = rw same-rules at ok.book.rules_short
 
   pub all_good : GoodRules rs
-  all_good = rules_good b.sizes ok.book.sized rs few room rules_fit rules_short
+  all_good = rules_good b.sizes ok.book.sized rs few (omega arith) rules_fit rules_short
 
   fits_at : (j : ℕ) → j < rs.count → rule_fits b.sizes (rule_at rs j) ≡ true
   unfolding listed rule_at

@@ -2,7 +2,7 @@
 
 #![tactic(auto)]
 
-ghost use Rattle.std.specs.Prelude.{◌≡◌, ◌+◌, ◌*◌, ◌≤◌, ◌<◌, length, get_or};
+ghost use Rattle.std.specs.Prelude.{◌≡◌, ◌+◌, ◌*◌, ◌≤◌, ◌<◌, length};
 ghost use Rattle.quantifiers.specs.Quantifiers.{any_from};
 ghost use Rattle.sets.specs.Sets.{member, put, within, subset, byte_of, member_at, put_at, number_at};
 
@@ -82,8 +82,9 @@ pub fn number_at(s: &[u8], at: usize, w: usize) -> u32
     number
 }
 
-// Kept: beside `number_at`, which tests no bound at each byte, since its callers promise that the bytes are there.
 // The same where the bytes may lie past the end of s: those count as 0.
+// Kept: beside `number_at`: that one asks that the bytes are there, this one that `at` is small; neither could serve the other's callers
+// without asking more.
 pub fn padded_number_at(s: &[u8], at: usize, w: usize) -> u32
     requires { (at < 4294967296) × (w ≤ 4) }
     ensures { result ≡ number_at s.now at w }

@@ -1,18 +1,21 @@
 -- The flags from place 320 on, whether a value or a higher one is effective: what one more fact does to them, and the loops that write them.
 use mathlib.Core.Path.{◌≡◌, refl, sym, ap, subst, fun_ext, ◌∙◌}
 use mathlib.Core.Logic.{dite}
-use mathlib.Core.Bool.{Bool, true, false, not, ◌&&◌, ◌||◌, and-false, or-false}
+use mathlib.Core.Bool.{Bool, true, false, not, ◌&&◌, ◌||◌, beq, and-false, or-false}
 use mathlib.Core.List.{List}
 use Prim.Native.Nat.{ℕ, ◌+◌, ◌-◌, ◌*◌, ◌/◌, ◌%◌, ◌≤◌, ◌<◌}
 use native.Mathlib.Decide.{ℕ_discrete, dec_lt}
 use native.Mathlib.Omega.{arith}
 use lib.Dec.{eqb, leb}
-use lib.ListN.{length, get_or, set, length-set}
-use lib.Seq.{get_or-set_same, get_or-set_other}
+use lib.ListN.{length, get_or, set, take, drop, length-set, length-drop}
+use lib.Seq.{get_or-drop, get_or-set_same, get_or-set_other}
 use borrow.Author.Tests.{eq-eqb, ne_eqb, eqb-true, leb-true, le-leb, lt-leb, lt-ltb, le-ltb}
-use Rattle.quantifiers.specs.Quantifiers.{any_from}
+use Rattle.std.specs.List.{list_any}
+use Rattle.quantifiers.specs.Quantifiers.{any_below, any_from}
 use Rattle.quantifiers.proofs.BoolLaws.{bool_eq, and_both, and_from}
-use Rattle.quantifiers.proofs.BelowLaws.{from_cases, from_end, from_found, from_lower, from_same, from_step}
+use Rattle.quantifiers.proofs.ListLaws.{any-front}
+use Rattle.quantifiers.proofs.PositionLaws.{any_list}
+use Rattle.quantifiers.proofs.BelowLaws.{any_cases, any_from_lem, from_cases, from_end, from_found, from_lower, from_same, from_step}
 use Rattle.shown.specs.Inner.Shown.{Extended, ExtendedAt, Falls, More, Put, Raised, Whole, WholeFacts, direct, extended, not_higher, row, touches, touches_fact}
 use Rattle.shown.specs.Inner.Shown.{visible, visible_fact}
 use Rattle.shown.proofs.ExtendedLaws.{extended_at, extended_low, extended-or, extended_same, higher_place}
@@ -138,12 +141,6 @@ module _ (T : List Bool) (f k : ℕ) where
   abbrev pub handed : ℕ → Bool
   handed w = get_or T (160 * (f - 128) + (16 * (k / 16) + w)) false
 
-  -- No value below place j is handed on, of those from place k on.
-  pub record NoneHanded (j : ℕ) : Type 0 where
-    pub from : k ≤ j
-    pub fits : j ≤ 16 * (k / 16) + 16
-    pub left : any_from handed (k % 16) 16 ≡ any_from handed (j - 16 * (k / 16)) 16
-
   touch_handed : 128 ≤ f → k < 128 → f < 160 → touches T f (320 + k) ≡ any_from handed (k % 16) 16
   unfolding touches touches_fact row
   touch_handed h l m =
@@ -153,30 +150,39 @@ module _ (T : List Bool) (f k : ℕ) where
       let e : 160 + (16 * (k / 16) + w) - 160 ≡ 16 * (k / 16) + w = omega arith in
       rw (le-ltb (160 + (16 * (k / 16) + w)) 160 (omega arith), le-ltb f 128 h, e, ne_eqb (16 * (k / 16) + w) f (omega arith)) refl)
 
-  module _ {j : ℕ} (r : NoneHanded j) where
-    handed-at : j < 16 * (k / 16) + 16 → handed (j - 16 * (k / 16)) ≡ get_or T (160 * (f - 128) + j) false
-    handed-at l = let e : 16 * (k / 16) + (j - 16 * (k / 16)) ≡ j = omega (arith, r.from) in rw e refl
+  -- A membership adds what stands in the row of its crew from place k on, up to the highest value of its attribute: n flags from place m on.
+  pub touch_handed_on : (m n : ℕ) → 128 ≤ f → f < 160 → k < 128 → length T ≡ 5280 → m ≡ 160 * (f - 128) + k → n ≡ 16 * (k / 16) + 16 - k
+      → list_any (λ b. beq b true) (take n (drop m T)) ≡ touches T f (320 + k)
+  touch_handed_on m n low f_fits k_fits size from all =
+      any_list stands (take n (drop m T)) ∙ any-front stands false (drop m T) n (omega (arith, length-drop m T))
+      ∙ bool_eq (any_below at n) (any_from handed (k % 16) 16) up down ∙ sym (touch_handed low k_fits f_fits)
+    where
+      stands : Bool → Bool
+      stands b = beq b true
 
-    step : j < 16 * (k / 16) + 16
-        → any_from handed (j - 16 * (k / 16)) 16 ≡ get_or T (160 * (f - 128) + j) false || any_from handed (j - 16 * (k / 16) + 1) 16
-    step l = from_step handed (j - 16 * (k / 16)) 16 (omega (arith, r.from))
-        ∙ ap (λ (b : Bool). b || any_from handed (j - 16 * (k / 16) + 1) 16) (handed-at l)
+      stands_is : (b : Bool) → stands b ≡ b
+      stands_is true = refl
+      stands_is false = refl
 
-    -- A value that is handed on decides.
-    pub one-handed : 128 ≤ f → f < 160 → k < 128 → j < 16 * (k / 16) + 16 → get_or T (160 * (f - 128) + j) false ≡ true → true ≡ touches T f (320 + k)
-    one-handed h m l i e = sym (touch_handed h l m ∙ r.left ∙ step i ∙ rw e refl)
+      at : ℕ → Bool
+      at j = stands (get_or (drop m T) j false)
 
-    -- One that is not leaves the higher ones to decide.
-    pub none-handed-more : j < 16 * (k / 16) + 16 → get_or T (160 * (f - 128) + j) false ≡ false → NoneHanded (j + 1)
-    none-handed-more i e = record {
-      from = omega (arith, r.from);
-      fits = omega arith;
-      left = r.left ∙ step i ∙ rw e (ap (λ v. any_from handed v 16) (omega (arith, r.from)));
-    }
+      same : (j : ℕ) → at j ≡ handed (k % 16 + j)
+      same j =
+          let place : m + j ≡ 160 * (f - 128) + (16 * (k / 16) + (k % 16 + j)) = omega arith in
+          stands_is (get_or (drop m T) j false) ∙ get_or-drop m T j false ∙ ap (λ (i : ℕ). get_or T i false) place
 
-    -- Behind the highest value none is left.
-    pub none-handed-all : 128 ≤ f → f < 160 → k < 128 → 16 * (k / 16) + 16 ≤ j → false ≡ touches T f (320 + k)
-    none-handed-all h m l i = sym (touch_handed h l m ∙ r.left ∙ from_end handed (j - 16 * (k / 16)) 16 (omega arith))
+      up : any_below at n ≡ true → any_from handed (k % 16) 16 ≡ true
+      up e =
+          let found = any_cases at n e in
+          from_found handed (k % 16) 16 (k % 16 + found.0) (omega arith) (omega (arith, found.1.0)) (sym (same found.0) ∙ found.1.1)
+
+      down : any_from handed (k % 16) 16 ≡ true → any_below at n ≡ true
+      down e =
+          let found = from_cases handed (k % 16) 16 e in
+          let w = found.0 in
+          let on : k % 16 + (w - k % 16) ≡ w = omega (arith, found.1.0) in
+          any_from_lem at n (w - k % 16) (same (w - k % 16) ∙ ap handed on ∙ found.1.1.1) (omega (arith, found.1.0, found.1.1.0))
 
 -- What a membership adds for a value: what its crew hands on of it, and, but for the highest value, what it adds for the next one.
 pub touch_step : (T : List Bool) (f k : ℕ) → 128 ≤ f → f < 160 → k < 128

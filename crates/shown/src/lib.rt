@@ -17,12 +17,8 @@ fn touch_higher(table: &[bool], f: usize, k: usize) -> bool
     if f < VALUES_SIZE {
         return (k / 16 == f / 16) & (k <= f);
     }
-    for j in k..16 * (k / 16) + 16 {
-        if table[LEVEL_SIZE * (f - VALUES_SIZE) + j] {
-            return true;
-        }
-    }
-    false
+    let row = LEVEL_SIZE * (f - VALUES_SIZE);
+    table[row + k..row + 16 * (k / 16) + 16].contains(&true)
 }
 
 // What the fact `f` adds at the place `k`.

@@ -7,7 +7,11 @@ ghost use Rattle.quantifiers.specs.Quantifiers.{all_below};
 ghost use Rattle.sizes.specs.Sizes.{between, values_of, is_value, is_crew_field, count_at, count_good_at, sizes_good, counts_of, sizes_of, value_count, fact_count};
 ghost use Rattle.sizes.specs.Inner.Ranges.{InRange};
 
+use std::array;
+
 // The counts of values are in the attributes' order, 0 for an attribute that the book has not.
+// Kept: an array and a count, as `frames::Rule`; and `InRange` as a clause, here and in `ledger` and `replay`: `sizes_of` of specs/Sizes makes
+// sizes of any bytes.
 #[derive(Clone, Copy)]
 pub struct Sizes {
     pub persons: u8,
@@ -26,7 +30,7 @@ pub fn is_between(lo: u8, hi: u8, n: u8) -> bool
 pub fn values_of(z: Sizes, a: u8) -> u8
     ensures { result ≡ values_of z a }
 {
-    lines::byte_at(&z.counts, a as usize)
+    lines::byte_at(&z.counts, usize::from(a))
 }
 
 // Whether v is a value of attribute a.
@@ -52,16 +56,10 @@ fn count_at(x: &[u8], j: usize) -> u8
 }
 
 // Whether each of the first n counts is in its range.
-#[tactic(auto, using(quantifiers::proofs::TurnLaws::all_passed))]
 fn are_counts(x: &[u8], n: u8) -> bool
     ensures { result ≡ all_below (count_good_at x.now) n }
 {
-    for j in 0..n as usize {
-        if !is_between(1, 16, count_at(x, j)) {
-            return false;
-        }
-    }
-    true
+    (0..n).all(|j| is_between(1, 16, count_at(x, usize::from(j))))
 }
 
 // Whether the sizes of a 01 frame are in their ranges.
@@ -78,11 +76,7 @@ pub fn are_sizes(x: &[u8]) -> bool
 fn counts_of(x: &[u8]) -> [u8; 8]
     ensures { result ≡ counts_of x.now }
 {
-    let mut counts = [0; 8];
-    for (j, count) in counts.iter_mut().enumerate() {
-        *count = count_at(x, j);
-    }
-    counts
+    array::from_fn(|j| count_at(x, j))
 }
 
 // The sizes that a 01 frame writes.
@@ -104,7 +98,7 @@ fn value_count(z: Sizes) -> usize
 {
     let mut n = 0;
     for a in 0..z.attrs {
-        n += values_of(z, a) as usize;
+        n += usize::from(values_of(z, a));
     }
     n
 }
@@ -114,7 +108,7 @@ pub fn fact_count(z: Sizes) -> usize
     requires { InRange z }
     ensures { result ≡ fact_count z }
 {
-    let crews = z.crews as usize;
+    let crews = usize::from(z.crews);
     let values = value_count(z);
     (1 + crews) * values + crews
 }

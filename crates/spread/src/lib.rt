@@ -7,7 +7,7 @@ ghost use Rattle.shown.specs.Inner.Shown.{touches, not_higher};
 ghost use Rattle.widths.specs.Inner.Widths.{level_size, higher_at, flags_size, table_size};
 ghost use Rattle.words.specs.Inner.Words.{Lit};
 
-use widths::{HIGHER_AT, LEVEL_SIZE};
+use widths::{HIGHER_AT, LEVEL_SIZE, VALUES_SIZE};
 
 // Sets the flags of the value f and of the lower values of its attribute, from place 320 on.
 fn raise(f: usize, who: u64, held: &mut [u64])
@@ -37,7 +37,7 @@ fn add_higher(table: &[bool], c: usize, who: u64, held: &mut [u64])
     ensures { Lit who (λ k. leb higher_at k && touches table.now (128 + c) k) held.old held.new }
 {
     let mut on = false;
-    for k in (0..128).rev() {
+    for k in (0..VALUES_SIZE).rev() {
         let higher = on & (k % 16 != 15);
         on = table[LEVEL_SIZE * c + k] | higher;
         words::add(HIGHER_AT + k, words::only(on, who), held);
@@ -45,16 +45,17 @@ fn add_higher(table: &[bool], c: usize, who: u64, held: &mut [u64])
 }
 
 // Puts the fact f in for the persons, with all that follows from it.
+// Kept: beside `build::put_whole`, which does so for one subject in flags, with `add_row` and `shown::raise`; `build` has the reason.
 pub fn put_whole(table: &[bool], f: usize, who: u64, held: &mut [u64])
     requires { (f < level_size) × ((length table.now ≡ table_size) × (length held.old ≡ flags_size)) }
     ensures { Lit who (touches table.now f) held.old held.new }
 {
     words::add(f, who, held);
     words::add(LEVEL_SIZE + f, who, held);
-    if f < 128 {
+    if f < VALUES_SIZE {
         raise(f, who, held);
         return;
     }
-    add_row(table, f - 128, who, held);
-    add_higher(table, f - 128, who, held);
+    add_row(table, f - VALUES_SIZE, who, held);
+    add_higher(table, f - VALUES_SIZE, who, held);
 }

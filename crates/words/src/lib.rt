@@ -6,8 +6,6 @@ ghost use Rattle.std.specs.Prelude.{◌≡◌, false, cond, ◌<◌, eqb, length
 ghost use Rattle.widths.specs.Inner.Widths.{flags_size};
 ghost use Rattle.words.specs.Inner.Words.{column, Lit, ColumnClear, ColumnPut};
 
-use widths::FLAGS_SIZE;
-
 // The persons, or none of them.
 pub fn only(on: bool, who: u64) -> u64
     ensures { result ≡ cond on who 0 }
@@ -38,8 +36,8 @@ pub fn put_column(s: &[bool], p: u8, held: &mut [u64])
     ensures { ColumnPut p s.now held.old held.new }
 {
     let who = 1u64 << p;
-    for k in 0..FLAGS_SIZE {
-        if s[k] {
+    for (k, on) in s.iter().enumerate() {
+        if *on {
             add(k, who, held);
         }
     }

@@ -3,4 +3,4 @@ use Rattle.answers.proofs.WrittenLaws.{Putting}
 use Rattle.answers.proofs.put_bytes.Given as goal
 
 abbrev pub invariant-loop-b : goal.invariant-loop-b
-invariant-loop-b l = Putting l.initial.text l.at l.bytes l.b-index l.text l.end
+invariant-loop-b l = Putting l.initial.text l.bytes l.b-index l.text l.end

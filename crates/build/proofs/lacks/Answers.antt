@@ -1,11 +1,14 @@
--- The first fact that is lacking: none of those before `k` is. Assumes nothing.
-use Rattle.build.proofs.BuildLaws.{none_more, none_found}
+-- The first fact that is lacking: the closure tests a fact. Assumes nothing.
+use Rattle.std.proofs.Common.{rules, tests}
+use Rattle.quantifiers.proofs.RangeLaws.{IsFirstFrom, find_of_range}
+use Rattle.build.proofs.BuildLaws.{lacking, lacks_first, lacks_within}
 use Rattle.build.proofs.lacks.Goals as goal
-use Rattle.build.proofs.lacks.Goals.{else-a-k-via-then-a-k+else-not-b-k, else-a-k-via-else-a-k}
 
-pub returns-then-not-b-k-clause-first : goal.returns-then-not-b-k-clause-first
-returns-then-not-b-k-clause-first c = none_found c.loop-k.invariant c.loop-k-test.true (rw (c.if-a-k.true, c.if-not-b-k.true))
+found : (c : goal.After-find) → IsFirstFrom (lacking c.args.a.now c.args.b.now) 0 160 c.find.result
+found c = find_of_range (lacking c.args.a.now c.args.b.now) 160 _ _ c.find.ensures.ran (cc) (λ x b q k. search (rules, tests))
 
-pub loop-k-preserved : goal.loop-k-preserved
-loop-k-preserved c = none_more c.loop-k.invariant c.loop-k-test.true
-    (elim c.else-a-k.branch [ else-a-k-via-then-a-k+else-not-b-k w ↦ rw (w.if-a-k.true, w.if-not-b-k.false) | else-a-k-via-else-a-k w ↦ rw w.if-a-k.false ])
+pub returns-clause-first : goal.returns-clause-first
+returns-clause-first c = lacks_first c.args.a.now c.args.b.now c.find.result (found c)
+
+pub returns-clause-within : goal.returns-clause-within
+returns-clause-within c = lacks_within c.args.a.now c.args.b.now c.find.result (found c)

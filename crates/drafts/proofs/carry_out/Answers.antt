@@ -14,9 +14,9 @@ loop-i-preserved c =
     let from = c.args.from in
     let taken = 5 * (from + i) + 5 - 5 * (from + i) in
     let five : taken ≡ 5 = omega arith in
-    carry_more c.args.ledger.now c.loop-i.ledger _ c.args.draft.now from i taken _ _
+    carry_more c.args.ledger.now c.loop-i.ledger _ c.args.draft.now from i taken _
     (omega (arith, c.loop-i-test.true, c.requires)) five c.request_of-request.ensures
-    c.is_adding-on.ensures c.put_fact.ensures c.loop-i.invariant
+    c.carry_out.ensures c.loop-i.invariant
 
 pub returns : goal.returns
 returns c =

@@ -8,11 +8,11 @@ use Rattle.flags.proofs.BadLaws.{banned-none, banned_more}
 use Rattle.flags.proofs.add_banned.Goals as goal
 
 pub loop-w-init : goal.loop-w-init
-loop-w-init c = banned-none c.args.bad.now c.args.q
+loop-w-init c = banned-none c.args.bad.now c.args.q.now
 
 pub loop-w-preserved : goal.loop-w-preserved
 unfolding want_of
 loop-w-preserved c =
-    let l : c.loop-w.w-index < c.args.q.q = omega arith in
-    banned_more c.args.q c.loop-w.w-index c.loop-w.invariant
-    (rw (get_or-take c.args.q.q c.args.q.wants c.loop-w.w-index no_want l) at c.add_want.ensures)
+    let l : c.loop-w.w-index < c.args.q.now.q = omega arith in
+    banned_more c.args.q.now c.loop-w.w-index c.loop-w.invariant
+    (rw (get_or-take c.args.q.now.q c.args.q.now.wants c.loop-w.w-index no_want l) at c.add_want.ensures)

@@ -1,9 +1,9 @@
 -- `frames::is_beyond` meets its contract: some rule is none of such a book's, or two have one key. Assumes nothing.
-use Rattle.std.proofs.Common.{rules, tests, ◌≡◌, not, ◌||◌, refl, sym, ◌∙◌}
+use Rattle.std.proofs.Common.{rules, tests, ◌≡◌, refl, sym, ◌∙◌}
 use Rattle.std.proofs.lemmas.Iterator.{YieldsList-from_slice}
 use Rattle.std.proofs.lemmas.Iterator.Search.{all_from_yields_List}
 use Rattle.quantifiers.specs.Quantifiers.{all}
-use Rattle.reader.proofs.DecodingLaws.{all_list}
+use Rattle.quantifiers.proofs.PositionLaws.{all_list}
 use Rattle.frames.specs.Limits.{growing}
 use Rattle.frames.proofs.is_beyond.Goals as goal
 use Rattle.frames.proofs.is_beyond.Goals.{After-all}

@@ -1,10 +1,10 @@
 -- `frames::is_growing` meets its contract: the op, and each of the first n terms, is one that such a book may have. Assumes nothing.
-use Rattle.std.proofs.Common.{rules, tests, Bool, ◌||◌, ◌&&◌, ◌≡◌, eqb, refl, sym, ◌∙◌}
+use Rattle.std.proofs.Common.{rules, tests, Bool, ◌||◌, ◌≡◌, eqb, refl, sym, ◌∙◌}
 use Rattle.std.proofs.lemmas.Iterator.{YieldsList-from_slice, YieldsList-from_take}
 use Rattle.std.proofs.lemmas.Iterator.Search.{all_from_yields_List}
 use lib.ListN.{take}
 use Rattle.quantifiers.specs.Quantifiers.{all}
-use Rattle.reader.proofs.DecodingLaws.{all_list}
+use Rattle.quantifiers.proofs.PositionLaws.{all_list}
 use Rattle.frames.specs.declared.Term.{Term}
 use Rattle.frames.specs.Limits.{growing, is_not}
 use Rattle.frames.proofs.is_growing.Goals as goal

@@ -3,7 +3,7 @@ use Rattle.std.proofs.Common.{rules, tests, ◌∙◌}
 use Rattle.std.proofs.lemmas.Iterator.{YieldsList-from_slice, YieldsList-from_take}
 use Rattle.std.proofs.lemmas.Iterator.Search.{all_from_yields_List}
 use mathlib.Core.Bool.{not}
-use Rattle.reader.proofs.DecodingLaws.{all_list}
+use Rattle.quantifiers.proofs.PositionLaws.{all_list}
 use Rattle.frames.specs.Limits.{plain, is_not}
 use Rattle.frames.proofs.is_plain.Goals as goal
 

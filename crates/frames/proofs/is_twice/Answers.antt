@@ -1,12 +1,13 @@
 -- `frames::is_twice` meets its contract: of the rules from some one on it is left to say whether two have the same op, a and v, since none
 -- before them has those of one behind it (`twice_turn`). Assumes nothing.
-use Rattle.std.proofs.Common.{rules, tests, Bool, ◌||◌, ◌≡◌, ◌-◌, [], refl, sym, ◌∙◌, get_or, take, drop, length}
+use Rattle.std.proofs.Common.{rules, tests, ◌||◌, ◌≡◌, ◌-◌, [], refl, sym, ◌∙◌, get_or, take, drop, length}
 use Rattle.std.proofs.lemmas.Iterator.{YieldsList-from_slice}
 use Rattle.std.proofs.lemmas.Iterator.Search.{any_from_yields_List}
 use Rattle.quantifiers.specs.Quantifiers.{any}
+use Rattle.quantifiers.proofs.PositionLaws.{any_list}
 use Rattle.frames.specs.declared.Rule.{Rule}
 use Rattle.frames.specs.Limits.{twice, same_key}
-use Rattle.frames.proofs.LimitLaws.{any_list, twice_turn, twice_none}
+use Rattle.frames.proofs.LimitLaws.{twice_turn, twice_none}
 use Rattle.frames.proofs.is_twice.Goals as goal
 use Rattle.frames.proofs.is_twice.Goals.{After-any}
 

@@ -1,25 +1,22 @@
 -- `frames::read_lines` meets its contract. The invariant `Held` says that what is left of the book decides the answer; the
 -- measure is what is left of its length. Each turn is one law of WalkLaws, by the kind of its frame. Assumes nothing.
-use Rattle.std.specs.Prelude.{Ok, Err, Some}
+use Rattle.std.proofs.Common.{rules}
+use Rattle.std.specs.Prelude.{Some}
 use Rattle.reader.specs.declared.Frame.TheVariants.{Bytes}
 use mathlib.Core.Path.{◌≡◌, refl, sym, ap, ◌∙◌}
 use mathlib.Core.Bool.{Bool, ◌&&◌}
 use borrow.Author.Tests.{not-true, not-false}
-use Prim.Native.Nat.{ℕ, ◌-◌, ◌<◌}
 use native.Mathlib.Omega.{arith}
-use lib.ListN.{length, set, take}
-use Rattle.reader.proofs.ReadLaws.{read_size, read_bytes}
+use lib.ListN.{set, take}
+use Rattle.reader.proofs.ReadLaws.{read_size}
 use Rattle.lines.specs.Digits.{byte_at}
 use Rattle.gate.specs.Gate.{verdict, Good}
-use Rattle.gate.specs.declared.Fault.{Fault}
 use Rattle.gate.proofs.PassedLaws.{rule_passed}
 use Rattle.facts.specs.Facts.{no_facts}
-use Rattle.frames.specs.declared.Refusal.TheVariants.{BadLine}
 use Rattle.frames.specs.Limits.{plain}
-use Rattle.frames.specs.Book.{refused, contents_of, listed, nothing, juniors_after, facts_after}
-use Rattle.frames.specs.Inner.Judged.{judged}
+use Rattle.frames.specs.Book.{contents_of, listed, nothing}
 use Rattle.frames.proofs.WalkLaws.{Framed, held, judged-bad, judged-good, at_end-bad, at_end-whole, at_end-good}
-use Rattle.frames.proofs.WalkLaws.{line-framed, line-less, edge-good, fact-good, rule_counted, rule_good_lem, other-good, edge_small}
+use Rattle.frames.proofs.WalkLaws.{line-framed, edge-good, fact-good, rule_counted, rule_good_lem, other-good, edge_small}
 use Rattle.frames.proofs.LimitLaws.{none-plain}
 use Rattle.frames.proofs.read_lines.Goals as goal
 use Rattle.frames.proofs.read_lines.Goals.{After-byte_at, in-2, in-4, in-3, in_default}
@@ -35,7 +32,7 @@ loop-cursor-init c =
         counted = omega arith;
         crewed = omega arith;
         edged = refl;
-        roomed = refl;
+        roomed = search rules;
         unmarked = none-plain;
         left = refl;
       },
@@ -63,9 +60,9 @@ enter_edge-requires-clause-x_value c =
     let kind = sym c.byte_at.ensures ∙ c.in-2.is in
     (kind, edge_small at.known _ (good (goal.at.enter_edge-requires-clause-x_value c).After-byte_at).1.1 at.invariant.0.crewed kind)
 
-pub bounds-rules-known : goal.bounds-rules-known
-bounds-rules-known c =
-    (rule_passed c.loop-cursor.known _ (good (goal.at.bounds-rules-known c).After-byte_at).1.1 (sym c.byte_at.ensures ∙ c.in-3.is)).1.1
+pub bounds-b-known : goal.bounds-b-known
+bounds-b-known c =
+    (rule_passed c.loop-cursor.known _ (good (goal.at.bounds-b-known c).After-byte_at).1.1 (sym c.byte_at.ensures ∙ c.in-3.is)).1.1
 
 pub loop-cursor-preserved : goal.loop-cursor-preserved
 loop-cursor-preserved c =
@@ -77,26 +74,24 @@ loop-cursor-preserved c =
     let is : c.byte_at.result ≡ byte_at x 0 = c.byte_at.ensures in
     elim c.match-byte_at.branch [
       | in-2 w ↦
-          let m : c.match-byte_at.juniors ≡ juniors_after at.juniors x = cc in
-          rw (read.next, w.known-is, w.query-is, w.facts-is, w.rules-is, w.unmarked-is)
-          (edge-good at.invariant.0 line.1.0 line.1.1 (sym is ∙ w.in-2.is) m, size)
+          rw (read.next, w.b-is, w.known-is, w.unmarked-is)
+          (edge-good at.invariant.0 line.1.0 line.1.1 (sym is ∙ w.in-2.is) w.enter_edge.ensures, size)
       | in-4 w ↦
-          let fs : c.match-byte_at.facts ≡ facts_after at.facts x = cc in
-          rw (read.next, w.known-is, w.query-is, w.juniors-is, w.rules-is, w.unmarked-is)
-          (fact-good at.invariant.0 line.1.0 line.1.1 (sym is ∙ w.in-4.is) fs, size)
+          rw (read.next, w.b-is, w.known-is, w.unmarked-is)
+          (fact-good at.invariant.0 line.1.0 line.1.1 (sym is ∙ w.in-4.is) w.enter_fact.ensures, size)
       | in-3 w ↦
           let kind = sym is ∙ w.in-3.is in
           let rule = w.rule_of-rule.ensures in
-          rw (read.next, w.query-is, w.juniors-is, w.facts-is) (
+          rw (read.next, w.b-is) (
             rule_good_lem at.invariant.0 line.1.0 line.1.1 kind (w.known-is ∙ rule_counted at.known _ kind)
-                (w.rules-is ∙ ap (set at.rules at.known.count) rule)
+                (ap (set at.b.rules.rules at.known.count) rule)
                 (w.unmarked-is ∙ ap (λ (u : Bool). at.unmarked && u) (w.is_plain-unmarked.ensures ∙ ap plain rule)),
             size,
           )
       | in_default w ↦
-          rw (read.next, w.juniors-is, w.facts-is, w.rules-is, w.unmarked-is) (
+          rw (read.next, w.b-is, w.unmarked-is) (
             other-good at.invariant.0 line.1.0 line.1.1 (λ z. let e : c.byte_at.result ≡ 2 = is ∙ z in omega arith) (λ z. let e : c.byte_at.result ≡ 4 = is ∙ z in omega arith)
-                (λ z. let e : c.byte_at.result ≡ 3 = is ∙ z in omega arith) (w.known-is ∙ w.known_after-known.ensures) (w.query-is ∙ w.query_after-query.ensures),
+                (λ z. let e : c.byte_at.result ≡ 3 = is ∙ z in omega arith) (w.known-is ∙ w.known_after-known.ensures) w.query_after-b.ensures,
             size,
           )
     ]

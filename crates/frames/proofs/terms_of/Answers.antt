@@ -1,9 +1,9 @@
--- `frames::terms_of` meets its contract: all eight places are written. Assumes nothing.
-use Rattle.std.proofs.Common.{arith}
-use Rattle.std.proofs.lemmas.List.FromFn.{fill_by_all}
+-- `frames::terms_of` meets its contract: std fills the eight places one by one. Assumes nothing.
+use Rattle.std.proofs.Common.{rules, tests}
+use Rattle.quantifiers.proofs.FilledLaws.{filled}
 use Rattle.frames.specs.Book.{term_at, terms_of, no_term}
 use Rattle.frames.proofs.terms_of.Goals as goal
 
 pub returns : goal.returns
 unfolding terms_of
-returns c = fill_by_all (term_at c.args.x.now) _ 8 no_term c.loop-j.invariant.size (λ k h. c.loop-j.invariant.written k (omega arith))
+returns c = filled _ (term_at c.args.x.now) _ _ 8 (λ i y q h e. search (rules, tests)) no_term c.from_fn.ensures.items

@@ -1,9 +1,8 @@
--- `gate::are_rising` meets its contract: at a place where the attribute does not rise not all do. Assumes nothing.
-use native.Mathlib.Omega.{arith}
-use borrow.Author.Tests.{le-ltb}
-use Rattle.quantifiers.proofs.TurnLaws.{one_failed}
+-- `gate::are_rising` meets its contract: the closure tests an attribute and the next one. Assumes nothing.
+use Rattle.std.proofs.Common.{rules, tests, ◌-◌}
+use Rattle.quantifiers.proofs.RangeLaws.{all_of_range}
+use Rattle.gate.specs.Gate.{rises_at}
 use Rattle.gate.proofs.are_rising.Goals as goal
 
-pub returns-then-byte_at : goal.returns-then-byte_at
-returns-then-byte_at c =
-    one_failed _ _ c.loop-j.j (omega arith) (rw (← c.byte_at.ensures, ← c.byte_at-in-loop-j.ensures) (le-ltb _ _ c.if-byte_at.true))
+pub returns : goal.returns
+returns c = all_of_range (rises_at c.args.x.now) (c.args.q - 1) c.all.ensures.ran (cc) (λ x b q k. search (rules, tests))

@@ -1,8 +1,8 @@
--- `gate::are_value_terms` meets its contract: at a term about a crew not all are about a value. Assumes nothing.
-use mathlib.Core.Path.{sym}
-use Rattle.quantifiers.proofs.TurnLaws.{one_failed}
+-- `gate::are_value_terms` meets its contract: the closure tests a term. Assumes nothing.
+use Rattle.std.proofs.Common.{rules, tests}
+use Rattle.quantifiers.proofs.RangeLaws.{all_of_range}
+use Rattle.gate.specs.Gate.{value_term_at}
 use Rattle.gate.proofs.are_value_terms.Goals as goal
 
-pub returns-then-not-asks_value : goal.returns-then-not-asks_value
-returns-then-not-asks_value c =
-    one_failed _ _ c.loop-j.j c.loop-j-test.true (rw (← c.byte_at-kind.ensures) (sym c.if-not-asks_value.ensures))
+pub returns : goal.returns
+returns c = all_of_range (value_term_at c.args.x.now) c.args.n c.all.ensures.ran (cc) (λ x b q k. search (rules, tests))

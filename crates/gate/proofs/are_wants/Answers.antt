@@ -1,7 +1,8 @@
--- `gate::are_wants` meets its contract: at an attribute and set that did not pass not all do. Assumes nothing.
-use mathlib.Core.Path.{sym}
-use Rattle.quantifiers.proofs.TurnLaws.{one_failed}
+-- `gate::are_wants` meets its contract: the closure tests an attribute and its set. Assumes nothing.
+use Rattle.std.proofs.Common.{rules, tests}
+use Rattle.quantifiers.proofs.RangeLaws.{all_of_range}
+use Rattle.gate.specs.Gate.{want_good_at}
 use Rattle.gate.proofs.are_wants.Goals as goal
 
-pub returns-then-not-is_want_at : goal.returns-then-not-is_want_at
-returns-then-not-is_want_at c = one_failed _ _ c.loop-j.j c.loop-j-test.true (sym c.if-not-is_want_at.ensures)
+pub returns : goal.returns
+returns c = all_of_range (want_good_at c.args.z c.args.x.now) c.args.q c.all.ensures.ran (cc) (λ x b q k. search (rules, tests))

@@ -1,7 +1,8 @@
--- `grow::barred` meets its contract: none of the first `h` facts bars `f`. Assumes nothing.
-use mathlib.Core.Path.{sym, ◌∙◌}
-use Rattle.quantifiers.proofs.TurnLaws.{one_passed}
+-- `grow::barred` meets its contract: the closure tests a fact. Assumes nothing.
+use Rattle.grow.specs.Inner.Tables.{bars_at}
+use Rattle.std.proofs.Common.{rules, tests}
+use Rattle.quantifiers.proofs.RangeLaws.{any_of_range}
 use Rattle.grow.proofs.barred.Goals as goal
 
-pub returns-then-bars : goal.returns-then-bars
-returns-then-bars c = one_passed _ 160 _ c.loop-h-test.true (sym c.bars.ensures ∙ c.if-bars.true)
+pub returns : goal.returns
+returns c = any_of_range (bars_at c.args.ts.now c.args.d.now c.args.x.now c.args.f) 160 c.any.ensures.ran (cc) (λ x b q k. search (rules, tests))

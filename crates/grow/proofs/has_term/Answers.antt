@@ -1,19 +1,11 @@
--- `grow::has_term` meets its contract: none of the first `j` terms is `k`. Assumes nothing.
-use mathlib.Core.Path.{sym, ◌∙◌}
-use borrow.Author.Count.{below_more}
-use borrow.Author.Tests.{ne_eqb}
-use Rattle.quantifiers.proofs.TurnLaws.{none_passed}
-use Rattle.grow.specs.Inner.Tables.{says}
-use Rattle.grow.proofs.TableLaws.{says_from}
-use native.Mathlib.Omega.{arith}
+-- `grow::has_term` meets its contract: the closure tests a term. Assumes nothing.
+use Prim.Native.Nat.{◌+◌, ◌*◌}
+use lib.Dec.{eqb}
+use Rattle.grow.specs.Inner.Tables.{says, term}
+use Rattle.std.proofs.Common.{rules, tests}
+use Rattle.quantifiers.proofs.RangeLaws.{any_of_range}
 use Rattle.grow.proofs.has_term.Goals as goal
-
-pub returns-then-from-k : goal.returns-then-from-k
-returns-then-from-k c = sym (says_from _ _ _ _ c.loop-j-test.true (sym c.from.ensures ∙ c.if-from-k.true))
-
-pub loop-j-preserved : goal.loop-j-preserved
-loop-j-preserved c = below_more _ _ c.loop-j.invariant (ne_eqb _ _ (λ e. c.if-from-k.false (c.from.ensures ∙ e)))
 
 pub returns : goal.returns
 unfolding says
-returns c = none_passed _ 8 (λ i l. c.loop-j.invariant i (omega arith))
+returns c = any_of_range (λ j. eqb (term c.args.ts.now (8 * c.args.f + j)) c.args.k) 8 c.any.ensures.ran (cc) (λ x b q k. search (rules, tests))

@@ -40,7 +40,7 @@ unfolding is_junior
 juniors_tried-returns-in_err-tried t c =
     let js = c.args.juniors.now in
     let P = sought (holds c.args.ledger.now) c.args.w in
-    let direct : is_junior js c.args.c c.loop-j.j ≡ true = sym c.has-direct.ensures ∙ c.if-direct.true in
+    let direct : is_junior js c.args.c c.loop-j.j ≡ true = rw c.from.ensures at (sym c.has-direct.ensures ∙ c.if-direct.true) in
     rw c.from_residual.ensures (junior_hit js P c.args.c c.loop-j.j c.args.c c.loop-j-test.true direct c.in_err-tried.ensures)
 
 pub juniors_tried-loop-j-preserved : goal.juniors_tried-loop-j-preserved
@@ -58,7 +58,7 @@ juniors_tried-loop-j-preserved t c =
           | juniors_tried-else-direct-via-then-direct+else-not-has w' ↦
               junior_tried js P c.args.c c.loop-j.j c.loop-j.tried none tried (sym w'.has.ensures ∙ w'.if-not-has.false)
           | juniors_tried-else-direct-via-else-direct w' ↦
-              junior_other js P c.args.c c.loop-j.j none (sym c.has-direct.ensures ∙ w'.if-direct.false)
+              junior_other js P c.args.c c.loop-j.j none (rw c.from.ensures at (sym c.has-direct.ensures ∙ w'.if-direct.false))
         ],
         rw w.tried-is tried,
       )

@@ -1,15 +1,15 @@
 -- `ledger::open` meets its contract: a refused book is refused with its number and line, an accepted one is opened. Assumes nothing.
 use Rattle.std.proofs.lemmas.Result.{err_from_is_err_and}
-use Rattle.frames.proofs.BookLaws.{read_refused, read_accepted}
+use Rattle.frames.proofs.BookLaws.{into_refused, into_accepted}
 use Rattle.ledger.specs.Ledger.{open_reply}
 use Rattle.ledger.proofs.open.Goals as goal
 
-pub returns-in_err-read : goal.returns-in_err-read
+pub returns-in_err-read_into : goal.returns-in_err-read_into
 unfolding open_reply
-returns-in_err-read c =
+returns-in_err-read_into c =
     let p = err_from_is_err_and c.from_residual.result c.from_residual.ensures.1 in
-    rw (p.1, p.2, read_refused c.args.book.now c.in_err-read.field-0.0 c.in_err-read.ensures)
+    rw (p.1, p.2, into_refused c.args.book.now c.in_err-read_into.field-0.0 c.in_err-read_into.ensures.told)
 
 pub returns : goal.returns
 unfolding open_reply
-returns c = rw (read_accepted c.args.book.now c.in_ok-read.field-0 c.in_ok-read.ensures) c.open_in.ensures
+returns c = rw (into_accepted c.args.book.now _ c.in_ok-read_into.ensures.told) c.open_in.ensures

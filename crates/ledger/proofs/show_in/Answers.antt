@@ -36,5 +36,5 @@ returns c =
       lt-ltb _ _ c.if-z-p.false,
       ← c.value_sets-sets.ensures,
     ) (ap (shown c.value_sets-sets.result)
-    (c.set_below-crews.ensures (person_in c.args.b.juniors (holds c.args.ledger.now) c.args.p)
+    (c.set_below-crews.ensures (person_in c.args.b.now.juniors (holds c.args.ledger.now) c.args.p)
     (λ v on below gives. search rules)))

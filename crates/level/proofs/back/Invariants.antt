@@ -6,8 +6,8 @@ use Rattle.level.proofs.TurnLaws.{steps_left}
 use Rattle.level.proofs.BackSweepLaws.{KeptBack, Backing}
 use Rattle.level.proofs.back.Given as goal
 
-abbrev pub invariant-loop-quiet : goal.invariant-loop-quiet
-invariant-loop-quiet l = KeptBack (moves_in l.dels) l.subject l.table l.bad l.x l.y l.end l.initial.out l.out l.at × Backing (moves_in l.dels) l.table l.x l.y (length l.deleted) l.tried l.i l.quiet
+abbrev pub invariant-loop-turn : goal.invariant-loop-turn
+invariant-loop-turn l = KeptBack (moves_in l.sweep.moves.now) l.sweep.subject l.sweep.table.now l.bad l.x l.y l.end l.initial.out l.out l.at × Backing (moves_in l.sweep.moves.now) l.sweep.table.now l.x l.y (length l.deleted) l.turn.tried l.turn.i l.turn.quiet
 
-abbrev pub decreases-loop-quiet : goal.decreases-loop-quiet
-decreases-loop-quiet l = steps_left l.count l.at l.tried l.quiet
+abbrev pub decreases-loop-turn : goal.decreases-loop-turn
+decreases-loop-turn l = steps_left l.count l.at l.turn.tried l.turn.quiet

@@ -8,8 +8,8 @@ use Rattle.level.proofs.TurnLaws.{steps_left}
 use Rattle.level.proofs.SweepLaws.{Kept, Adding}
 use Rattle.level.proofs.close.Given as goal
 
-abbrev pub invariant-loop-quiet : goal.invariant-loop-quiet
-invariant-loop-quiet l = Kept (moves_in l.adds) l.subject l.table l.allowed l.initial.x l.x l.start l.initial.out l.out l.n × Adding (moves_in l.adds) l.allowed l.x (length l.added) l.tried l.i l.quiet
+abbrev pub invariant-loop-turn : goal.invariant-loop-turn
+invariant-loop-turn l = Kept (moves_in l.sweep.moves.now) l.sweep.subject l.sweep.table.now l.allowed l.initial.x l.x l.start l.initial.out l.out l.n × Adding (moves_in l.sweep.moves.now) l.allowed l.x (length l.added) l.turn.tried l.turn.i l.turn.quiet
 
-abbrev pub decreases-loop-quiet : goal.decreases-loop-quiet
-decreases-loop-quiet l = steps_left l.count (160 - l.n) l.tried l.quiet
+abbrev pub decreases-loop-turn : goal.decreases-loop-turn
+decreases-loop-turn l = steps_left l.count (160 - l.n) l.turn.tried l.turn.quiet

@@ -5,6 +5,5 @@ use Rattle.level.proofs.move_of.Goals as goal
 
 pub returns : goal.returns
 returns c =
-    let good = c.well_formed in
     move_made c.loop-j.invariant c.requires c.loop-j-test.false
-    (omega (arith, good), (omega (arith, good), (omega (arith, good), omega (arith, good)))) c.aim.result c.aim.ensures
+    (omega arith, (omega arith, (omega arith, omega arith))) c.aim.result c.aim.ensures

@@ -1,4 +1,5 @@
 -- A round: additions closed, forbidden facts left out, deletions closed backwards (`rounded`). Assumes nothing.
+use mathlib.Core.Path.{refl}
 use Rattle.level.proofs.SettleLaws.{ready, ready_back, rounded}
 use Rattle.level.proofs.round.Goals as goal
 
@@ -21,6 +22,13 @@ back-at-requires c =
       deleted_len = c.requires.names_deleted;
     }
 
-pub returns : goal.returns
-returns c =
+pub returns-clause-rounded : goal.returns-clause-rounded
+returns-clause-rounded c =
     rounded c.requires.lengths c.copy_from_slice.ensures.after c.close-ups.ensures c.strip.ensures c.back-at.ensures
+
+pub returns-clause-lent : goal.returns-clause-lent
+returns-clause-lent c =
+    record {
+      buffers = record { up = refl; down = refl; length_up = c.close-ups.ensures.size; length_down = c.back-at.ensures.size };
+      ends = refl;
+    }

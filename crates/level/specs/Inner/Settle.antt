@@ -1,7 +1,10 @@
 -- The rounds of a level, and what a level comes to: a settled set with its requests, or a starting fact that no clear chain can keep.
-use Rattle.std.specs.Prelude.{Option, Some, None, ◌≡◌, Bool, true, false, List, ℕ, ◌+◌, ◌-◌, ◌*◌, ◌≤◌, ◌<◌, length}
+use Rattle.std.specs.Prelude.{Option, Some, None, ◌≡◌, Bool, true, false, List, ℕ, ◌+◌, ◌-◌, ◌*◌, ◌≤◌, ◌<◌, length, replicate}
 use Rattle.widths.specs.Inner.Widths.{level_size, flags_size, table_size, depot_size}
+use Rattle.level.specs.declared.Draft.{Draft}
 use Rattle.level.specs.declared.Ends.{Ends}
+use Rattle.level.specs.declared.Fired.{Fired}
+use Rattle.level.specs.declared.Work.{Work}
 use Rattle.theory.specs.Inner.Facts.{State, ◌⊆◌, minus}
 use Rattle.theory.specs.Inner.Plan.{World, Brings, AddClosed, BackClosed}
 use Rattle.theory.specs.Inner.Sweep.{Added, PutBack}
@@ -9,6 +12,32 @@ use Rattle.level.specs.Inner.Moves.{Moves, Sound}
 use Rattle.shown.specs.Inner.Shown.{direct, Whole}
 use Rattle.level.specs.Inner.World.{world}
 use Rattle.level.specs.Inner.Notes.{ask_at, asks}
+
+-- No move has fired: 512 is the number of none.
+abbrev pub none_fired : Fired
+none_fired = record { added = replicate level_size 512; deleted = replicate level_size 512 }
+
+-- Before the first round every fact may be added, and no flag is set.
+abbrev pub new_work : Work
+new_work =
+    record {
+      u = replicate level_size true;
+      x = replicate flags_size false;
+      y = replicate flags_size false;
+      d = replicate level_size false;
+    }
+
+-- The two buffers lent are the same, and as long as they were.
+pub record SameBuffers (d e : Draft) : Type 0 where
+  pub up : e.up.ghost_name ≡ d.up.ghost_name
+  pub down : e.down.ghost_name ≡ d.down.ghost_name
+  pub length_up : length e.up.now ≡ length d.up.now
+  pub length_down : length e.down.now ≡ length d.down.now
+
+-- So are they, and the plan drawn so far ends where it did.
+pub record SameDraft (d e : Draft) : Type 0 where
+  pub buffers : SameBuffers d e
+  pub ends : e.ends ≡ d.ends
 
 -- The bounds that the rounds of a level come to, from what is allowed at first: each follows from the one before by closed additions and closed deletions.
 pub data Rounds (W : World) (bad s u₀ : State) : State → Type 0 where
@@ -79,7 +108,6 @@ pub record Stuck (adds dels : Moves) (p : ℕ) (T bad s u₀ : List Bool) : Type
   pub held : direct s fact ≡ true
   pub missing : bound fact ≡ false
 
--- What the level comes to, found or not.
 -- Whether a level is settled, how many requests were added, and where the deletions begin: at the end, where it is not.
 abbrev pub found_of : Option Ends → Bool
 found_of (Some e) = true
@@ -93,6 +121,7 @@ abbrev pub at_of : Option Ends → ℕ
 at_of (Some e) = e.at
 at_of None = depot_size
 
+-- What the level comes to, found or not.
 pub record Result (adds dels : Moves) (p : ℕ) (T bad s u₀ x : List Bool)
     (start : ℕ) (up₀ up : List ℕ) (end : ℕ) (down₀ down : List ℕ) (ok : Bool) (n at : ℕ) : Type 0 where
   pub found : ok ≡ true → Settled adds dels p T bad s u₀ x start up₀ up n end down₀ down at

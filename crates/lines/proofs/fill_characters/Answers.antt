@@ -14,7 +14,7 @@ loop-c-preserved c =
     let last : c.loop-c.c ≤ 70 = omega (arith, c.loop-c-test.true) in
     let is = c.digit_of-v.ensures in
     elim c.if-v-lt16.branch [
-      | then-v-lt16 w ↦ rw w.table-is (encode_digit _ _ c.loop-c.invariant last _ is w.if-v-lt16.true)
+      | then-v-lt16 w ↦ rw (w.table-is, w.from.ensures) (encode_digit _ _ c.loop-c.invariant last _ is w.if-v-lt16.true)
       | else-v-lt16 w ↦ rw w.table-is (encode_other _ _ c.loop-c.invariant last _ is w.if-v-lt16.false)
     ]
 

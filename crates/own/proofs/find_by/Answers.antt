@@ -18,17 +18,17 @@ pub returns-in_err-n : goal.returns-in_err-n
 unfolding contents_of
 returns-in_err-n c =
     rw c.from_residual.ensures
-    (found_none c.args.b c.requires.0 c.requires.1.0 c.fill_tables.ensures c.start_flags.ensures
+    (found_none c.args.b.now c.requires.0 c.requires.1.0 c.fill_tables.ensures c.start_flags.ensures
     c.wanted.ensures c.in_err-n.ensures _ refl)
 
 pub write_requests-requires : goal.write_requests-requires
 unfolding contents_of
 write_requests-requires c =
-    found_ready c.args.b c.requires.0 c.requires.1.0 c.fill_tables.ensures c.start_flags.ensures
+    found_ready c.args.b.now c.requires.0 c.requires.1.0 c.fill_tables.ensures c.start_flags.ensures
     c.wanted.ensures c.in_ok-n.ensures (omega arith) c.requires.1.1 refl
 
 pub returns : goal.returns
 unfolding contents_of
 returns c =
-    found_way c.args.b c.requires.0 c.requires.1.0 c.fill_tables.ensures c.start_flags.ensures
+    found_way c.args.b.now c.requires.0 c.requires.1.0 c.fill_tables.ensures c.start_flags.ensures
     c.wanted.ensures c.in_ok-n.ensures c.write_requests.ensures refl

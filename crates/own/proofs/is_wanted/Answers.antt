@@ -5,8 +5,8 @@ use Rattle.own.proofs.is_wanted.Goals as goal
 pub wants_value-requires : goal.wants_value-requires
 wants_value-requires c = c.requires
 
-pub returns-then-f-lt128 : goal.returns-then-f-lt128
-returns-then-f-lt128 c = wanted_value _ _ c.if-f-lt128.true c.wants_value.ensures
+pub returns-then-f-values : goal.returns-then-f-values
+returns-then-f-values c = wanted_value _ _ c.if-f-values.true c.wants_value.ensures
 
-pub returns-else-f-lt128 : goal.returns-else-f-lt128
-returns-else-f-lt128 c = wanted_crew _ _ c.if-f-lt128.false c.has.ensures
+pub returns-else-f-values : goal.returns-else-f-values
+returns-else-f-values c = wanted_crew _ _ c.if-f-values.false c.has.ensures

@@ -9,7 +9,7 @@ pub settle_crews-requires : goal.settle_crews-requires
 settle_crews-requires c =
     let pre = c.requires in
     record {
-      crew_parts = parts_of c.args.b pre.leveled.0 pre.side_moves.0;
+      crew_parts = parts_of c.args.b.now pre.leveled.0 pre.side_moves.0;
       rows_len = (refl, pre.side_moves.1);
       up_len = (refl, refl);
     }
@@ -18,5 +18,5 @@ pub returns : goal.returns
 unfolding contents_of
 returns c =
     let pre = c.requires in
-    crews_settled pre.leveled.0 pre.leveled.1 (scanned_of c.args.b pre.leveled.0 pre.side_moves.0 c.settle_crews.ensures)
+    crews_settled pre.leveled.0 pre.leveled.1 (scanned_of c.args.b.now pre.leveled.0 pre.side_moves.0 c.settle_crews.ensures)
     c.person_table.ensures

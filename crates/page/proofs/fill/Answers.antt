@@ -1,8 +1,6 @@
 -- `page::fill` meets its contract: the moves of all four sides in one buffer, then the rows with a part of it for each side but the last: the moves
 -- that delete from a person are there, and not used. Assumes nothing.
-use mathlib.Core.Path.{◌≡◌, refl}
-use native.Mathlib.Omega.{arith}
-use lib.ListN.{length}
+use mathlib.Core.Path.{refl}
 use Rattle.level.specs.Inner.Moves.{moves_in}
 use Rattle.moves.specs.Inner.Listed.{part_of}
 use Rattle.level.proofs.RuleLaws.{book_good}
@@ -11,27 +9,26 @@ use Rattle.page.proofs.fill.Goals as goal
 
 pub moves_listed-sides-requires : goal.moves_listed-sides-requires
 moves_listed-sides-requires c =
-    let room : length c.args.b.rules.rules ≡ 512 = omega arith in
-    (book_good c.args.b c.requires.leveled.0.book room, refl)
+    (book_good c.args.b.now c.requires.leveled.0.book, refl)
 
 pub gains_in-requires : goal.gains_in-requires
 gains_in-requires c =
-    let sides = c.moves_listed-sides.ensures in record { size = sides.size; rises = sides.rises }
+    let sides = c.moves_listed-sides.ensures.sides in record { size = sides.size; rises = sides.rises }
 
 pub losses_in-requires : goal.losses_in-requires
 losses_in-requires c =
-    let sides = c.moves_listed-sides.ensures in record { size = sides.size; rises = sides.rises }
+    let sides = c.moves_listed-sides.ensures.sides in record { size = sides.size; rises = sides.rises }
 
 pub adds_in-requires : goal.adds_in-requires
 adds_in-requires c =
-    let sides = c.moves_listed-sides.ensures in record { size = sides.size; rises = sides.rises }
+    let sides = c.moves_listed-sides.ensures.sides in record { size = sides.size; rises = sides.rises }
 
 pub fill_by-requires : goal.fill_by-requires
 fill_by-requires c =
-    let sides = c.moves_listed-sides.ensures in
+    let sides = c.moves_listed-sides.ensures.sides in
     let pre = c.requires in
-    let room : length c.args.b.rules.rules ≡ 512 = omega arith in
-    let good = book_good c.args.b pre.leveled.0.book room in
+    let room = c.moves_listed-sides.ensures.room in
+    let good = book_good c.args.b.now pre.leveled.0.book in
     let n = c.moves_listed-sides.result in
     let dels = moves_in (part_of n.adds n.dels c.moves_listed-sides.new.ms) in
     record {

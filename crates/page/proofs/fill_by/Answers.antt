@@ -55,4 +55,4 @@ pub returns : goal.returns
 unfolding contents_of
 returns c =
     let pre = c.requires in
-    persons_right c.args.b pre.leveled.0 pre.leveled.1 pre.side_moves.1 c.crews_table.ensures c.settle.ensures c.put_rows.ensures
+    persons_right c.args.b.now pre.leveled.0 pre.leveled.1 pre.side_moves.1 c.crews_table.ensures c.settle.ensures c.put_rows.ensures

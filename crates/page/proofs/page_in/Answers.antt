@@ -14,15 +14,15 @@ pub fill-requires : goal.fill-requires
 unfolding contents_of with_query
 fill-requires c =
     record {
-      leveled = subst (λ (t : Contents). Leveled t × Roams t) (sym (nothing-asked (contents_of c.args.b) c.asked_nothing-query.ensures))
-          (nothing_accepted (contents_of c.args.b) c.requires.0 c.requires.1, roams_itself (contents_of c.args.b));
+      leveled = subst (λ (t : Contents). Leveled t × Roams t) (sym (nothing-asked (contents_of c.args.b.now) c.asked_nothing-b.ensures))
+          (nothing_accepted (contents_of c.args.b.now) c.requires.0 c.requires.1, roams_itself (contents_of c.args.b.now));
       out_len = (omega arith);
     }
 
 pub returns : goal.returns
 unfolding contents_of with_query
 returns c =
-    let rows = rows_same (nothing-asked (contents_of c.args.b) c.asked_nothing-query.ensures)
+    let rows = rows_same (nothing-asked (contents_of c.args.b.now) c.asked_nothing-b.ensures)
     c.fill.ensures in
-    answered_filled (contents_of c.args.b) _ (omega arith)
-    (rows_given (contents_of c.args.b) rows)
+    answered_filled (contents_of c.args.b.now) _ (omega arith)
+    (rows_given (contents_of c.args.b.now) rows)

@@ -1,16 +1,16 @@
 -- `persons::close` meets its contract: the invariant says that additions lead each person from what the person began with (`Growing`), and that the last
 -- `quiet` moves before i fire for nobody. The measure counts the facts that the 64 persons lack, and the moves that are not quiet. Assumes nothing.
-use mathlib.Core.Path.{◌≡◌, refl, sym, ◌∙◌}
+use mathlib.Core.Path.{refl, sym, ◌∙◌}
 use Prim.Native.Nat.{◌+◌, ◌*◌, ◌-◌, ◌≤◌, ◌<◌}
 use native.Mathlib.Omega.{arith}
 use lib.ListN.{length}
-use Rattle.level.specs.Inner.Moves.{moves_in, move_at}
+use Rattle.level.specs.Inner.Moves.{moves_in}
 use Rattle.level.specs.Inner.Sweep.{TurnAt}
 use Rattle.level.proofs.MoveLaws.{listed_room, listed_stands, fact_fits}
 use Rattle.level.proofs.TurnLaws.{sweeping_anew, sweeping-quiet, sweeping_ended, turn_stays, fired_less, quiet_less}
 use Rattle.persons.proofs.EndLaws.{growing-first, growing-more, growing_ended, nobody_fires, fact_read, all_facts_lem, fewer-left}
 use Rattle.persons.proofs.close.Goals as goal
-use Rattle.persons.proofs.close.Goals.{After-fires-who, After-put_whole}
+use Rattle.persons.proofs.close.Goals.{After-fires-who, then-who-eq0, else-who-eq0}
 
 -- The sweep looks at a move of the list, whose numbers stand there.
 listed : (c : After-fires-who) → c.loop-quiet.i < (moves_in c.args.adds.now).count
@@ -24,12 +24,6 @@ still : (c : After-fires-who)
     → TurnAt (moves_in c.args.adds.now).count 160 c.loop-quiet.i c.loop-quiet.quiet 160 c.loop-quiet.i
     c.loop-quiet.quiet
 still c = turn_stays c.loop-quiet.quiet (listed c) (omega arith) (omega arith)
-
--- The fact that is put in is the move's.
-read_fact : (c : After-put_whole)
-    → c.from-f.result ≡ (move_at (moves_in c.args.adds.now) c.loop-quiet.i).fact
-read_fact c =
-    fact_read c.args.adds.now c.loop-quiet.i c.from-f.ensures
 
 pub loop-quiet-init : goal.loop-quiet-init
 loop-quiet-init c = (
@@ -47,17 +41,6 @@ overflow_add-quiet c = omega (arith, c.requires.0.few, c.loop-quiet-test.true)
 pub next-i-requires : goal.next-i-requires
 next-i-requires c = listed (goal.at.next-i-requires c).After-fires-who
 
-pub loop-quiet-smaller-then-who-eq0 : goal.loop-quiet-smaller-then-who-eq0
-loop-quiet-smaller-then-who-eq0 c =
-    quiet_less (10240 - all_facts_lem c.loop-quiet.held) (still (goal.at.loop-quiet-smaller-then-who-eq0 c).After-fires-who) c.loop-quiet-test.true
-
-pub loop-quiet-preserved-then-who-eq0 : goal.loop-quiet-preserved-then-who-eq0
-loop-quiet-preserved-then-who-eq0 c =
-    let none = nobody_fires (moves_in c.args.adds.now) c.loop-quiet.i c.fires-who.ensures c.if-who-eq0.true in (
-      c.loop-quiet.invariant.0,
-      sweeping-quiet c.loop-quiet.invariant.1 (still (goal.at.loop-quiet-preserved-then-who-eq0 c).After-fires-who) (sym none) refl c.next-i.ensures,
-    )
-
 pub overflow_mul-i : goal.overflow_mul-i
 overflow_mul-i c = omega (arith, move_fits (goal.at.overflow_mul-i c).After-fires-who)
 
@@ -73,20 +56,35 @@ put_whole-requires c = (
   (c.requires.1.rows, c.loop-quiet.invariant.0.size),
 )
 
-pub next-i-requires-else-who-eq0 : goal.next-i-requires-else-who-eq0
-next-i-requires-else-who-eq0 c = listed (goal.at.next-i-requires-else-who-eq0 c).After-fires-who
-
 pub loop-quiet-smaller : goal.loop-quiet-smaller
 loop-quiet-smaller c =
-    fired_less (moves_in c.args.adds.now).count c.loop-quiet.quiet 160 160
-    (fewer-left c.requires.0 c.loop-quiet.invariant.0 (listed (goal.at.loop-quiet-smaller c).After-fires-who) c.fires-who.ensures (read_fact (goal.at.loop-quiet-smaller c).After-put_whole) c.put_whole.ensures c.ranges.all.fits
-    c.if-who-eq0.false)
+    let after = (goal.at.loop-quiet-smaller c).After-fires-who in
+    elim c.if-who-eq0.branch [
+      | then-who-eq0 w ↦
+          rw (w.quiet-is, w.held-is) (quiet_less (10240 - all_facts_lem c.loop-quiet.held) (still after) c.loop-quiet-test.true)
+      | else-who-eq0 w ↦
+          rw (w.quiet-is, w.held-is)
+          (fired_less (moves_in c.args.adds.now).count c.loop-quiet.quiet 160 160
+          (fewer-left c.requires.0 c.loop-quiet.invariant.0 (listed after) c.fires-who.ensures
+          (fact_read c.args.adds.now c.loop-quiet.i w.from-f.ensures) w.put_whole.ensures c.ranges.all.fits w.if-who-eq0.false))
+    ]
 
 pub loop-quiet-preserved : goal.loop-quiet-preserved
-loop-quiet-preserved c = (
-  growing-more c.requires.0 c.loop-quiet.invariant.0 (listed (goal.at.loop-quiet-preserved c).After-fires-who) c.fires-who.ensures (read_fact (goal.at.loop-quiet-preserved c).After-put_whole) c.put_whole.ensures,
-  sweeping_anew _ refl (omega arith) (λ h. c.next-i-else-who-eq0.ensures.fits),
-)
+loop-quiet-preserved c =
+    let after = (goal.at.loop-quiet-preserved c).After-fires-who in
+    let ms = moves_in c.args.adds.now in
+    elim c.if-who-eq0.branch [
+      | then-who-eq0 w ↦
+          let none = nobody_fires ms c.loop-quiet.i c.fires-who.ensures w.if-who-eq0.true in
+          rw (w.quiet-is, w.held-is)
+          (c.loop-quiet.invariant.0, sweeping-quiet c.loop-quiet.invariant.1 (still after) (sym none) refl c.next-i.ensures)
+      | else-who-eq0 w ↦
+          rw (w.quiet-is, w.held-is) (
+            growing-more c.requires.0 c.loop-quiet.invariant.0 (listed after) c.fires-who.ensures
+                (fact_read c.args.adds.now c.loop-quiet.i w.from-f.ensures) w.put_whole.ensures,
+            sweeping_anew _ refl (omega arith) (λ h. c.next-i.ensures.fits),
+          )
+    ]
 
 pub shape_of-held : goal.shape_of-held
 shape_of-held c = c.loop-quiet.invariant.0.size ∙ sym c.requires.1.size

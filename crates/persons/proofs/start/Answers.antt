@@ -23,9 +23,9 @@ put_column-requires c =
 
 pub loop-p-preserved : goal.loop-p-preserved
 loop-p-preserved c = (
-  c.first-in-loop-p-1.given,
+  omega arith,
   (
-    c.s-in-loop-p-1.given,
+    omega arith,
     begun_more c.loop-p.invariant.1.1 (few (goal.at.loop-p-preserved c).After-build)
         (record { blank = _; first = _; started = c.start_flags.ensures; built = c.build.ensures })
         c.put_column.ensures,

@@ -8,22 +8,14 @@ use Rattle.planner.proofs.best_plan.Goals as goal
 
 pub returns-in_err-e : goal.returns-in_err-e
 returns-in_err-e c =
-    rw c.from_residual.ensures (found_none (contents_of c.args.b) c.requires.leveled (c.in_err-e.ensures.stuck refl))
-
-pub is_reached-requires : goal.is_reached-requires
-is_reached-requires c =
-    let w = c.in_ok-e.ensures.written refl in
-    record {
-      admitted = (c.requires.leveled.book, (w.few_up, w.most_down));
-      up_len = (w.size_up, w.size_down);
-    }
+    rw c.from_residual.ensures (found_none (contents_of c.args.b.now) c.requires.leveled (c.in_err-e.ensures.stuck refl))
 
 pub returns-then-is_reached : goal.returns-then-is_reached
 unfolding contents_of
 returns-then-is_reached c =
-    found_best (contents_of c.args.b) c.requires.leveled (c.in_ok-e.ensures.written refl) true c.if-is_reached.ensures
+    found_best (contents_of c.args.b.now) c.requires.leveled (c.in_ok-e.ensures.written refl) true c.if-is_reached.ensures
 
 pub returns-else-is_reached : goal.returns-else-is_reached
 unfolding contents_of
 returns-else-is_reached c =
-    found_not_met (contents_of c.args.b) c.requires.leveled (c.in_ok-e.ensures.written refl) c.if-is_reached.ensures
+    found_not_met (contents_of c.args.b.now) c.requires.leveled (c.in_ok-e.ensures.written refl) c.if-is_reached.ensures

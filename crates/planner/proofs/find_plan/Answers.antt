@@ -10,23 +10,23 @@ pub best_plan-requires : goal.best_plan-requires
 unfolding contents_of
 best_plan-requires c =
     record {
-      leveled = leveled (contents_of c.args.b) c.requires.admitted (omega arith);
+      leveled = leveled (contents_of c.args.b.now) c.requires.admitted (omega arith);
       up_len = c.requires.up_len;
     }
 
 pub find-requires : goal.find-requires
 unfolding contents_of
 find-requires c =
-    (growing (contents_of c.args.b) c.requires.admitted (omega arith), c.requires.up_len.0)
+    (growing (contents_of c.args.b.now) c.requires.admitted (omega arith), c.requires.up_len.0)
 
 pub returns-in_err-ups : goal.returns-in_err-ups
 unfolding contents_of
 returns-in_err-ups c =
-    let b = contents_of c.args.b in
+    let b = contents_of c.args.b.now in
     rw c.from_residual.ensures (found_no_way b (growing b c.requires.admitted (omega arith)) c.in_err-ups.ensures _ refl)
 
 pub returns-in_ok-ups : goal.returns-in_ok-ups
 unfolding contents_of
 returns-in_ok-ups c =
-    let b = contents_of c.args.b in
+    let b = contents_of c.args.b.now in
     found_grown b (growing b c.requires.admitted (omega arith)) c.in_ok-ups.ensures _ refl

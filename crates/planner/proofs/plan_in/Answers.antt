@@ -19,11 +19,11 @@ fact_count-f-requires c = c.requires.sized
 
 pub overflow_mul-f : goal.overflow_mul-f
 unfolding contents_of
-overflow_mul-f c = omega (arith, c.fact_count-f.ensures, facts_few c.args.b.sizes c.requires.sized)
+overflow_mul-f c = omega (arith, c.fact_count-f.ensures, facts_few c.args.b.now.sizes c.requires.sized)
 
 pub returns-then-out-f : goal.returns-then-out-f
 unfolding contents_of
-returns-then-out-f c = answered_short (contents_of c.args.b) _ (below_of c.if-out-f.true c.fact_count-f.ensures)
+returns-then-out-f c = answered_short (contents_of c.args.b.now) _ (below_of c.if-out-f.true c.fact_count-f.ensures)
 
 pub find_plan-found-requires : goal.find_plan-found-requires
 find_plan-found-requires c =
@@ -47,5 +47,5 @@ pub returns : goal.returns
 unfolding contents_of
 returns c =
     let long = above_of c.if-out-f.false c.fact_count-f.ensures in
-    answered_long (contents_of c.args.b) _ long
-    (given_decided (contents_of c.args.b) c.find_plan-found.ensures c.args.out.now long c.give.ensures)
+    answered_long (contents_of c.args.b.now) _ long
+    (given_decided (contents_of c.args.b.now) c.find_plan-found.ensures c.args.out.now long c.give.ensures)

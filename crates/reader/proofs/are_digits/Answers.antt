@@ -2,8 +2,8 @@
 use Rattle.std.proofs.Common.{rules, tests, ◌∙◌}
 use Rattle.std.proofs.lemmas.Iterator.{YieldsList-from_slice}
 use Rattle.std.proofs.lemmas.Iterator.Search.{all_from_yields_List}
+use Rattle.quantifiers.proofs.PositionLaws.{all_list}
 use Rattle.lines.specs.Digits.{is_digit}
-use Rattle.reader.proofs.DecodingLaws.{all_list}
 use Rattle.reader.proofs.are_digits.Goals as goal
 
 pub returns : goal.returns

@@ -1,10 +1,10 @@
 -- `reader::decode_short` meets its contract. The invariant `Decoding` says that k bytes of the frame are written and that the characters
 -- from 2 × k on decide the rest. Assumes nothing.
-use mathlib.Core.Path.{◌≡◌, refl, sym, subst, ◌∙◌}
+use mathlib.Core.Path.{◌≡◌, refl, sym, ◌∙◌}
 use mathlib.Core.Bool.{true≢false}
 use borrow.Author.Tests.{eqb-true, eq-eqb}
 use lib.ListN.{length}
-use Prim.Native.Nat.{ℕ, ◌/◌}
+use Prim.Native.Nat.{◌/◌}
 use native.Mathlib.Omega.{arith}
 use Rattle.lines.proofs.DigitLaws.{malformed_empty, malformed_odd}
 use Rattle.reader.proofs.DecodingLaws.{decode-high, decode-low, decode-more, decode_all}

@@ -1,69 +1,51 @@
--- `readings::put_book` meets its contract: the parts of the line, one behind the other. Assumes nothing.
-use mathlib.Core.Path.{refl, ap, ◌∙◌}
-use native.Mathlib.Omega.{arith}
+-- `readings::put_book` meets its contract: the sizes, and behind them the counts, as the invariant says; a blank and q. Assumes nothing.
+use mathlib.Core.Path.{◌≡◌, refl, ap}
 use Prim.Native.Nat.{◌+◌, ◌≤◌}
-use lib.ListN.{length, length-set}
+use native.Mathlib.Omega.{arith}
+use lib.ListN.{length, length-set, length-take, length-drop}
 use Rattle.frames.specs.Book.{contents_of}
-use Rattle.answers.specs.Answers.{hex, count, sizes_bytes}
-use Rattle.answers.specs.Inner.Written.{Written}
-use Rattle.answers.proofs.WrittenLaws.{written_as, written_more, room_behind}
-use Rattle.answers.proofs.ReadingLaws.{book_written}
+use Rattle.answers.specs.Answers.{hex}
+use Rattle.answers.proofs.WrittenLaws.{written_as}
+use Rattle.answers.proofs.ReadingLaws.{counts_none, counts_more, book_written}
 use Rattle.readings.proofs.put_book.Goals as goal
-use Rattle.readings.proofs.put_book.Goals.{After-put_bytes-sized, After-put_count-counted}
+use Rattle.readings.proofs.put_book.Goals.{After-loop-n}
 
--- The sizes are written, with all eight counts.
-sized : (c : After-put_bytes-sized)
-    → Written c.args.text.now 0 (hex (sizes_bytes c.args.b.sizes)) c.put_bytes-sized.new.text c.put_bytes-sized.result
-sized c = written_as c.put_bytes-sized.ensures (ap hex c.sizes_bytes-sizes.ensures)
+pub loop-n-init : goal.loop-n-init
+loop-n-init c = counts_none _ (written_as c.put_bytes-end.ensures (ap hex c.sizes_bytes-sizes.ensures))
 
--- The sizes and the counts are 39 characters: there is room for the four behind them.
-counted_room : (c : After-put_count-counted) → c.put_count-counted.result + 4 ≤ length c.put_count-counted.new.text
-unfolding hex count
-counted_room c =
-    let sizes = written_as c.put_bytes-sized.ensures (ap hex c.sizes_bytes-sizes.ensures) in
-    let edged = written_more sizes c.put_count-edged.ensures in
-    let counted = written_more (written_more edged c.put_count-ruled.ensures) c.put_count-counted.ensures in
-    room_behind 39 4 counted refl (omega (arith, c.requires))
-
-pub put_count-edged-requires : goal.put_count-edged-requires
+pub put_count-end-requires : goal.put_count-end-requires
 unfolding hex
-put_count-edged-requires c =
-    room_behind 24 5 (sized (goal.at.put_count-edged-requires c).After-put_bytes-sized) refl (omega (arith, c.requires))
+put_count-end-requires c =
+    let so_far = c.loop-n.invariant in
+    simp (length-take, length-drop) (omega (arith, so_far.place, so_far.written.size, c.loop-n-test.true, c.requires))
 
-pub put_count-ruled-requires : goal.put_count-ruled-requires
-unfolding hex count
-put_count-ruled-requires c =
-    let edged = written_more (sized (goal.at.put_count-ruled-requires c).After-put_bytes-sized) c.put_count-edged.ensures in
-    room_behind 29 5 edged refl (omega (arith, c.requires))
+pub loop-n-preserved : goal.loop-n-preserved
+loop-n-preserved c = counts_more c.loop-n.invariant refl c.put_count-end.ensures
 
-pub put_count-counted-requires : goal.put_count-counted-requires
-unfolding hex count
-put_count-counted-requires c =
-    let edged = written_more (sized (goal.at.put_count-counted-requires c).After-put_bytes-sized) c.put_count-edged.ensures in
-    let ruled = written_more edged c.put_count-ruled.ensures in
-    room_behind 34 5 ruled refl (omega (arith, c.requires))
+-- All counts are written, and there is room for the four characters behind them.
+room : (c : After-loop-n) → c.loop-n.end + 4 ≤ length c.loop-n.text
+unfolding hex
+room c =
+    let so_far = c.loop-n.invariant in
+    omega (arith, so_far.place, so_far.written.size, c.loop-n.auto.n-index-end, c.requires)
 
-pub bounds-text-counted : goal.bounds-text-counted
-bounds-text-counted c = omega (arith, counted_room (goal.at.bounds-text-counted c).After-put_count-counted)
+pub bounds-text-end : goal.bounds-text-end
+bounds-text-end c = omega (arith, room (goal.at.bounds-text-end c).After-loop-n)
+
+pub slice_bounds-put_line-start : goal.slice_bounds-put_line-start
+slice_bounds-put_line-start c =
+    omega (arith, room (goal.at.slice_bounds-put_line-start c).After-loop-n, length-set c.loop-n.text c.loop-n.end 32)
+
+pub slice_bounds-put_line-count : goal.slice_bounds-put_line-count
+slice_bounds-put_line-count c =
+    omega (arith, room (goal.at.slice_bounds-put_line-count c).After-loop-n, length-set c.loop-n.text c.loop-n.end 32)
 
 pub put_line-requires : goal.put_line-requires
-put_line-requires c =
-    simp length-set (omega (arith, counted_room (goal.at.put_line-requires c).After-put_count-counted))
-
-pub shape_of-text : goal.shape_of-text
-shape_of-text c =
-    let edged = c.put_count-edged.ensures in
-    let ruled = c.put_count-ruled.ensures in
-    let counted = c.put_count-counted.ensures in
-    let whole = written_more (written_more (written_more (sized (goal.at.shape_of-text c).After-put_bytes-sized) edged) ruled) counted in
-    c.put_line.ensures.size ∙ length-set c.put_count-counted.new.text _ 32 ∙ whole.size
+put_line-requires c = simp (length-take, length-drop, length-set) (omega (arith, room (goal.at.put_line-requires c).After-loop-n))
 
 pub returns : goal.returns
 unfolding contents_of
 returns c =
-    let edged = c.put_count-edged.ensures in
-    let ruled = c.put_count-ruled.ensures in
-    let counted = c.put_count-counted.ensures in
-    book_written (contents_of c.args.b) (sized (goal.at.returns c).After-put_bytes-sized) c.edge_count-edges.ensures edged ruled
-    c.facts_in-facts.ensures counted (omega (arith, counted_room (goal.at.returns c).After-put_count-counted))
-    c.put_line.ensures
+    let all : c.loop-n.n-index ≡ 3 = omega (arith, c.loop-n.auto.n-index-end, c.loop-n-test.false) in
+    book_written (contents_of c.args.b.now) c.edge_count-edges.ensures c.facts_in-facts.ensures all c.loop-n.invariant
+    (omega (arith, room (goal.at.returns c).After-loop-n)) refl c.put_line.ensures

@@ -6,11 +6,11 @@ use Rattle.facts.specs.Facts.{holds}
 use Rattle.facts.specs.declared.Fact.TheVariants.{Member}
 use Rattle.replay.proofs.is_listed.Goals as goal
 
-pub returns-then-mode-eq1 : goal.returns-then-mode-eq1
-returns-then-mode-eq1 c = rw (eq-eqb _ _ c.if-mode-eq1.true)
+pub returns-then-query-eq1 : goal.returns-then-query-eq1
+returns-then-query-eq1 c = rw (eq-eqb _ _ c.if-query-eq1.true)
 
 pub returns : goal.returns
 returns c =
-    let held = c.set_below-held.ensures (λ v. holds c.args.ledger.now (Member c.args.query.person (record { 0 = v })))
+    let held = c.set_below-held.ensures (λ v. holds c.args.ledger.now (Member c.args.query.now.person (record { 0 = v })))
     (λ v on below gives. search rules) in
-    rw (ne_eqb _ _ c.if-mode-eq1.false, ← held) c.is_wanted.ensures
+    rw (ne_eqb _ _ c.if-query-eq1.false, ← held) c.is_wanted.ensures

@@ -56,7 +56,7 @@ is_listed-requires c = c.requires.sized.crews_most
 pub returns-then-not-is_listed : goal.returns-then-not-is_listed
 unfolding met met_exactly met_directly direct_crews contents_of
 returns-then-not-is_listed c =
-    let b = contents_of c.args.b in
+    let b = contents_of c.args.b.now in
     let S = holds c.args.ledger.now in
     let crews = direct_crews b S in
     unlisted (one b) (two b) (eqb crews b.query.crews) (subset b.query.crews crews) (met_at_least b S)
@@ -66,7 +66,7 @@ returns-then-not-is_listed c =
 pub returns : goal.returns
 unfolding met met_at_least met_exactly met_directly direct_crews contents_of
 returns c =
-    let b = contents_of c.args.b in
+    let b = contents_of c.args.b.now in
     let S = holds c.args.ledger.now in
     let crews = direct_crews b S in
     c.has_wanted.ensures ∙ by_mode (one b) (two b) (eqb crews b.query.crews) (subset b.query.crews crews) (one_not-two b.query.mode)

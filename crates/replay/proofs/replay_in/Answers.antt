@@ -15,18 +15,18 @@ pub returns-in-Some : goal.returns-in-Some
 unfolding contents_of
 returns-in-Some c =
     let args = c.args in
-    sym (replay_stops (contents_of args.b) args.plan.now c.if-plan-ne0.false c.in-Some.k (sym c.in-Some.ensures))
+    sym (replay_stops (contents_of args.b.now) args.plan.now c.if-plan-ne0.false c.in-Some.k (sym c.in-Some.ensures))
 
 pub returns-then-is_met : goal.returns-then-is_met
 unfolding contents_of
 returns-then-is_met c =
     let args = c.args in
     let is-met = sym c.is_met.ensures ∙ c.if-is_met.true in
-    sym (replay_reaches (contents_of args.b) args.plan.now c.if-plan-ne0.false _ (record { led = sym c.in_default.ensures }) is-met)
+    sym (replay_reaches (contents_of args.b.now) args.plan.now c.if-plan-ne0.false _ (record { led = sym c.in_default.ensures }) is-met)
 
 pub returns-else-is_met : goal.returns-else-is_met
 unfolding contents_of
 returns-else-is_met c =
     let args = c.args in
     let unmet = sym c.is_met.ensures ∙ c.if-is_met.false in
-    sym (replay_ends_short (contents_of args.b) args.plan.now c.if-plan-ne0.false _ (record { led = sym c.in_default.ensures }) unmet)
+    sym (replay_ends_short (contents_of args.b.now) args.plan.now c.if-plan-ne0.false _ (record { led = sym c.in_default.ensures }) unmet)

@@ -1,6 +1,5 @@
 -- `replay::step` meets its contract: a request that is due goes where a rule is found that permits it, and is carried out. Assumes nothing.
 use mathlib.Core.Path.{refl, sym}
-use Rattle.ledger.specs.Ledger.{after}
 use Rattle.replay.proofs.LentLaws.{goes-parts}
 use Rattle.replay.proofs.step.Goals as goal
 
@@ -28,7 +27,6 @@ returns-then-is_none c = (
 )
 
 pub returns : goal.returns
-unfolding after
 returns c = (
   sym (rw (
     goes-parts c.args.z c.args.juniors.now c.args.rules.now c.args.roles c.args.ledger.now c.args.bytes.now,
@@ -38,5 +36,5 @@ returns c = (
     ← c.first_permitting-found.ensures,
     c.if-is_none.ensures,
   ) refl),
-  rw (← c.request_of-q.ensures, ← c.is_adding-on.ensures) c.put_fact.ensures,
+  rw (← c.request_of-q.ensures) c.carry_out.ensures,
 )

@@ -1,7 +1,8 @@
--- `requests::are_member_sets` meets its contract: a person's crews that are not within the sizes decide.
-use Rattle.std.proofs.Common.{sym, ◌∙◌}
-use Rattle.quantifiers.proofs.TurnLaws.{one_failed}
+-- `requests::are_member_sets` meets its contract: the closure tests a person's set. Assumes nothing.
+use Rattle.std.proofs.Common.{rules, tests}
+use Rattle.quantifiers.proofs.RangeLaws.{all_of_range}
+use Rattle.requests.specs.Suitable.{member_set_good}
 use Rattle.requests.proofs.are_member_sets.Goals as goal
 
-pub returns-then-not-is_member_set : goal.returns-then-not-is_member_set
-returns-then-not-is_member_set c = one_failed _ _ c.loop-p.p c.loop-p-test.true (sym c.is_member_set.ensures ∙ c.if-not-is_member_set.true)
+pub returns : goal.returns
+returns c = all_of_range (member_set_good c.args.z c.args.ledger.now) 64 c.all.ensures.ran (cc) (λ x b q k. search (rules, tests))

@@ -1,7 +1,8 @@
--- `requests::are_value_sets` meets its contract: a set that is not within the sizes decides.
-use Rattle.std.proofs.Common.{sym, ◌∙◌}
-use Rattle.quantifiers.proofs.TurnLaws.{one_failed}
+-- `requests::are_value_sets` meets its contract: the closure tests a set. Assumes nothing.
+use Rattle.std.proofs.Common.{rules, tests}
+use Rattle.quantifiers.proofs.RangeLaws.{all_of_range}
+use Rattle.requests.specs.Suitable.{value_set_good}
 use Rattle.requests.proofs.are_value_sets.Goals as goal
 
-pub returns-then-not-is_value_set : goal.returns-then-not-is_value_set
-returns-then-not-is_value_set c = one_failed _ _ c.loop-i.i c.loop-i-test.true (sym c.is_value_set.ensures ∙ c.if-not-is_value_set.true)
+pub returns : goal.returns
+returns c = all_of_range (value_set_good c.args.z c.args.ledger.now c.args.start c.args.subjects) c.args.count c.all.ensures.ran (cc) (λ x b q k. search (rules, tests))

@@ -1,12 +1,14 @@
 -- `search::crew_levels` meets its contract: crew after crew, until one is stuck; what is settled serves every person. The names that the crews
 -- hand on stay 160. Assumes nothing.
-use mathlib.Core.Path.{◌≡◌, refl, sym, subst, ◌∙◌}
+use mathlib.Core.Path.{◌≡◌, refl, ap, sym, subst, ◌∙◌}
 use mathlib.Core.Bool.{Bool, true, false, true≢false}
 use mathlib.Core.List.{List}
 use Prim.Native.Nat.{ℕ, ◌+◌, ◌*◌, ◌≤◌, ◌<◌}
 use Rattle.frames.specs.Book.{Contents, contents_of}
 use Rattle.search.specs.Inner.Drive.{Driving}
 use Rattle.search.specs.Inner.Scan.{Serves, Scanned}
+use Rattle.level.specs.declared.Ends.{Ends}
+use Rattle.level.proofs.SettleLaws.{buffers_on, draft_first}
 use Rattle.search.proofs.PersonLaws.{serves_own}
 use Rattle.search.proofs.PartLaws.{crews_few, own_drive}
 use native.Mathlib.Omega.{arith}
@@ -27,17 +29,18 @@ stopped : {b : Contents} {k n : ℕ} {rows : List Bool} {up down : List ℕ} {fo
     → found ≡ false → Scanned b n rows up down false ups' at'
 stopped s e = record { settled = λ f. absurd (true≢false (sym f)); stuck = λ f. s.stuck e }
 
--- The lengths of what is lent, by what is settled for the query's own person: at the start of the loop, and at its head.
+-- The rows that are lent, by what is settled for the query's own person: at the start of the loop, and at its head.
 settled_at_first : (c : Start)
-    → Driving (contents_of c.requires.crews_given.parts.book) 0 c.args.rows.now 0 c.args.up.now 5280 c.args.down.now
+    → Driving (contents_of c.requires.crews_given.parts.book) 0 c.args.rows.now c.args.draft.now.ends.ups c.args.draft.now.up.now
+    c.args.draft.now.ends.at c.args.draft.now.down.now
 settled_at_first c = own_drive c.requires.crews_given.parts c.requires.serves_of
 
 settled_so_far : (c : At-loop-k) → Driving (contents_of c.requires.crews_given.parts.book) c.loop-k.k c.loop-k.rows
-    c.loop-k.ups c.loop-k.up c.loop-k.at c.loop-k.down
+    c.loop-k.draft.ends.ups c.loop-k.draft.up.now c.loop-k.draft.ends.at c.loop-k.draft.down.now
 settled_so_far c = own_drive c.requires.crews_given.parts c.loop-k.invariant.1
 
 pub loop-k-init : goal.loop-k-init
-loop-k-init c = (c.requires.names, c.requires.serves_of)
+loop-k-init c = (c.requires.names, c.requires.serves_of, draft_first.buffers)
 
 pub crew_level-requires : goal.crew_level-requires
 crew_level-requires c =
@@ -49,32 +52,26 @@ crew_level-requires c =
 
 pub returns-in_err-r : goal.returns-in_err-r
 returns-in_err-r c =
-    rw c.from_residual.ensures (record { each = λ g. stopped (c.in_err-r.ensures.0.each g) refl })
+    rw c.from_residual.ensures (record {
+      scanned = record { each = λ g. stopped (c.in_err-r.ensures.scanned.each g) refl };
+      lent = buffers_on c.loop-k.invariant.2 c.in_err-r.ensures.lent.buffers;
+    })
 
-pub overflow_add-ups : goal.overflow_add-ups
-overflow_add-ups c =
+pub overflow_add-draft : goal.overflow_add-draft
+overflow_add-draft c =
     let parts = c.requires.crews_given.parts in
-    let settled = (c.in_ok-r.ensures.0.each parts).settled refl in
-    omega (arith, few (serves_own parts.accepted settled).few_up c.loop-k-test.true (crews_few parts))
+    let settled = (c.in_ok-r.ensures.scanned.each parts).settled refl in
+    let same = ap (λ (e : Ends). e.ups) c.in_ok-r.ensures.lent.ends in
+    omega (arith, same, few (serves_own parts.accepted settled).few_up c.loop-k-test.true (crews_few parts))
 
 pub loop-k-preserved : goal.loop-k-preserved
 loop-k-preserved c =
-    let names = c.loop-k.invariant.0.0 in (
-      (
-        record {
-          room_added = c.added-1.given ∙ names.room_added;
-          room_deleted = c.deleted-1.given ∙ names.room_deleted;
-        },
-        c.in_ok-r.ensures.1,
-      ),
-      record { each = λ g. (c.in_ok-r.ensures.0.each g).settled refl },
+    let lent = c.in_ok-r.ensures.lent in
+    let same = buffers_on c.loop-k.invariant.2 lent.buffers in (
+      c.in_ok-r.ensures.names,
+      rw lent.ends (record { each = λ g. (c.in_ok-r.ensures.scanned.each g).settled refl }),
+      record { up = same.up; down = same.down; length_up = same.length_up; length_down = same.length_down },
     )
-
-pub shape_of-added : goal.shape_of-added
-shape_of-added c = c.loop-k.invariant.0.0.room_added ∙ sym c.requires.names.0.room_added
-
-pub shape_of-deleted : goal.shape_of-deleted
-shape_of-deleted c = c.loop-k.invariant.0.0.room_deleted ∙ sym c.requires.names.0.room_deleted
 
 pub shape_of-rows : goal.shape_of-rows
 shape_of-rows c = (settled_so_far (goal.at.shape_of-rows c).At-loop-k).rows_right.size ∙ sym (settled_at_first (goal.at.shape_of-rows c).Start).rows_right.size
@@ -82,11 +79,9 @@ shape_of-rows c = (settled_so_far (goal.at.shape_of-rows c).At-loop-k).rows_righ
 pub shape_of-table : goal.shape_of-table
 shape_of-table c = c.loop-k.invariant.0.1.size ∙ sym c.requires.names.1.size
 
-pub shape_of-up : goal.shape_of-up
-shape_of-up c = (settled_so_far (goal.at.shape_of-up c).At-loop-k).size_up ∙ sym (settled_at_first (goal.at.shape_of-up c).Start).size_up
-
-pub shape_of-down : goal.shape_of-down
-shape_of-down c = (settled_so_far (goal.at.shape_of-down c).At-loop-k).size_down ∙ sym (settled_at_first (goal.at.shape_of-down c).Start).size_down
-
 pub returns : goal.returns
-returns c = record { each = λ g. scanned (c.loop-k.invariant.1.each g) (omega (arith, c.loop-k.auto.k-end, c.loop-k-test.false)) }
+returns c =
+    record {
+      scanned = record { each = λ g. scanned (c.loop-k.invariant.1.each g) (omega (arith, c.loop-k.auto.k-end, c.loop-k-test.false)) };
+      lent = c.loop-k.invariant.2;
+    }

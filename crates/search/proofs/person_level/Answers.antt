@@ -1,6 +1,9 @@
 -- `search::person_level` meets its contract: the table is the person's, and the level comes to the best plan or is stuck (`person-searched`).
 -- Assumes nothing.
-use mathlib.Core.Path.{refl, ◌∙◌}
+use mathlib.Core.Path.{refl, ap, sym, ◌∙◌}
+use lib.ListN.{length}
+use Rattle.level.specs.declared.Fired.{Fired}
+use Rattle.level.specs.declared.Work.{Work}
 use mathlib.Core.Bool.{false}
 use native.Mathlib.Omega.{arith}
 use Rattle.frames.specs.Book.{contents_of}
@@ -12,14 +15,13 @@ use Rattle.search.proofs.person_level.Goals as goal
 pub person_table-requires : goal.person_table-requires
 person_table-requires c = (c.requires.driving.rows_right.size, c.requires.person_given.rows)
 
-pub slice_bounds-settle_level-end : goal.slice_bounds-settle_level-end
-slice_bounds-settle_level-end c = refl
+pub slice_bounds-parts-end : goal.slice_bounds-parts-end
+unfolding contents_of
+slice_bounds-parts-end c = sym c.requires.person_given.accepted.book.facts_room
 
-pub slice_bounds-settle_level-end-2 : goal.slice_bounds-settle_level-end-2
-slice_bounds-settle_level-end-2 c = refl
-
-pub slice_bounds-settle_level-end-3 : goal.slice_bounds-settle_level-end-3
-slice_bounds-settle_level-end-3 c = refl
+pub slice_bounds-parts-end-2 : goal.slice_bounds-parts-end-2
+unfolding contents_of
+slice_bounds-parts-end-2 c = sym c.requires.person_given.accepted.book.edge_room
 
 pub settle_level-requires : goal.settle_level-requires
 unfolding contents_of
@@ -28,28 +30,37 @@ settle_level-requires c =
     let given = pre.person_given in
     let drive = pre.driving in
     let low = given.accepted.book.sized.crews_most in
+    let none = c.new-fired.ensures in
+    let begun = c.new-work.ensures in
     record {
-      wants = small_wants given.accepted.book;
-      sound_adds = given.moves.sound_adds;
-      sound_dels = given.moves.sound_dels;
-      names = record { room_added = refl; room_deleted = refl };
-      rows = c.person_table.ensures.size;
-      size_x = refl;
-      room_up = room_up drive.few_up low drive.size_up;
-      room_below = room_below drive.few_down low;
-      room_down = room_down drive.most_down drive.size_down;
+      level_given = record {
+        wants = small_wants given.accepted.book;
+        sound_adds = given.moves.sound_adds;
+        sound_dels = given.moves.sound_dels;
+        names = record { room_added = ap (λ (f : Fired). length f.added) none; room_deleted = ap (λ (f : Fired). length f.deleted) none };
+        rows = c.person_table.ensures.size;
+        size_x = ap (λ (w : Work). length w.x) begun;
+        room_up = room_up drive.few_up low drive.size_up;
+        room_below = room_below drive.few_down low;
+        room_down = room_down drive.most_down drive.size_down;
+      };
+      begun = begun;
     }
 
-pub returns : goal.returns
+pub returns-clause-searched : goal.returns-clause-searched
 unfolding contents_of
-returns c =
+returns-clause-searched c =
     let given = c.requires.person_given in
     let drive = c.requires.driving in
-    let level = c.settle_level.ensures in
-    let bads = bad-all (contents_of c.args.b) (small_wants given.accepted.book) c.args.b.sizes.crews false (omega arith)
+    let level = c.settle_level.ensures.settled in
+    let lent = c.settle_level.ensures.lent.buffers in
+    let bads = bad-all (contents_of c.args.b.now) (small_wants given.accepted.book) c.args.b.now.sizes.crews false (omega arith)
     (λ h. absurd (omega arith)) level.size level.forbidden in
-    let begun = starts_built (start_flags (contents_of c.args.b) given.same_facts (omega arith) level.started) level.built in
-    person-searched (contents_of c.args.b) given.accepted c.args.b.rules refl given.accepted.book.rules_few given.moves
+    let begun = starts_built (start_flags (contents_of c.args.b.now) given.same_facts (omega arith) level.started) level.built in
+    person-searched (contents_of c.args.b.now) given.accepted c.args.b.now.rules refl given.accepted.book.rules_few given.moves
     drive c.person_table.ensures
     bads begun level.allowed level.result
-    (c.up-1.given ∙ drive.size_up) (c.down-1.given ∙ drive.size_down)
+    (lent.length_up ∙ drive.size_up) (lent.length_down ∙ drive.size_down)
+
+pub returns-clause-lent : goal.returns-clause-lent
+returns-clause-lent c = c.settle_level.ensures.lent.buffers

@@ -1,39 +1,36 @@
 -- `search::search` meets its contract: the moves of all four sides in one buffer, then the levels with a part of it for each side.
 -- Assumes nothing.
-use mathlib.Core.Path.{◌≡◌, refl}
-use native.Mathlib.Omega.{arith}
-use lib.ListN.{length}
+use mathlib.Core.Path.{refl}
 use Rattle.level.proofs.RuleLaws.{book_good}
 use Rattle.search.proofs.StepLaws.{side_moves}
 use Rattle.search.proofs.search.Goals as goal
 
-pub moves_listed-sides-requires : goal.moves_listed-sides-requires
-moves_listed-sides-requires c =
-    let room : length c.args.b.rules.rules ≡ 512 = omega arith in
-    (book_good c.args.b c.requires.leveled.book room, refl)
+pub moves_listed-n-requires : goal.moves_listed-n-requires
+moves_listed-n-requires c =
+    (book_good c.args.b.now c.requires.leveled.book, refl)
 
 pub gains_in-requires : goal.gains_in-requires
 gains_in-requires c =
-    let sides = c.moves_listed-sides.ensures in record { size = sides.size; rises = sides.rises }
+    let sides = c.moves_listed-n.ensures.sides in record { size = sides.size; rises = sides.rises }
 
 pub losses_in-requires : goal.losses_in-requires
 losses_in-requires c =
-    let sides = c.moves_listed-sides.ensures in record { size = sides.size; rises = sides.rises }
+    let sides = c.moves_listed-n.ensures.sides in record { size = sides.size; rises = sides.rises }
 
 pub adds_in-requires : goal.adds_in-requires
 adds_in-requires c =
-    let sides = c.moves_listed-sides.ensures in record { size = sides.size; rises = sides.rises }
+    let sides = c.moves_listed-n.ensures.sides in record { size = sides.size; rises = sides.rises }
 
 pub dels_in-requires : goal.dels_in-requires
 dels_in-requires c =
-    let sides = c.moves_listed-sides.ensures in record { size = sides.size; rises = sides.rises }
+    let sides = c.moves_listed-n.ensures.sides in record { size = sides.size; rises = sides.rises }
 
 pub all_levels-requires : goal.all_levels-requires
 all_levels-requires c =
-    let sides = c.moves_listed-sides.ensures in
+    let sides = c.moves_listed-n.ensures.sides in
     let pre = c.requires in
-    let room : length c.args.b.rules.rules ≡ 512 = omega arith in
-    let good = book_good c.args.b pre.leveled.book room in
+    let room = c.moves_listed-n.ensures.room in
+    let good = book_good c.args.b.now pre.leveled.book in
     let crews = side_moves good room sides.crew_more sides.crew_less in
     let person = side_moves good room sides.more sides.less in
     record {

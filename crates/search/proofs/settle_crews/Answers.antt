@@ -1,6 +1,9 @@
 -- `search::settle_crews` meets its contract: nothing is settled at first, for any book of these parts and any person (`parts_first`), and the crews'
 -- levels carry it on. Assumes nothing.
-use mathlib.Core.Path.{refl, sym}
+use mathlib.Core.Path.{refl, ap, sym}
+use native.Mathlib.Omega.{arith}
+use lib.ListN.{length}
+use Rattle.level.specs.declared.Fired.{Fired}
 use Rattle.search.proofs.PartLaws.{juniors_room, parts_first}
 use Rattle.search.proofs.settle_crews.Goals as goal
 
@@ -14,23 +17,20 @@ pub first_rows-requires : goal.first_rows-requires
 first_rows-requires c = c.requires.rows_len.0
 
 pub slice_bounds-crew_levels-end : goal.slice_bounds-crew_levels-end
-slice_bounds-crew_levels-end c = refl
-
-pub slice_bounds-crew_levels-end-2 : goal.slice_bounds-crew_levels-end-2
-slice_bounds-crew_levels-end-2 c = refl
-
-pub slice_bounds-crew_levels-end-3 : goal.slice_bounds-crew_levels-end-3
-slice_bounds-crew_levels-end-3 c = sym c.fill_reach.ensures.0
+slice_bounds-crew_levels-end c = sym c.fill_reach.ensures.0
 
 pub crew_levels-requires : goal.crew_levels-requires
 crew_levels-requires c =
     let pre = c.requires in
     let reached = c.fill_reach.ensures in
+    let none = c.new-fired.ensures in
     record {
       crews_given = record { parts = pre.crew_parts; reach_size = reached.0; reaching = reached.1 };
-      names = (record { room_added = refl; room_deleted = refl }, pre.rows_len.1);
+      names = (record { room_added = ap (λ (f : Fired). length f.added) none; room_deleted = ap (λ (f : Fired). length f.deleted) none }, pre.rows_len.1);
       serves_of = parts_first c.first_rows.ensures pre.up_len.0 pre.up_len.1;
     }
 
 pub returns : goal.returns
-returns c = c.crew_levels.ensures
+returns c =
+    let lent = c.crew_levels.ensures.lent in
+    grind (arith, c.crew_levels.ensures.scanned, sym lent.up, sym lent.down)

@@ -1,14 +1,22 @@
 -- `search::settle_level` meets its contract: the flags written are those of the query and of the facts, and the rounds come to what `settle` says
 -- of them. Assumes nothing.
-use mathlib.Core.Path.{refl, sym}
+use mathlib.Core.Path.{refl, ap, sym, subst}
+use lib.ListN.{length}
+use Rattle.level.specs.declared.Work.{Work}
+use Rattle.search.specs.Inner.Scan.{AllAllowed}
 use Rattle.search.proofs.StepLaws.{all_allowed, starts-allowed}
 use Rattle.search.proofs.settle_level.Goals as goal
+use Rattle.search.proofs.settle_level.Goals.{Start}
+
+-- Leave is given to add every fact.
+allowed : (c : Start) → AllAllowed c.args.work.now.u
+allowed c = subst (λ (w : Work). AllAllowed w.u) (sym c.requires.begun) all_allowed
 
 pub slice_bounds-bad_flags-end : goal.slice_bounds-bad_flags-end
 slice_bounds-bad_flags-end c = refl
 
 pub bad_flags-requires : goal.bad_flags-requires
-bad_flags-requires c = (c.requires.wants, refl)
+bad_flags-requires c = (c.requires.level_given.wants, refl)
 
 pub slice_bounds-start_flags-end : goal.slice_bounds-start_flags-end
 slice_bounds-start_flags-end c = refl
@@ -23,62 +31,56 @@ pub slice_bounds-build-end-2 : goal.slice_bounds-build-end-2
 slice_bounds-build-end-2 c = refl
 
 pub build-requires : goal.build-requires
-build-requires c =
-    let pre = c.requires in
-    (refl, (pre.rows, c.start_flags.ensures.size))
+build-requires c = (refl, (c.requires.level_given.rows, c.start_flags.ensures.size))
 
-pub slice_bounds-settle-end : goal.slice_bounds-settle-end
-slice_bounds-settle-end c =
-    sym c.bad_flags.ensures.size
+pub slice_bounds-level-end : goal.slice_bounds-level-end
+slice_bounds-level-end c = sym c.bad_flags.ensures.size
 
-pub slice_bounds-settle-end-2 : goal.slice_bounds-settle-end-2
-slice_bounds-settle-end-2 c = sym c.build.ensures.whole.size
-
-pub slice_bounds-settle-end-3 : goal.slice_bounds-settle-end-3
-slice_bounds-settle-end-3 c = refl
-
-pub slice_bounds-settle-end-4 : goal.slice_bounds-settle-end-4
-slice_bounds-settle-end-4 c = refl
-
-pub slice_bounds-settle-end-5 : goal.slice_bounds-settle-end-5
-slice_bounds-settle-end-5 c = refl
+pub slice_bounds-level-end-2 : goal.slice_bounds-level-end-2
+slice_bounds-level-end-2 c = sym c.build.ensures.whole.size
 
 pub settle-requires : goal.settle-requires
 settle-requires c =
-    let pre = c.requires in
+    let given = c.requires.level_given in
+    let begun = c.requires.begun in
     record {
-      sound_adds = pre.sound_adds;
-      sound_dels = pre.sound_dels;
+      sound_adds = given.sound_adds;
+      sound_dels = given.sound_dels;
       lengths = record {
-        rows = pre.rows;
+        rows = given.rows;
         size_bad = c.bad_flags.ensures.size;
         size_s = c.build.ensures.whole.size;
-        size_u = refl;
-        size_x = pre.size_x;
-        size_y = refl;
-        size_d = refl;
-        room_up = pre.room_up;
-        below = pre.room_below;
-        room_down = pre.room_down;
+        size_u = ap (λ (w : Work). length w.u) begun;
+        size_x = given.size_x;
+        size_y = ap (λ (w : Work). length w.y) begun;
+        size_d = ap (λ (w : Work). length w.d) begun;
+        room_up = given.room_up;
+        below = given.room_below;
+        room_down = given.room_down;
       };
       whole_s = c.build.ensures.whole;
-      allowed = starts-allowed _ all_allowed;
-      names_added = pre.names.room_added;
-      names_deleted = pre.names.room_deleted;
+      allowed = starts-allowed _ (allowed (goal.at.settle-requires c).Start);
+      names_added = given.names.room_added;
+      names_deleted = given.names.room_deleted;
     }
 
 pub returns : goal.returns
 returns c =
+    let names = c.settle.ensures.names in
     record {
-      blank = _;
-      bads = _;
-      first = _;
-      s = _;
-      u = _;
-      size = refl;
-      forbidden = c.bad_flags.ensures;
-      started = c.start_flags.ensures;
-      built = c.build.ensures;
-      allowed = all_allowed;
-      result = c.settle.ensures;
+      settled = record {
+        blank = _;
+        bads = _;
+        first = _;
+        s = _;
+        u = _;
+        size = refl;
+        forbidden = c.bad_flags.ensures;
+        started = c.start_flags.ensures;
+        built = c.build.ensures;
+        allowed = allowed (goal.at.returns c).Start;
+        result = c.settle.ensures.result;
+      };
+      names = record { room_added = names.0; room_deleted = names.1 };
+      lent = c.settle.ensures.lent;
     }

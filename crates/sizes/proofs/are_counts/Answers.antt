@@ -1,8 +1,8 @@
--- `sizes::are_counts` meets its contract: at a count that is out of its range not all are in theirs. Assumes nothing.
-use mathlib.Core.Path.{sym}
-use Rattle.quantifiers.proofs.TurnLaws.{one_failed}
+-- `sizes::are_counts` meets its contract: the closure tests a count. Assumes nothing.
+use Rattle.std.proofs.Common.{rules, tests}
+use Rattle.quantifiers.proofs.RangeLaws.{all_of_range}
+use Rattle.sizes.specs.Sizes.{count_good_at}
 use Rattle.sizes.proofs.are_counts.Goals as goal
 
-pub returns-then-not-is_between : goal.returns-then-not-is_between
-returns-then-not-is_between c =
-    one_failed _ _ c.loop-j.j c.loop-j-test.true (rw (← c.count_at.ensures) (sym c.if-not-is_between.ensures))
+pub returns : goal.returns
+returns c = all_of_range (count_good_at c.args.x.now) c.args.n c.all.ensures.ran (cc) (λ x b q k. search (rules, tests))

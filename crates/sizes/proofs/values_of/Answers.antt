@@ -5,4 +5,4 @@ use Rattle.sizes.proofs.values_of.Goals as goal
 
 pub returns : goal.returns
 unfolding values_of byte_at
-returns c = c.byte_at.ensures
+returns c = rw (c.byte_at.ensures, c.from.ensures)

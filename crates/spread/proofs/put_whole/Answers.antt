@@ -4,9 +4,9 @@ use native.Mathlib.Omega.{arith}
 use Rattle.spread.proofs.SpreadLaws.{lit_value, lit_crew}
 use Rattle.spread.proofs.put_whole.Goals as goal
 
-pub returns-then-f-lt128 : goal.returns-then-f-lt128
-returns-then-f-lt128 c =
-    lit_value _ c.add.ensures c.add-2.ensures c.if-f-lt128.true c.raise.ensures
+pub returns-then-f-lt-VALUES_SIZE : goal.returns-then-f-lt-VALUES_SIZE
+returns-then-f-lt-VALUES_SIZE c =
+    lit_value _ c.add.ensures c.add-2.ensures c.if-f-lt-VALUES_SIZE.true c.raise.ensures
 
 pub returns : goal.returns
 returns c =

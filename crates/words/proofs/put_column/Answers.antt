@@ -3,22 +3,22 @@
 use native.Mathlib.Omega.{arith}
 use Rattle.words.proofs.WordLaws.{member_one, put_first, put_more, put_skip, put_all}
 use Rattle.words.proofs.put_column.Goals as goal
-use Rattle.words.proofs.put_column.Goals.{then-s-k, else-s-k}
+use Rattle.words.proofs.put_column.Goals.{then-on, else-on}
 
 pub loop-k-init : goal.loop-k-init
 loop-k-init c =
     put_first c.args.s.now c.requires.p_bound.1.1 c.requires.column_clear
 
 pub add-requires : goal.add-requires
-add-requires c = (c.loop-k-test.true, c.loop-k.invariant.size)
+add-requires c = (omega arith, c.loop-k.invariant.size)
 
 pub loop-k-preserved : goal.loop-k-preserved
 loop-k-preserved c =
-    elim c.if-s-k.branch [
-      | then-s-k w ↦ rw w.held-is
-          (put_more c.loop-k-test.true c.loop-k.invariant _ (member_one c.args.p c.requires.p_bound.0)
-          w.if-s-k.true w.add.ensures)
-      | else-s-k w ↦ rw w.held-is (put_skip c.loop-k-test.true c.loop-k.invariant w.if-s-k.false)
+    elim c.if-on.branch [
+      | then-on w ↦ rw w.held-is
+          (put_more (omega arith) c.loop-k.invariant _ (member_one c.args.p c.requires.p_bound.0)
+          w.if-on.true w.add.ensures)
+      | else-on w ↦ rw w.held-is (put_skip (omega arith) c.loop-k.invariant w.if-on.false)
     ]
 
 pub returns : goal.returns
