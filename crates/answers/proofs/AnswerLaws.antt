@@ -2,11 +2,12 @@
 use mathlib.Core.Path.{◌≡◌, refl, ap, ◌∙◌}
 use mathlib.Core.Bool.{true, false}
 use mathlib.Core.List.{List, [], ◌∷◌, ◌++◌}
-use Prim.Native.Nat.{ℕ, suc, ◌+◌, ◌*◌, ◌/◌, ◌%◌, ◌≤◌, ◌<◌}
+use Prim.Native.Nat.{ℕ, suc, ◌+◌, ◌*◌, ◌/◌, ◌%◌, ◌<◌}
 use native.Mathlib.Numerals.{add-one}
 use native.Mathlib.Omega.{arith}
-use lib.ListN.{length, length-append, drop, get_or, drop_of_length-le}
-use lib.Seq.{drop-cons}
+use lib.ListN.{length, length-append, get_or}
+use Rattle.std.specs.List.{sum_by}
+use Rattle.std.proofs.lemmas.List.Recursion.{is_sum_by}
 use Rattle.sets.specs.Sets.{member}
 use Rattle.lines.specs.Digits.{character, frame_of}
 use Rattle.lines.proofs.TableLaws.{digit_back}
@@ -63,12 +64,7 @@ pub size_out : (x v : ℕ) → member x v ≡ false → size x (v + 1) ≡ size 
 unfolding size
 size_out x v e = rw (add-one v, e) (omega arith)
 
--- The sets behind the first i, and the one at i.
-pub total-step :
-    (w : ℕ) (xs : List ℕ) (i : ℕ) → i < length xs → total w (drop i xs) ≡ size (get_or xs i 0) w + total w (drop (i + 1) xs)
+-- The total is the sum of the sizes.
+pub total_sum : (w : ℕ) (xs : List ℕ) → total w xs ≡ sum_by (λ (x : ℕ). size x w) xs
 unfolding total
-total-step w xs i h = rw (add-one, drop-cons xs i 0)
-
-pub total_end : (w : ℕ) (xs : List ℕ) (i : ℕ) → length xs ≤ i → total w (drop i xs) ≡ 0
-unfolding total
-total_end w xs i h = rw (drop_of_length-le xs {i = i} h)
+total_sum w = is_sum_by (total w) (λ (x : ℕ). size x w) refl (λ x xs. refl)

@@ -1,22 +1,24 @@
--- The laws of a lent text: characters behind characters, the digits of bytes, a plan request by request, an answer case by case.
+-- The laws of a lent text: characters behind characters, the digits of bytes, bytes line by line, an answer case by case.
 use mathlib.Core.Path.{◌≡◌, refl, ap, sym, subst, ◌∙◌}
 use mathlib.Core.List.{List, [], ◌∷◌, ◌++◌, append_assoc, append-nil}
-use Prim.Native.Nat.{ℕ, ◌+◌, ◌-◌, ◌*◌, ◌/◌, ◌%◌, ◌≤◌, ◌<◌}
+use Prim.Native.Nat.{ℕ, zero, suc, ◌+◌, ◌-◌, ◌*◌, ◌/◌, ◌%◌, ◌≤◌, ◌<◌}
 use native.Mathlib.Numerals.{add-one}
 use native.Mathlib.Omega.{arith}
 use lib.ListN.{length, length-append, length-set, length-take, length-drop, take, drop, set, get_or, drop_of_length-le}
 use lib.Seq.{take-suc, take-suc-set, take-append-add, drop-append-add, take_at, drop_at, take_all, drop-set-lt, drop-drop, length-take-le}
 use borrow.Rule.Slice.PartMut.{put_mid, same_len_mid}
+use Rattle.std.proofs.Math.Nat.{add-div_left, div-eq_of_lt}
 use Rattle.std.proofs.lemmas.List.{take_rest}
 use Rattle.lines.specs.Digits.{character}
 use Rattle.replay.specs.Chains.{fives}
 use Rattle.replay.proofs.ReplayLaws.{fives_step, fives-none}
 use Rattle.planner.specs.Answer.{Planned}
 use Rattle.std.specs.Prelude.{Ok, Err, Some, None}
-use Rattle.planner.specs.declared.Refusal.{Refusal}
-use Rattle.planner.specs.Answer.{refusal_number, refusal_line, said}
-use Rattle.answers.specs.Answers.{hex, hex_line, no_way_bytes, count_bytes, refused_bytes, request_lines, count, answer_text}
-use Rattle.answers.specs.Inner.Written.{Written}
+use Rattle.frames.specs.declared.LentRefusal.{LentRefusal}
+use Rattle.frames.specs.Book.{lent_line}
+use Rattle.planner.specs.Answer.{refusal_number, said}
+use Rattle.answers.specs.Answers.{pair, hex, hex_line, no_way_bytes, count_bytes, refused_bytes, request_lines, count, answer_text}
+use Rattle.answers.specs.Inner.Written.{byte_lines, Written}
 use Rattle.answers.proofs.AnswerLaws.{hex_append, hex_long, line_long}
 
 -- ---------------------------------------------------------------- characters behind characters
@@ -147,48 +149,65 @@ module _ {before text : List ℕ} {end : ℕ} (bytes : List ℕ) (digits : Writt
   line_written room = written_more digits (written_char text end 10 (line_room room))
 
 -- The line of a refusal, by the two bytes of the line that it names.
-pub refusal_line-written : {before after : List ℕ} {end high low : ℕ} (number line : ℕ) → high ≡ line / 256 % 256 → low ≡ line % 256
-    → Written before 0 (hex_line (143 ∷ number ∷ high ∷ low ∷ [])) after end → Written before 0 (hex_line (refused_bytes number line)) after end
+pub refusal_line-written : {before after bytes : List ℕ} {end : ℕ} (number line : ℕ) → bytes ≡ pair line
+    → Written before 0 (hex_line (143 ∷ number ∷ get_or bytes 0 0 ∷ get_or bytes 1 0 ∷ [])) after end
+    → Written before 0 (hex_line (refused_bytes number line)) after end
 unfolding refused_bytes
-refusal_line-written number line h l w = rw (h, l) at w
+refusal_line-written number line two w = rw two at w
 
 -- The two bytes of a number behind a blank.
-pub count_written : (text : List ℕ) (n : ℕ) {high low m end : ℕ} {part : List ℕ} → 0 < length text → high ≡ n / 256 % 256 → low ≡ n % 256
-    → m ≡ length (set text 0 32) - 1 → Written (take m (drop 1 (set text 0 32))) 0 (hex (high ∷ low ∷ [])) part end
+pub count_written : (text : List ℕ) (n : ℕ) {m end : ℕ} {part bytes : List ℕ} → 0 < length text → bytes ≡ pair n
+    → m ≡ length (set text 0 32) - 1 → Written (take m (drop 1 (set text 0 32))) 0 (hex bytes) part end
     → Written text 0 (count n) (put_mid 1 m (set text 0 32) part) (1 + end)
 unfolding count
-count_written text n room h l rest w = written_on (written_char text 0 32 room) rest (rw (h, l) at w)
+count_written text n room two rest w = written_on (written_char text 0 32 room) rest (rw two at w)
 
--- ---------------------------------------------------------------- a plan, request by request
+-- ---------------------------------------------------------------- bytes, line by line
 
--- The requests before those left are written, up to `end`.
-pub record Listing (before plan left text : List ℕ) (end : ℕ) : Type 0 where
+-- The lines before those left are written, up to `end`; those left have room: two characters a byte, and an end for each line.
+pub record Listing (width : ℕ) (before bytes left text : List ℕ) (end : ℕ) : Type 0 where
   pub done : List ℕ
   pub written : Written before 0 done text end
-  pub room : 5 * end + 11 * length left ≤ 5 * length before
-  pub all : request_lines (fives plan) ≡ done ++ request_lines (fives left)
+  pub room : end + (2 * length left + length left / width) ≤ length before
+  pub all : byte_lines width (length bytes / width) bytes ≡ done ++ byte_lines width (length left / width) left
 
-module _ {before plan left text : List ℕ} {end : ℕ} (so_far : Listing before plan left text end) where
-  pub list_more : (request rest : List ℕ) → left ≡ request ++ rest → length request ≡ 5 → {m next : ℕ} {part : List ℕ} → m ≡ length text - end
-      → Written (take m (drop end text)) 0 (hex_line request) part next → Listing before plan rest (put_mid end m text part) (end + next)
-  unfolding request_lines
-  list_more request rest parts five from w =
+-- With a row more there is a whole line more.
+line_more : (width : ℕ) {left : List ℕ} (row rest : List ℕ) → 0 < width → left ≡ row ++ rest → length row ≡ width
+    → length left / width ≡ suc (length rest / width)
+line_more width row rest wide parts long =
+    ap (λ (k : ℕ). k / width) (ap length parts ∙ length-append row rest ∙ ap (λ (k : ℕ). k + length rest) long)
+    ∙ add-div_left (length rest) wide
+    ∙ add-one (length rest / width)
+
+module _ {width : ℕ} {before bytes left text : List ℕ} {end : ℕ} (so_far : Listing width before bytes left text end) where
+  pub list_more : (row rest : List ℕ) → 0 < width → left ≡ row ++ rest → length row ≡ width → {m next : ℕ} {part : List ℕ} → m ≡ length text - end
+      → Written (take m (drop end text)) 0 (hex_line row) part next → Listing width before bytes rest (put_mid end m text part) (end + next)
+  unfolding byte_lines
+  list_more row rest wide parts long from w =
       record {
-        done = so_far.done ++ hex_line request;
+        done = so_far.done ++ hex_line row;
         written = written_on so_far.written from w;
-        room = omega (arith, so_far.room, w.long, line_long request, five, ap length parts, length-append request rest);
+        room = omega (arith, so_far.room, w.long, line_long row, ap length parts, length-append row rest, line_more width row rest wide parts long);
         all = so_far.all ∙ ap (λ (l : List ℕ). so_far.done ++ l) one ∙ sym (append_assoc so_far.done _ _);
       }
     where
-      one : request_lines (fives left) ≡ hex_line request ++ request_lines (fives rest)
+      one : byte_lines width (length left / width) left ≡ hex_line row ++ byte_lines width (length rest / width) rest
       one =
-          ap request_lines (fives_step left (omega (arith, ap length parts, length-append request rest)))
-          ∙ rw (parts, take_at request rest 5 five, drop_at request rest 5 five) refl
+          ap (λ (n : ℕ). byte_lines width n left) (line_more width row rest wide parts long)
+          ∙ rw (parts, take_at row rest width long, drop_at row rest width long) refl
 
-  pub list_all : length left < 5 → Written before 0 (request_lines (fives plan)) text end
-  unfolding request_lines
+  pub list_all : length left < width → Written before 0 (byte_lines width (length bytes / width) bytes) text end
+  unfolding byte_lines
   list_all few =
-      written_as so_far.written (sym (so_far.all ∙ ap (λ (qs : List (List ℕ)). so_far.done ++ request_lines qs) (fives-none left few) ∙ append-nil so_far.done))
+      written_as so_far.written (sym (so_far.all ∙ ap (λ (n : ℕ). so_far.done ++ byte_lines width n left) (div-eq_of_lt few) ∙ append-nil so_far.done))
+
+-- All whole lines of five bytes each are those of a plan's requests.
+lines_fives : (n : ℕ) (plan : List ℕ) → n ≡ length plan / 5 → byte_lines 5 n plan ≡ request_lines (fives plan)
+unfolding byte_lines request_lines
+lines_fives zero plan e = sym (ap request_lines (fives-none plan (omega arith)))
+lines_fives (suc n) plan e =
+    ap (λ (l : List ℕ). hex_line (take 5 plan) ++ l) (lines_fives n (drop 5 plan) (omega (arith, length-drop 5 plan)))
+    ∙ sym (ap request_lines (fives_step plan (omega arith)))
 
 -- ---------------------------------------------------------------- an answer, case by case
 
@@ -198,14 +217,14 @@ module _ {answer : Planned} (plan : List ℕ) {before : List ℕ} where
   unfolding no_way_bytes
   no_way-written e w = rw e w
 
-  pub plan-written : {middle part : List ℕ} {first m end : ℕ} (n : ℕ) {high low : ℕ} → answer ≡ Ok (Some n) → high ≡ n / 256 % 256 → low ≡ n % 256
-      → Written before 0 (hex_line (129 ∷ high ∷ low ∷ [])) middle first → m ≡ length middle - first
-      → Written (take m (drop first middle)) 0 (request_lines (fives (take (5 * n) plan))) part end
+  pub plan-written : {middle part bytes : List ℕ} {first m end : ℕ} (n : ℕ) → answer ≡ Ok (Some n) → bytes ≡ pair n
+      → Written before 0 (hex_line (129 ∷ get_or bytes 0 0 ∷ get_or bytes 1 0 ∷ [])) middle first → m ≡ length middle - first
+      → Written (take m (drop first middle)) 0 (byte_lines 5 (length (take (5 * n) plan) / 5) (take (5 * n) plan)) part end
       → Written before 0 (answer_text (said answer) plan) (put_mid first m middle part) (first + end)
   unfolding count_bytes
-  plan-written n e h l w rest below = rw e (written_on (rw (h, l) at w) rest below)
+  plan-written n e two w rest below = rw e (written_on (rw two at w) rest (written_as below (lines_fives _ (take (5 * n) plan) refl)))
 
-  pub refused-written : {after : List ℕ} {end : ℕ} (r : Refusal) {number line : ℕ} → answer ≡ Err r
-      → number ≡ refusal_number r → line ≡ refusal_line r
+  pub refused-written : {after : List ℕ} {end : ℕ} (r : LentRefusal) {number line : ℕ} → answer ≡ Err r
+      → number ≡ refusal_number r → line ≡ lent_line r
       → Written before 0 (hex_line (refused_bytes number line)) after end → Written before 0 (answer_text (said answer) plan) after end
   refused-written r e n k w = rw e (rw (n, k) at w)

@@ -2,12 +2,11 @@
 
 #![tactic(auto)]
 
-ghost use Rattle.std.specs.Prelude.{◌≡◌, [], ◌∷◌, ◌+◌, ◌*◌, ◌/◌, ◌%◌, ◌≤◌, length};
+ghost use Rattle.std.specs.Prelude.{◌≡◌, [], ◌∷◌, ◌+◌, ◌*◌, ◌/◌, ◌<◌, ◌≤◌, length};
 ghost use Rattle.lines.specs.Inner.Tables.{Encodings};
-ghost use Rattle.replay.specs.Chains.{fives};
 ghost use Rattle.planner.specs.Answer.{said};
-ghost use Rattle.answers.specs.Answers.{hex, hex_line, refused_bytes, request_lines, answer_text};
-ghost use Rattle.answers.specs.Inner.Written.{Written, Room};
+ghost use Rattle.answers.specs.Answers.{pair, hex, hex_line, refused_bytes, answer_text};
+ghost use Rattle.answers.specs.Inner.Written.{byte_lines, Written, Room};
 
 use lines::Characters;
 
@@ -25,8 +24,8 @@ fn put_byte(b: u8, characters: &Characters, text: &mut [u8]) -> usize
     requires { 2 ≤ length text.old }
     ensures { Written text.old 0 (hex (b ∷ [])) text.new result }
 {
-    let high = (b / 16) as usize;
-    let low = (b % 16) as usize;
+    let high = usize::from(b / 16);
+    let low = usize::from(b % 16);
     text[0] = characters.table[high];
     text[1] = characters.table[low];
     2
@@ -54,29 +53,24 @@ pub fn put_line(bytes: &[u8], characters: &Characters, text: &mut [u8]) -> usize
     end + 1
 }
 
-// The requests of a plan, one a line.
-fn put_requests(plan: &[u8], characters: &Characters, text: &mut [u8]) -> usize
-    requires { 11 * length plan.now ≤ 5 * length text.old }
-    ensures { Written text.old 0 (request_lines (fives plan.now)) text.new result }
+// The bytes as lines of `width` each; those behind the last whole line are left out.
+pub fn put_lines(bytes: &[u8], width: usize, characters: &Characters, text: &mut [u8]) -> usize
+    requires { (0 < width) × (2 * length bytes.now + length bytes.now / width ≤ length text.old) }
+    ensures { Written text.old 0 (byte_lines width (length bytes.now / width) bytes.now) text.new result }
 {
     let mut end = 0;
-    for request in plan.chunks_exact(5) {
-        end += put_line(request, characters, &mut text[end..]);
+    for row in bytes.chunks_exact(width) {
+        end += put_line(row, characters, &mut text[end..]);
     }
     end
 }
 
-// Kept: two functions in the words of specs/Answers, here and `low_byte`, which `readings` calls too, not `to_be_bytes` after a cast.
-pub fn high_byte(n: usize) -> u8
-    ensures { result ≡ n / 256 % 256 }
+// A number as two bytes.
+// Kept: the two quotients that `pair` of specs/Answers names; `to_be_bytes` after a cast to 16 bits is no plainer.
+pub fn pair(n: usize) -> [u8; 2]
+    ensures { result ≡ pair n }
 {
-    (n / 256 % 256) as u8
-}
-
-pub fn low_byte(n: usize) -> u8
-    ensures { result ≡ n % 256 }
-{
-    (n % 256) as u8
+    [(n / 256 % 256) as u8, (n % 256) as u8]
 }
 
 // 8F, the number and the line of a refusal, in the front of a lent text.
@@ -85,8 +79,7 @@ pub fn put_refused(number: u8, line: usize, characters: &[u8; 16], text: &mut [u
     requires { Encodings characters.now × (9 ≤ length text.old) }
     ensures { Written text.old 0 (hex_line (refused_bytes number line)) text.new result }
 {
-    let high = high_byte(line);
-    let low = low_byte(line);
+    let [high, low] = pair(line);
     let characters = Characters { table: *characters };
     put_line(&[0x8F, number, high, low], &characters, text)
 }
@@ -104,15 +97,14 @@ pub fn put_answer(
     match answer {
         Ok(None) => put_line(&[0x80], &characters, text),
         Ok(Some(n)) => {
-            let high = high_byte(n);
-            let low = low_byte(n);
+            let [high, low] = pair(n);
             let first = put_line(&[0x81, high, low], &characters, text);
             let end = 5 * n;
-            first + put_requests(&plan[..end], &characters, &mut text[first..])
+            first + put_lines(&plan[..end], 5, &characters, &mut text[first..])
         }
         Err(r) => {
             let number = planner::refusal_number(r);
-            let line = planner::refusal_line(r);
+            let line = frames::lent_line(r);
             put_refused(number, line, &characters.table, text)
         }
     }

@@ -4,12 +4,11 @@ use mathlib.Core.List.{List, [], ◌∷◌, ◌++◌, append_assoc}
 use Prim.Native.Nat.{ℕ, suc, ◌+◌, ◌*◌, ◌/◌, ◌%◌, ◌≤◌, ◌<◌}
 use native.Mathlib.Numerals.{add-one}
 use native.Mathlib.Omega.{arith}
-use borrow.Author.Tests.{le-leb, lt-leb}
 use lib.ListN.{length, get_or, take, drop, set, length-append, length-drop}
 use lib.Seq.{take-suc, take_all, drop-drop, length-take-le}
 use Rattle.ledger.specs.declared.Refusal.{Refusal}
 use Rattle.ledger.specs.Ledger.{refusal, at_term, told, refusal_number}
-use Rattle.ledger.specs.Show.{View, view_of, shown}
+use Rattle.ledger.specs.Show.{View, view_of}
 use Rattle.ledger.specs.declared.Shown.{Shown}
 use Rattle.std.specs.Prelude.{Result, Err}
 use Rattle.bixorgun.specs.Codes.{code, told_value, said_code, two, put_two, twos, view_bytes, coded, view_coded}
@@ -72,11 +71,6 @@ module _ {sets before : List ℕ} {i : ℕ} {view : List ℕ} (eight : length se
   front_length : length (twos (take i sets)) ≡ 2 * i
   front_length = twos-length (take i sets) ∙ ap (λ (n : ℕ). 2 * n) (length-take-le i sets (omega (arith, w.few)))
 
-  pub view_length : length view ≡ length before
-  view_length =
-      ap length w.front ∙ length-append (twos (take i sets)) (drop (2 * i) before)
-      ∙ omega (arith, front_length, length-drop (2 * i) before, w.few)
-
   pub sets_more : i < 8 → {after : List ℕ} → after ≡ put_two view (2 * i) (get_or sets i 0) → SetsWritten sets before (i + 1) after
   sets_more h put =
       let x = get_or sets i 0 in
@@ -116,10 +110,3 @@ module _ (v : View) (before : List ℕ) (n : ℕ) where
   pub hidden-coded : (r : Refusal) → v.answer ≡ refusal (refusal_number r) (told r) → n ≡ said_code (refusal (refusal_number r) (told r))
       → coded n before ≡ view_coded v before
   hidden-coded r e is = rw (e, is) refl
-
-  pub no_room-coded : (sets : List ℕ) (crews : ℕ) → shown sets crews ≡ v → length before < 20 → n ≡ code 7 0 0 → coded n before ≡ view_coded v before
-  no_room-coded sets crews e short is = rw (← e, is, lt-leb 20 (length before) short) refl
-
-  pub shown-coded : (sets : List ℕ) (crews : ℕ) (after : List ℕ) → shown sets crews ≡ v → 20 ≤ length before → n ≡ code 0 0 0 →
-      after ≡ view_bytes sets crews ++ drop 20 before → coded n after ≡ view_coded v before
-  shown-coded sets crews after e room is written = rw (← e, is, written, le-leb 20 (length before) room) refl

@@ -15,7 +15,7 @@ use denials::Denial;
 use facts::Person;
 
 // What an answer says, in its lowest byte.
-// Kept: numbers, since the C interface has them.
+// Kept: numbers, no enum as `gate::Fault`: `code` of specs/Codes takes the number that C is handed.
 const DONE: u8 = 0;
 
 const REFUSED: u8 = 1;
@@ -36,8 +36,9 @@ const NO_ROOM: u8 = 7;
 fn code_of(res: u8, number: u8, value: usize) -> u64
     ensures { result ≡ code res number value }
 {
+    // Kept: `as`, since there is no `From<usize>` for `u64`.
     let v = (value as u64) % 281474976710656;
-    (res as u64) + 256 * (number as u64) + 65536 * v
+    u64::from(res) + 256 * u64::from(number) + 65536 * v
 }
 
 // A refusal, by its number and what is told beside it.
@@ -98,7 +99,7 @@ fn replay_code(a: Result<replay::Judgement, replay::Refusal>) -> u64
 {
     match a {
         Ok(j) => judgement_code(j),
-        Err(r) => refused_code(replay::refusal_number(r), replay::refusal_line(r)),
+        Err(r) => refused_code(replay::refusal_number(r), frames::lent_line(r)),
     }
 }
 
@@ -108,7 +109,7 @@ fn plan_code(a: Result<Option<usize>, planner::Refusal>) -> u64
     match a {
         Ok(None) => code_of(NO_WAY, 0, 0),
         Ok(Some(n)) => code_of(PLAN, 0, n),
-        Err(r) => refused_code(planner::refusal_number(r), planner::refusal_line(r)),
+        Err(r) => refused_code(planner::refusal_number(r), frames::lent_line(r)),
     }
 }
 
@@ -117,7 +118,7 @@ fn page_code(a: Result<(), page::Refusal>) -> u64
 {
     match a {
         Ok(()) => code_of(DONE, 0, 0),
-        Err(r) => refused_code(page::refusal_number(r), page::refusal_line(r)),
+        Err(r) => refused_code(page::refusal_number(r), frames::lent_line(r)),
     }
 }
 
@@ -142,7 +143,7 @@ fn put_two(view: &mut [u8], at: usize, x: u32)
     requires { (at ≤ 18) × (at + 2 ≤ length view.old) }
     ensures { view.new ≡ put_two view.old at x }
 {
-    // Kept: a set of 32 bits by its lower half; `to_be_bytes` after a cast and `copy_from_slice` is no plainer.
+    // Kept: a set of 32 bits by its lower half; `to_be_bytes` after a cast and `copy_from_slice` is no plainer, nor is `answers::pair`, of a `usize`.
     view[at] = (x / 256 % 256) as u8;
     view[at + 1] = (x % 256) as u8;
 }

@@ -13,6 +13,8 @@ use std::{fs, io, str};
 use streams::INPUT_SIZE;
 
 // Where the requests of a plan lead, by replay.
+// Kept: the words as bytes, no `Display` of `replay::Judgement`: they are this program's alone, and `replay` is in the library, which prints
+// nothing.
 fn write_judgement<W: Write>(writer: &mut W, j: replay::Judgement) -> io::Result<()> {
     match j {
         replay::Judgement::Reaches => writer.write_all(b" reaches "),
@@ -88,11 +90,7 @@ fn read_named<R: Files + Eprint>(rt: &R, name: &[u8], book: &mut [u8]) -> io::Re
 
 // Whether a name ends in a dot and four characters.
 fn is_planned(name: &[u8]) -> bool {
-    let n = name.len();
-    if n < 5 {
-        return false;
-    }
-    name[n - 5] == b'.'
+    matches!(name, [.., b'.', _, _, _, _])
 }
 
 fn answer<R: Files + Eprint, W: Write>(rt: &R, writer: &mut W, name: &[u8]) -> io::Result<()> {

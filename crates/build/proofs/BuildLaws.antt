@@ -147,10 +147,6 @@ lacks_first a b (Some k) h =
       here = λ l. sym (minus_low a b k l) ∙ h.1.1.0;
     }
 
-pub lacks_within : (a b : List Bool) (r : Option ℕ) → IsFirstFrom (lacking a b) 0 160 r → IfSome r (λ f. f < 160)
-lacks_within a b None h = tt
-lacks_within a b (Some k) h = omega (arith, h.1.0)
-
 -- Where none is lacking, the number is 160; where one is, it is that of a fact.
 pub none_lacked : (r : Option ℕ) → is_some r ≡ false → lacked r ≡ 160
 none_lacked (Some f) e = cc

@@ -10,6 +10,7 @@ ghost use Rattle.widths.specs.Inner.Widths.{level_size, flags_size, table_size};
 use widths::{LEVEL_SIZE, ROWS_SIZE, VALUES_SIZE};
 
 // Adds the row of crew `c` to the effective flags.
+// Kept: one index goes over both slices, here, in `strip` and in `spread::add_row`; a zip of cuts is no plainer.
 fn add_row(table: &[bool], c: usize, x: &mut [bool])
     requires { (c < 32) × ((length x.old ≡ flags_size) × (length table.now ≡ table_size)) }
     ensures { More x.old (row_flags table.now c) x.new }

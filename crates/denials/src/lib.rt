@@ -60,6 +60,6 @@ pub fn why_not(rules: &[Rule], ledger: &[u8], juniors: &[u32], q: Request) -> De
         return Denial::NoRule;
     };
     let r = &rules[i];
-    let j = first_unmet(r, ledger, juniors, q).unwrap_or(r.n as usize);
+    let j = first_unmet(r, ledger, juniors, q).unwrap_or(usize::from(r.n));
     Denial::Unmet((i + 1) as u16, (j + 1) as u8)
 }

@@ -1,19 +1,16 @@
 -- The laws of drafts: what runs carry out, requests appended, and requests as bytes.
 use mathlib.Core.Path.{◌≡◌, refl, ap, sym, ◌∙◌}
 use mathlib.Core.List.{List, [], ◌∷◌, ◌++◌, map, append_assoc}
-use Prim.Native.Nat.{ℕ, zero, suc, ◌+◌, ◌*◌, ◌≤◌}
+use Prim.Native.Nat.{ℕ, zero, suc, ◌+◌, ◌*◌, ◌≤◌, ◌<◌}
 use native.Mathlib.Omega.{arith}
 use lib.ListN.{length, get_or, take, drop, length-drop}
 use lib.Seq.{drop-drop, take-add, get_or-drop}
 use borrow.Rule.Slice.PartMut.{put_mid}
 use Rattle.frames.specs.Book.{Contents}
-use Rattle.requests.specs.declared.Request.{Request}
 use Rattle.requests.specs.Requests.{request_of}
 use Rattle.ledger.specs.Ledger.{after}
-use Rattle.quantifiers.proofs.ListLaws.{map-append}
 use Rattle.theory.specs.Inner.Plan.{Ask}
 use Rattle.level.specs.Inner.Notes.{ask_at, asks}
-use Rattle.level.proofs.NoteLaws.{asks_last}
 use Rattle.reach.specs.Inner.Tracked.{bytes_of}
 use Rattle.replay.specs.Chains.{run, ends, fives}
 use Rattle.replay.proofs.ReplayLaws.{one_end, run_none, run_parts, fives-none, fives-append}
@@ -32,11 +29,6 @@ pub carried-append : (l : List ℕ) (ps qs : List (List ℕ)) → carried l (ps 
 unfolding carried
 carried-append l [] qs = refl
 carried-append l (p ∷ ps) qs = carried-append (after l (request_of p)) ps qs
-
--- One request is carried out.
-pub carried_one : (l q : List ℕ) → carried l (q ∷ []) ≡ after l (request_of q)
-unfolding carried
-carried_one l q = refl
 
 -- ---------------------------------------------------------------- requests as bytes
 
@@ -89,32 +81,34 @@ bytes_from d k (suc n) h =
     ∙ ap (λ (r : List ℕ). bytes_of (ask_at d k) ++ take (5 * n) r) (drop-drop 5 (5 * k) d ∙ ap (λ (m : ℕ). drop m d) next)
     ∙ ap (λ (r : List ℕ). bytes_of (ask_at d k) ++ r) (bytes_from d (suc k) n (omega arith))
 
--- ---------------------------------------------------------------- one turn of each loop
+-- ---------------------------------------------------------------- requests carried out one by one
+
+-- The requests that what is left of the bytes writes, on the ledger l, come to what all of them do.
+pub record Carrying (l₀ : List ℕ) (qs : List (List ℕ)) (left l : List ℕ) : Type 0 where
+  pub same : carried l₀ qs ≡ carried l (fives left)
 
 -- No request is carried out yet.
-pub carry_first : (l d : List ℕ) (k : ℕ) → l ≡ carried l (map bytes_of (asks d k 0))
-unfolding asks carried
-carry_first l d k = refl
+pub carry_first : (l d : List ℕ) (k n : ℕ) {m : ℕ} → 5 * (k + n) ≤ length d → m ≡ 5 * n
+    → Carrying l (map bytes_of (asks d k n)) (take m (drop (5 * k) d)) l
+carry_first l d k n h all = record { same = ap (carried l) (sym (rw (all, bytes_from d k n h) (fives-flat (asks d k n)))) }
 
--- One request more is carried out.
-pub carry_more : (l₀ l m d : List ℕ) (k i t : ℕ) (r : Request) → 5 * (k + i) + 5 ≤ length d → t ≡ 5
-    → r ≡ request_of (take t (drop (5 * (k + i)) d)) → m ≡ after l r
-    → l ≡ carried l₀ (map bytes_of (asks d k i)) → m ≡ carried l₀ (map bytes_of (asks d k (i + 1)))
-carry_more l₀ l m d k i t r h five is turn so_far =
-    let same : suc i ≡ i + 1 = omega arith in
-    let u = ask_at d (k + i) in
-    let bytes : take t (drop (5 * (k + i)) d) ≡ bytes_of u = ap (λ (j : ℕ). take j (drop (5 * (k + i)) d)) five ∙ bytes_at d (k + i) h in
-    turn
-    ∙ ap (after l) (is ∙ ap request_of bytes)
-    ∙ ap (λ (x : List ℕ). after x (request_of (bytes_of u))) so_far
-    ∙ sym (carried_one (carried l₀ (map bytes_of (asks d k i))) (bytes_of u))
-    ∙ sym (carried-append l₀ (map bytes_of (asks d k i)) (bytes_of u ∷ []))
-    ∙ ap (carried l₀) (sym (map-append bytes_of (asks d k i) (u ∷ [])) ∙ ap (map bytes_of) (sym (asks_last d k i)))
-    ∙ ap (λ (j : ℕ). carried l₀ (map bytes_of (asks d k j))) same
+module _ {l₀ : List ℕ} {qs : List (List ℕ)} {left l : List ℕ} (so_far : Carrying l₀ qs left l) where
+  -- One request more is carried out.
+  pub carry_more : (q rest : List ℕ) → left ≡ q ++ rest → length q ≡ 5 → {m : List ℕ} → m ≡ after l (request_of q) → Carrying l₀ qs rest m
+  unfolding carried
+  carry_more q rest parts five {m} turn =
+      record {
+        same =
+            so_far.same
+            ∙ ap (λ (xs : List ℕ). carried l (fives xs)) parts
+            ∙ ap (carried l) (fives-append q rest five)
+            ∙ ap (λ (x : List ℕ). carried x (fives rest)) (sym turn);
+      }
 
--- All requests are carried out.
-pub carry_all : (l₀ l d : List ℕ) (k i n : ℕ) → i ≡ n → l ≡ carried l₀ (map bytes_of (asks d k i)) → l ≡ carried l₀ (map bytes_of (asks d k n))
-carry_all l₀ l d k i n all e = e ∙ ap (λ (j : ℕ). carried l₀ (map bytes_of (asks d k j))) all
+  -- All requests are carried out.
+  pub carry_all : length left < 5 → l ≡ carried l₀ qs
+  unfolding carried
+  carry_all few = sym (so_far.same ∙ ap (carried l) (fives-none left few))
 
 -- ---------------------------------------------------------------- requests copied
 

@@ -84,6 +84,8 @@ fn place_of(f: Fact) -> Option<Place>
 }
 
 // Whether the fact is in the ledger. A fact without a place is in none.
+// Kept: a `match`, here and in `holds_from`, not `is_some_and`: its proof did not close, since the closure asks for the bounds of the place; and two
+// functions, each of its own definition, which differ in the one call behind it.
 pub fn fact_holds(ledger: &[u8], f: Fact) -> bool
     ensures { result ≡ holds ledger.now f }
 {
@@ -95,7 +97,6 @@ pub fn fact_holds(ledger: &[u8], f: Fact) -> bool
 
 // Whether the fact, or one of the same set with a higher number, is in the ledger: of a value, whether it or a higher one of its attribute is
 // held. The set is looked at once.
-// Kept: beside `fact_holds`, which differs in the one call.
 pub fn holds_from(ledger: &[u8], f: Fact) -> bool
     ensures { result ≡ any_from (λ w. holds ledger.now (numbered f w)) (member_of f) (8 * set_width f) }
 {

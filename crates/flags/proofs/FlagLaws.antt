@@ -24,13 +24,9 @@ use Rattle.quantifiers.specs.Quantifiers.{any_below}
 use Rattle.quantifiers.proofs.BelowLaws.{any-zero, any_step}
 use Rattle.reach.specs.Inner.Tracked.{person_level, fact_at, is_number, track}
 use Rattle.flags.specs.Inner.Flags.{FlagsWritten, has_fact, fact_in, start_flag, StartFlags, junior_has, added_flag, CrewTable, PersonTable, row_flag}
-use Rattle.flags.specs.Inner.Flags.{FilledRow, FirstRows, SmallWants, value_at}
+use Rattle.flags.specs.Inner.Flags.{FilledRow, SmallWants, value_at}
 
 -- ---------------------------------------------------------------- flags written one by one
-
--- Nothing is written yet.
-pub written_none : (x : List Bool) (base : ℕ) (p : ℕ → Bool) → FlagsWritten x base p 0 x
-written_none x base p = record { size = refl; at = λ f l. absurd (omega arith); below = λ j l. refl; above = λ j l. refl }
 
 -- One more is written, at the next place n.
 pub written_more : {before x : List Bool} {base i : ℕ} {p : ℕ → Bool} (v : Bool) (n : ℕ) → FlagsWritten before base p i x → n ≡ base + i

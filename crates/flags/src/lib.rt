@@ -4,7 +4,7 @@
 
 #![tactic(auto)]
 
-ghost use Rattle.std.specs.Prelude.{◌≡◌, false, ◌+◌, ◌*◌, ◌≤◌, ◌<◌, length, get_or};
+ghost use Rattle.std.specs.Prelude.{ℕ, Bool, ◌≡◌, false, ◌+◌, ◌*◌, ◌≤◌, ◌<◌, length, get_or};
 ghost use Rattle.sets.specs.Sets.{member, member_at};
 ghost use Rattle.flags.specs.Inner.Flags.{FlagsWritten, start_flag, added_flag, CrewTable, PersonTable, row_flag, FirstRows, SmallWants, bad_flag};
 ghost use Rattle.flags.specs.Inner.Flags.{listed_reach, value_at, lacking_flag, want_flag, banned_flag};
@@ -31,14 +31,25 @@ fn copy_flags(src: &[bool], from: usize, n: usize, dst: &mut [bool], to: usize)
     dst[to..to + n].copy_from_slice(&src[from..from + n]);
 }
 
+// Writes n flags from a place on: what `flag` makes of each number below n and of the flag that stands at its place.
+pub fn write_flags<F: Fn(u8, bool) -> bool>(n: u8, s: &mut [bool], at: usize, flag: F)
+    requires room { at + n ≤ length s.old }
+    requires callable { (v : ℕ) (was : Bool) → v < n → F.pre flag v was }
+    ensures { (p : ℕ → Bool → Bool) → ((v : ℕ) (was b : Bool) → v < n → F.post flag v was b → b ≡ p v was)
+        → FlagsWritten s.old at (λ v. p v (get_or s.old (at + v) false)) n s.new }
+{
+    for v in 0..n {
+        let place = at + usize::from(v);
+        s[place] = flag(v, s[place]);
+    }
+}
+
 // Writes n flags from a place on: whether each number below n is a member of the set.
-fn write_bits(x: u32, n: usize, s: &mut [bool], at: usize)
+fn write_bits(x: u32, n: u8, s: &mut [bool], at: usize)
     requires { (n ≤ 32) × (at + n ≤ length s.old) }
     ensures { FlagsWritten s.old at (member x) n s.new }
 {
-    for v in 0..n {
-        s[at + v] = (x >> v) % 2 == 1;
-    }
+    write_flags(n, s, at, |v, _| sets::has(x, v));
 }
 
 // Writes a flag for each number of the set of w bytes at a place of the ledger.
@@ -48,7 +59,7 @@ fn write_set(facts: &[u8], place: usize, w: usize, s: &mut [bool], at: usize)
 {
     for m in 0..w {
         let byte = lines::byte_at(facts, place + (w - 1 - m));
-        write_bits(byte as u32, 8, s, at + 8 * m);
+        write_bits(u32::from(byte), 8, s, at + 8 * m);
     }
 }
 
@@ -68,10 +79,10 @@ pub fn start_flags(facts: &[u8], crews: u8, person: Person, k: u8, s: &mut [bool
     ensures { FlagsWritten s.old 0 (start_flag facts.now crews person k) level_size s.new }
 {
     clear_flags(s, 0, LEVEL_SIZE);
-    let p = person.0 as usize;
+    let p = usize::from(person.0);
     if k < crews {
         if k < 32 {
-            write_values(facts, CREWS_AT + 16 * (k as usize), s);
+            write_values(facts, CREWS_AT + 16 * usize::from(k), s);
         }
     } else if p < 64 {
         write_values(facts, 16 * p, s);
@@ -84,10 +95,13 @@ fn add_last(rows: &[bool], j: u8, table: &mut [bool])
     requires { (j < 32) × ((length rows.now ≡ rows_size) × (length table.old ≡ table_size)) }
     ensures { FlagsWritten table.old rows_size (added_flag rows.now j table.old) level_size table.new }
 {
-    let row = LEVEL_SIZE * (j as usize);
-    for f in 0..LEVEL_SIZE {
-        table[ROWS_SIZE + f] |= rows[row + f];
-    }
+    let row = LEVEL_SIZE * usize::from(j);
+    write_flags(
+        LEVEL_SIZE as u8,
+        table,
+        ROWS_SIZE,
+        |f, was| was | rows[row + usize::from(f)],
+    );
 }
 
 // The last row of the table is what crew k has by its juniors.
@@ -95,7 +109,7 @@ pub fn crew_table(juniors: &[u32], k: u8, rows: &[bool], table: &mut [bool])
     requires { (k < 32) × ((length juniors.now ≡ 32) × ((length rows.now ≡ rows_size) × (length table.old ≡ table_size))) }
     ensures { CrewTable juniors.now k rows.now table.old table.new }
 {
-    let direct = juniors[k as usize];
+    let direct = juniors[usize::from(k)];
     clear_flags(table, ROWS_SIZE, LEVEL_SIZE);
     for j in 0..k {
         if sets::has(direct, j) {
@@ -118,7 +132,7 @@ pub fn fill_row(table: &[bool], k: u8, x: &[bool], rows: &mut [bool])
     requires { (k < 32) × ((length x.now ≡ flags_size) × ((length table.now ≡ table_size) × (length rows.old ≡ rows_size))) }
     ensures { FlagsWritten rows.old (level_size * k) (row_flag table.now k x.now) level_size rows.new }
 {
-    let own = k as usize;
+    let own = usize::from(k);
     let row = LEVEL_SIZE * own;
     copy_flags(x, LEVEL_SIZE, VALUES_SIZE, rows, row);
     copy_flags(table, ROWS_SIZE + VALUES_SIZE, 32, rows, row + VALUES_SIZE);
@@ -137,13 +151,11 @@ pub fn first_rows(rows: &mut [bool])
 }
 
 // Adds to the n flags from a place on each number below n that the set lacks.
-fn add_lacking(x: u32, n: usize, s: &mut [bool], at: usize)
+fn add_lacking(x: u32, n: u8, s: &mut [bool], at: usize)
     requires { (n ≤ 32) × (at + n ≤ length s.old) }
     ensures { FlagsWritten s.old at (lacking_flag s.old at x) n s.new }
 {
-    for v in 0..n {
-        s[at + v] |= (x >> v) % 2 != 1;
-    }
+    write_flags(n, s, at, |v, was| was | !sets::has(x, v));
 }
 
 // Adds the values that a named set lacks.
@@ -151,24 +163,26 @@ fn add_want(w: Want, bad: &mut [bool])
     requires { length bad.old ≡ level_size }
     ensures { FlagsWritten bad.old 0 (want_flag bad.old w) 128 bad.new }
 {
-    let a = w.attr.0 as usize;
+    let a = usize::from(w.attr.0);
     if a < 8 {
         add_lacking(w.set, 16, bad, 16 * a);
     }
 }
 
 // Adds the values that some named set lacks.
+// Kept: the first q sets cut here, in `own` and in `replay`: one expression; a method of `Query` would ask each for q ≤ 8 once more.
 // Kept: `SmallWants` as a clause, here and in `own`: `query_of` of specs/Book makes a query of any bytes, of q over 8 too.
 fn add_banned(q: &Query, bad: &mut [bool])
     requires { SmallWants q.now × (length bad.old ≡ level_size) }
     ensures { FlagsWritten bad.old 0 (banned_flag bad.old q.now q.now.q) 128 bad.new }
 {
-    for w in &q.wants[..q.q as usize] {
+    for w in &q.wants[..usize::from(q.q)] {
         add_want(*w, bad);
     }
 }
 
 // The facts of level k that the query forbids. At a crew's level `below` says whether the crew is listed or lies below a listed one.
+// Kept: the mode as a number, as `bad_flag` of specs/Inner/Flags reads it of a query of any bytes.
 pub fn bad_flags(q: &Query, crews: u8, k: u8, below: bool, bad: &mut [bool])
     requires { SmallWants q.now × (length bad.old ≡ level_size) }
     ensures { FlagsWritten bad.old 0 (bad_flag q.now crews k below) level_size bad.new }

@@ -6,7 +6,7 @@ ghost use Rattle.std.specs.Prelude.{◌≡◌, true, not, cond, ◌&&◌, ◌||�
 ghost use Rattle.quantifiers.specs.Quantifiers.{all};
 ghost use Rattle.lines.specs.Digits.{byte_at};
 ghost use Rattle.lines.specs.Lines.{lines};
-ghost use Rattle.frames.specs.Book.{refusal_number, refusal_line, term_at, terms_of, rule_of, known_after, juniors_after, fact_of, facts_after, want_at, wants_of};
+ghost use Rattle.frames.specs.Book.{refusal_number, refusal_line, lent_number, lent_line, term_at, terms_of, rule_of, known_after, juniors_after, fact_of, facts_after, want_at, wants_of};
 ghost use Rattle.frames.specs.Book.{query_of, query_after, nothing, walk, book_for, book_of, listed, no_book, told_in, told_by};
 ghost use Rattle.frames.specs.Limits.{is_not, plain, all_plain, growing, same_key, twice};
 ghost use Rattle.frames.specs.Inner.Judged.{Fits, judged, whole};
@@ -116,6 +116,46 @@ pub fn refusal_line(r: Refusal) -> usize
     }
 }
 
+// What an operation refuses that asks for a length of what it is lent beside the book: the book, or that length.
+#[derive(Clone, Copy)]
+pub enum LentRefusal {
+    BadBook(Refusal),
+    BadLength,
+}
+
+// A refused book is refused.
+impl From<Refusal> for LentRefusal {
+    ghost use Rattle.std.specs.Prelude.{◌≡◌};
+    ghost use Rattle.frames.specs.declared.LentRefusal.TheVariants.{BadBook};
+
+    ghost from_gives = { λ r e. e ≡ BadBook r };
+
+    fn from(r: Refusal) -> LentRefusal {
+        LentRefusal::BadBook(r)
+    }
+}
+
+// The table's number of such a refusal, where `own` is the operation's for a wrong length.
+pub fn lent_number(own: u8, r: LentRefusal) -> u8
+    ensures { result ≡ lent_number own r }
+{
+    match r {
+        LentRefusal::BadBook(b) => refusal_number(b),
+        LentRefusal::BadLength => own,
+    }
+}
+
+// Its line: 0 for a wrong length.
+pub fn lent_line(r: LentRefusal) -> usize
+    ensures { result ≡ lent_line r }
+{
+    match r {
+        LentRefusal::BadBook(b) => refusal_line(b),
+        LentRefusal::BadLength => 0,
+    }
+}
+
+// Kept: the bound of `j` as a clause, here, in `want_at` and `sizes::count_at`: `array::from_fn` hands a place as a `usize`.
 #[tactic(auto, unfolding(crate::specs::Book::term_at))]
 fn term_at(x: &[u8], j: usize) -> Term
     requires { j < 256 }
@@ -250,7 +290,7 @@ fn query_after(q: Query, x: &[u8]) -> Query
 }
 
 // What stands in the place of a query, of one of its sets, of a rule and of one of its terms before a line writes it.
-const NO_QUERY: Query = Query {
+pub const NO_QUERY: Query = Query {
     mode: 0,
     person: Person(0),
     roles: 0,
@@ -437,7 +477,7 @@ fn read_lines(book: &[u8], paged: bool, b: &mut Book) -> Result<(), Refusal>
     // Kept: how far a turn goes is what the line there says, so this is no loop over a range.
     while cursor.at < book.len() {
         let read = reader::read_frame(book, cursor, &digits, &mut frame);
-        // Kept: a `match`, not `map_err(..)?`: the proof did not close, since what the closure answers is not known behind it.
+        // Kept: a `match`, here and below, not `map_err(..)?`: the proof did not close, since what the closure answers is not known behind it.
         let n = match judge_line(known, read.frame, &frame) {
             Ok(n) => n,
             Err(f) => return Err(Refusal::BadLine(f, cursor.line)),
@@ -492,22 +532,12 @@ pub fn read_into(book: &[u8], paged: bool, b: &mut Book) -> Result<(), Refusal>
     Ok(())
 }
 
-// The accepted book by value. The operations lend a book to `read_into`, so that none is copied.
-#[tactic(auto, unfolding(crate::specs::Book::book_of))]
-pub fn read(book: &[u8]) -> Result<Book, Refusal>
-    ensures { told_by result ≡ book_of book.now }
+// The accepted book by value, for the page or not. The operations lend a book to `read_into`, so that none is copied.
+// Kept: no crate calls it; docs/PROMISES.md names it, and `read_refused`, `read_accepted` and `read_sound` of proofs/BookLaws are its words.
+pub fn read(book: &[u8], paged: bool) -> Result<Book, Refusal>
+    ensures { told_by result ≡ book_for paged book.now }
 {
     let mut b = no_book();
-    read_into(book, false, &mut b)?;
-    Ok(b)
-}
-
-// The same for the page.
-// Kept: beside `read`: docs/PROMISES.md names both.
-pub fn read_for_page(book: &[u8]) -> Result<Book, Refusal>
-    ensures { told_by result ≡ book_for true book.now }
-{
-    let mut b = no_book();
-    read_into(book, true, &mut b)?;
+    read_into(book, paged, &mut b)?;
     Ok(b)
 }

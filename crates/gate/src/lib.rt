@@ -13,6 +13,7 @@ ghost use Rattle.gate.specs.Inner.Long.{due_length, long_fault};
 use sizes::Sizes;
 
 // The kinds of frames: the sizes, an edge between two crews, a rule, a starting fact and the query.
+// Kept: numbers, these and the ops, modes and kinds of terms and facts below: `verdict`, `term_good` and `fact_good` of specs/Gate judge any byte.
 pub const SIZES: u8 = 1;
 
 pub const EDGE: u8 = 2;
@@ -24,7 +25,7 @@ pub const FACT: u8 = 4;
 pub const QUERY: u8 = 5;
 
 // What the lines so far tell: whether the sizes stand, whether the query stands, the sizes, and how many rules.
-// Kept: `headed` beside `sizes`, not an `Option`: the definitions of specs/Gate name both.
+// Kept: `headed` beside `sizes`, not an `Option`: `misplaced` of specs/Gate asks for the one and the verdicts for the other.
 #[derive(Clone, Copy)]
 pub struct Known {
     pub headed: bool,
@@ -56,6 +57,7 @@ pub fn fault_number(f: Fault) -> u8
 }
 
 // The set that two bytes of a frame write.
+// Kept: here and in `quad_at`, one call: each is the definition of its name in specs/Gate, which docs/PROMISES.md names.
 #[tactic(auto, unfolding(crate::specs::Gate::pair_at))]
 pub fn pair_at(x: &[u8], i: usize) -> u32
     requires { i < 65000 }
@@ -172,20 +174,20 @@ fn is_term(z: Sizes, kind: u8, a: u8, v: u8) -> bool
     asks_value(kind) && sizes::is_value(z, a, v) || asks_crew(kind) && sizes::is_crew_field(z, a, v)
 }
 
-fn is_term_at(z: Sizes, x: &[u8], j: usize) -> bool
-    requires { j < 256 }
+fn is_term_at(z: Sizes, x: &[u8], j: u8) -> bool
     ensures { result ≡ term_good_at z x.now j }
 {
-    let kind = lines::byte_at(x, 6 + 3 * j);
-    let a = lines::byte_at(x, 7 + 3 * j);
-    let v = lines::byte_at(x, 8 + 3 * j);
+    let i = usize::from(j);
+    let kind = lines::byte_at(x, 6 + 3 * i);
+    let a = lines::byte_at(x, 7 + 3 * i);
+    let v = lines::byte_at(x, 8 + 3 * i);
     is_term(z, kind, a, v)
 }
 
 fn are_terms(z: Sizes, x: &[u8], n: u8) -> bool
     ensures { result ≡ all_below (term_good_at z x.now) n }
 {
-    (0..n).all(|j| is_term_at(z, x, usize::from(j)))
+    (0..n).all(|j| is_term_at(z, x, j))
 }
 
 #[tactic(auto, unfolding(crate::specs::Gate::rule_good))]
@@ -261,19 +263,19 @@ fn fact_verdict(z: Sizes, x: &[u8]) -> Result<(), Fault>
     }
 }
 
-// Kept: ops, modes and the kinds of terms and facts are the numbers written, here and above: the definitions of specs/Gate judge any byte.
-fn is_want_at(z: Sizes, x: &[u8], j: usize) -> bool
-    requires { j < 256 }
+// Whether a query's attribute and set number j are within the sizes.
+fn is_want_at(z: Sizes, x: &[u8], j: u8) -> bool
     ensures { result ≡ want_good_at z x.now j }
 {
-    let a = lines::byte_at(x, 6 + 3 * j);
-    a < z.attrs && sets::is_within(pair_at(x, 7 + 3 * j), sizes::values_of(z, a))
+    let i = usize::from(j);
+    let a = lines::byte_at(x, 6 + 3 * i);
+    a < z.attrs && sets::is_within(pair_at(x, 7 + 3 * i), sizes::values_of(z, a))
 }
 
 fn are_wants(z: Sizes, x: &[u8], q: u8) -> bool
     ensures { result ≡ all_below (want_good_at z x.now) q }
 {
-    (0..q).all(|j| is_want_at(z, x, usize::from(j)))
+    (0..q).all(|j| is_want_at(z, x, j))
 }
 
 fn are_listed_crews(z: Sizes, x: &[u8]) -> bool

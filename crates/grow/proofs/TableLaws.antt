@@ -24,7 +24,7 @@ use Rattle.build.proofs.BuildLaws.{not_lacking}
 use Rattle.growth.specs.Inner.Growth.{May}
 use Rattle.growth.specs.Inner.Peeling.{Needed, Closed, Left, Free, Peeled}
 use Rattle.growth.proofs.GrowthLaws.{both_ways}
-use Rattle.growth.proofs.PeelingLaws.{needed_first, needed_more, peeled_none, peeled_more, peeled_room, way_found, stuck}
+use Rattle.growth.proofs.PeelingLaws.{needed_first, needed_more, peeled_more, peeled_room, way_found, stuck}
 use Rattle.grow.specs.Inner.Tables.{term, flag, says, rules_in, new_at, fails_at, unmet_at, bars_at, free_at, Gathered, Added, Answer}
 
 -- ---------------------------------------------------------------- flags and terms
@@ -106,9 +106,6 @@ pub record Gathering (ts : List ℕ) (s d₀ d : List Bool) (i : ℕ) : Type 0 w
   pub needed : (us : List Bool) (W : State) → Needed (rules_in us ts) (direct s) W (direct d₀) → Needed (rules_in us ts) (direct s) W (direct d)
   pub quiet : (k : ℕ) → k < i → new_at ts s d k ≡ false
 
-pub gathering_first : (ts : List ℕ) (s d : List Bool) → length d ≡ 160 → Gathering ts s d d 0
-gathering_first ts s d size = record { size = size; fits = omega arith; from = λ f h. h; needed = λ us W n. n; quiet = λ k l. absurd (omega arith) }
-
 -- What is left to do: a fact put in begins the sweep again, and there are 160.
 abbrev pub gather_left : List Bool → ℕ → ℕ
 gather_left d i = (160 - count_below (direct d) 160) * 1281 + (1280 - i)
@@ -141,16 +138,6 @@ module _ {ts : List ℕ} {s d₀ d : List Bool} {i : ℕ} (k : Gathering ts s d�
         go a b i e l =
             let n : 160 - a ≡ suc (160 - b) = omega arith in
             rw n (omega arith)
-
-  pub gathering_skip : new_at ts s d i ≡ false → Gathering ts s d₀ d (i + 1)
-  gathering_skip e =
-      record {
-        size = k.size;
-        fits = omega arith;
-        from = k.from;
-        needed = k.needed;
-        quiet = λ j m. at (λ j. j < i + 1 → new_at ts s d j ≡ false) i j (λ _. e) (λ n m'. k.quiet j (omega arith)) m;
-      }
 
 pub gathering_ends : {ts : List ℕ} {s d₀ d : List Bool} {i : ℕ} → Gathering ts s d₀ d i → 1280 ≤ i → Gathered ts s d₀ d
 gathering_ends {ts} {s} {d₀} {d} {i} k l =
@@ -312,17 +299,6 @@ pub record Adding (us : List Bool) (ts : List ℕ) (d x₀ x : List Bool) (order
   pub peeled : Peeled (rules_in us ts) (direct x₀) (direct d) (direct x) (take n order)
   pub quiet : (g : ℕ) → g < f → free_at us ts d x g ≡ false
 
-pub adding_first : (us : List Bool) (ts : List ℕ) (d x : List Bool) (order : List ℕ) → length x ≡ 160 → length order ≡ 160
-    → Adding us ts d x x order 0 0
-adding_first us ts d x order size size_order = record {
-  size = size;
-  size_order = size_order;
-  fits = omega arith;
-  noted = omega arith;
-  peeled = peeled_none (rules_in us ts) (direct x) (direct d);
-  quiet = λ g l. absurd (omega arith);
-}
-
 module _ {us : List Bool} {ts : List ℕ} {d x₀ x : List Bool} {order : List ℕ} {n f : ℕ} (k : Adding us ts d x₀ x order n f) (h : f < 160) where
   module _ (e : free_at us ts d x f ≡ true) where
     free : Free (rules_in us ts) (direct d) (direct x) f
@@ -344,17 +320,6 @@ module _ {us : List Bool} {ts : List ℕ} {d x₀ x : List Bool} {order : List �
           peeled = rw (add-one, direct_set_lem x f k.size h, take-suc-set) (peeled_more (rules_in us ts) (direct x₀) free k.peeled);
           quiet = λ g l. absurd (omega arith);
         }
-
-  pub adding_skip : free_at us ts d x f ≡ false → Adding us ts d x₀ x order n (f + 1)
-  adding_skip e =
-      record {
-        size = k.size;
-        size_order = k.size_order;
-        fits = omega arith;
-        noted = k.noted;
-        peeled = k.peeled;
-        quiet = λ g m. at (λ g. g < f + 1 → free_at us ts d x g ≡ false) f g (λ _. e) (λ o m'. k.quiet g (omega arith)) m;
-      }
 
 pub adding_ends : {us : List Bool} {ts : List ℕ} {d x₀ x : List Bool} {order : List ℕ} {n f : ℕ} → Adding us ts d x₀ x order n f → 160 ≤ f
     → Added us ts d x₀ x order n

@@ -15,8 +15,7 @@ use widths::{IDLE_AT, LEVEL_SIZE, TERMS_SIZE};
 
 // Whether term `i` asks for a fact that is not in `d`, for a fact of `d` that is not in `s`.
 // Kept: here and below the tables and the flags as slices, whose lengths clauses say, and no struct: `grow`, which docs/PROMISES.md names, is lent
-// them so, and of the flags it changes two; a term stays a
-// number, as `says` of specs/Inner/Tables reads it.
+// them so, and of the flags it changes two; a term stays a number, as `says` of specs/Inner/Tables reads it.
 fn asks_new(ts: &[u16], s: &[bool], d: &[bool], i: usize) -> bool
     requires { (i < terms_size) × ((length ts.now ≡ terms_size) × ((length s.now ≡ level_size) × (length d.now ≡ level_size))) }
     ensures { result ≡ new_at ts.now s.now d.now i }

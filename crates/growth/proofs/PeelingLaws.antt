@@ -30,10 +30,6 @@ module _ (R : Rules) (S₀ W : State) where
 -- ---------------------------------------------------------------- the additions one by one
 
 module _ (R : Rules) (S₀ : State) where
-  -- At first nothing is added.
-  pub peeled_none : (D : State) → Peeled R S₀ D S₀ []
-  peeled_none D = record { gains = tt; ends = refl; from = λ f h. h; safe = λ f g l b h. h }
-
   -- One more: a free fact.
   pub peeled_more : {D X : State} {fs : List ℕ} {f : ℕ} → Free R D X f → Peeled R S₀ D X fs → Peeled R S₀ D (update X f true) (fs ++ f ∷ [])
   peeled_more {D} {X} {fs} {f} free p =

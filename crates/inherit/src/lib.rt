@@ -31,10 +31,10 @@ fn is_sought(ledger: &[u8], c: u8, w: Sought) -> bool
     }
 }
 
-// Kept: the juniors as a slice whose length a clause says, here and in every function that takes them, not as `&[u32; 32]`: the functions
-// that docs/ name (`person_holds`, `rules::first_permitting` and others) ask no more of a caller than before; so no struct of ledger and juniors.
 // Looks at crew c and below it. `None` where what is looked for is found there, which ends the search; else the set of crews tried so far:
 // neither they nor crews below them are what is looked for.
+// Kept: the juniors as a slice whose length a clause says, here and in every function that takes them, not as `&[u32; 32]`, and so no struct
+// of ledger and juniors: functions that docs/ name (`person_holds`, `rules::first_permitting` and others) may ask no more of a caller.
 #[cycle(crew_tried_juniors_tried)]
 fn crew_tried(ledger: &[u8], juniors: &[u32], c: u8, w: Sought, seen: u32) -> Option<u32>
     requires c_bound { (c < 32) × (length juniors.now ≡ 32) }

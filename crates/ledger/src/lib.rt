@@ -28,7 +28,7 @@ pub enum Refusal {
 }
 
 // A refused book is refused.
-// Kept: four such impls, one an operation: each `refusal_number` of specs/, which docs/PROMISES.md names, matches `BadBook` of its own enum.
+// Kept: beside that of `frames::LentRefusal`, which the other operations answer: this one has more reasons to refuse than a book and a length.
 impl From<frames::Refusal> for Refusal {
     ghost use Rattle.std.specs.Prelude.{◌≡◌};
     ghost use Rattle.ledger.specs.declared.Refusal.TheVariants.{BadBook};
@@ -71,6 +71,8 @@ fn open_in(b: &Book, ledger: &mut [u8]) -> Result<(), Refusal>
 }
 
 // Writes the ledger of starting facts.
+// Kept: each operation begins with these two lines, here and in `replay`, `planner` and `page`: a function that reads the book and hands it to a closure
+// would be generic over what is answered and refused, and is no plainer.
 pub fn open(book: &[u8], ledger: &mut [u8]) -> Result<(), Refusal>
     ensures { reply result ledger.new ≡ open_reply book.now ledger.old }
 {

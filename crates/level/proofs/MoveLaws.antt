@@ -2,15 +2,15 @@
 use mathlib.Core.Path.{◌≡◌, refl, sym, ap, ◌∙◌}
 use mathlib.Core.Bool.{Bool, true, false}
 use mathlib.Core.List.{List, [], ◌∷◌}
-use Prim.Native.Nat.{ℕ, zero, suc, ◌+◌, ◌*◌, ◌≤◌, ◌<◌}
+use Prim.Native.Nat.{ℕ, zero, suc, ◌+◌, ◌-◌, ◌*◌, ◌≤◌, ◌<◌}
 use native.Mathlib.Nat.{add-zero, zero-add}
 use native.Mathlib.Numerals.{add-one}
 use native.Mathlib.Omega.{arith}
-use lib.ListN.{length, get_or, drop, take, drop_of_length-le}
+use lib.ListN.{length, length-drop, get_or, drop, take, drop_of_length-le}
 use lib.Seq.{drop-cons, get_or-take, length-take-le}
 use borrow.Rule.Slice.PartMut.{put_mid}
 use Rattle.std.proofs.Common.{rules}
-use Rattle.std.proofs.lemmas.List.{places}
+use Rattle.std.proofs.lemmas.List.{places, take-take}
 use Rattle.quantifiers.proofs.ListLaws.{all_same_at}
 use Rattle.theory.specs.Inner.Facts.{State}
 use Rattle.shown.specs.Inner.Shown.{visible}
@@ -106,13 +106,29 @@ pub record Reading (xs : List ℕ) (at n : ℕ) : Type 0 where
   pub fine : Fine (move_from xs at)
   pub count : n ≡ get_or xs (at + 1) 0
 
-pub reading : {xs : List ℕ} {at : ℕ} → Fine (move_from xs at) → Reading xs at (get_or xs (at + 1) 0)
-reading fine = record { fine = fine; count = refl }
+pub reading : {xs : List ℕ} {at n : ℕ} → Fine (move_from xs at) → n ≡ get_or xs (at + 1) 0 → Reading xs at n
+reading fine e = record { fine = fine; count = e }
+
+-- Term `j` in the part of the numbers that has them.
+pub term_read : (xs : List ℕ) (at n j : ℕ) → j < n → get_or (take n (drop (at + 6) xs)) j 0 ≡ get_or xs (at + 6 + j) 0
+term_read xs at n j l = search (rules, places)
 
 -- Its terms, one after another; `k` is the place of term `j`, as it was read.
 module _ {xs : List ℕ} {at n : ℕ} (r : Reading xs at n) where
   pub few_terms : n ≤ 8
   few_terms = omega (arith, r.count, count_stands xs at, r.fine.few)
+
+  -- There are so many in that part.
+  pub part_count : at + 14 ≤ length xs → length (take (at + 6 + n - (at + 6)) (drop (at + 6) xs)) ≡ n
+  part_count room =
+      let e : at + 6 + n - (at + 6) ≡ n = omega arith in
+      length-take-le (at + 6 + n - (at + 6)) (drop (at + 6) xs) (omega (arith, e, few_terms, length-drop (at + 6) xs)) ∙ e
+
+  -- What stands there is a term of the move.
+  pub part_read : at + 14 ≤ length xs → (j : ℕ) → j < length (take (at + 6 + n - (at + 6)) (drop (at + 6) xs))
+      → (j < n) × (get_or (take (at + 6 + n - (at + 6)) (drop (at + 6) xs)) j 0 ≡ get_or xs (at + 6 + j) 0)
+  part_read room j h =
+      let l : j < n = omega (arith, h, part_count room) in (l, term_read xs at (at + 6 + n - (at + 6)) j (omega (arith, l)))
 
   pub term_fits : (j : ℕ) {k : ℕ} → j < n → k ≡ get_or xs (at + 6 + j) 0 → k < 448
   term_fits j h s = omega (arith, s, term_stands xs at j (omega (arith, few_terms)), r.fine.places j)
@@ -174,10 +190,16 @@ eight_terms xs at = refl
 -- The terms of the move that stands at a place are a part of the numbers.
 pub terms_read : (xs : List ℕ) (at n : ℕ) → n ≡ 8 → at + 14 ≤ length xs → take n (drop (at + 6) xs) ≡ (move_from xs at).terms
 terms_read xs at n e room = eights (take n (drop (at + 6) xs)) (move_from xs at).terms (search (rules, places)) (eight_terms xs at)
-    (λ j l. part j (omega arith) ∙ sym (term_stands xs at j l))
-  where
-    part : (j : ℕ) → j < n → get_or (take n (drop (at + 6) xs)) j 0 ≡ get_or xs (at + 6 + j) 0
-    part j l = search (rules, places)
+    (λ j l. term_read xs at n j (omega arith) ∙ sym (term_stands xs at j l))
+
+-- The part of the numbers that has its terms is the places of its terms.
+pub part_places : {xs : List ℕ} {at n : ℕ} → Reading xs at n → at + 14 ≤ length xs
+    → take (at + 6 + n - (at + 6)) (drop (at + 6) xs) ≡ places_of (move_from xs at)
+unfolding places_of
+part_places {xs} {at} {n} r room =
+    let e : at + 6 + n - (at + 6) ≡ n = omega arith in
+    rw e (sym (take-take n 8 (drop (at + 6) xs) (few_terms r)) ∙ ap (take n) (terms_read xs at 8 refl room)
+    ∙ ap (λ k. take k (move_from xs at).terms) (r.count ∙ sym (count_stands xs at)))
 
 -- The numbers of a move.
 pub numbers_made : {m : Move} → Fine m → Numbers m (m.fact ∷ m.n ∷ m.op ∷ m.role ∷ m.a ∷ m.v ∷ m.terms)

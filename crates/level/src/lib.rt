@@ -1,7 +1,7 @@
 // One level of the planner: the facts of one crew, or of the query's person, the moves that rules permit on them, and the rounds that settle
 // the level.
-// Kept: kinds, ops and places are numbers, as in `frames::Term`; the lengths of flags stand in clauses, here and in the planner's other crates,
-// since the functions that docs/PROMISES.md names are lent slices.
+// Kept: kinds, ops and places are numbers, as in `frames::Term`; the bounds of places and the lengths of flags and of moves stand in clauses, here and in
+// the planner's other crates, since the functions that docs/PROMISES.md names are lent slices, and take places as numbers.
 
 #![tactic(auto)]
 
@@ -20,6 +20,7 @@ use frames::Rule;
 use widths::{FLAGS_SIZE, HIGHER_AT, LEVEL_SIZE, MOVE_SIZE, VALUES_SIZE};
 
 // A rule as a move: the fact that it adds or deletes, the bytes of its request, and the places of its terms.
+// Kept: an array with its count beside it, as `frames::Rule`.
 #[derive(Clone, Copy)]
 pub struct Move {
     pub fact: usize,
@@ -38,8 +39,8 @@ pub struct Move {
 pub fn place(kind: u8, a: u8, v: u8) -> u16
     ensures { result ≡ code_of kind a v }
 {
-    let x = a as u16;
-    let y = v as u16;
+    let x = u16::from(a);
+    let y = u16::from(v);
     match kind {
         1 => 16 * x + y,
         2 | 0x81 => LEVEL_SIZE as u16 + (16 * x + y),
@@ -55,9 +56,9 @@ pub fn aim(op: u8, a: u8, v: u8) -> usize
     ensures { result ≡ place_of op a v }
 {
     if op < 5 {
-        16 * (a as usize) + v as usize
+        16 * usize::from(a) + usize::from(v)
     } else {
-        VALUES_SIZE + a as usize
+        VALUES_SIZE + usize::from(a)
     }
 }
 
@@ -67,17 +68,16 @@ pub fn move_of(r: &Rule) -> Move
     ensures { MoveOf r.now result }
 {
     let mut terms = [0; 8];
-    for j in 0..r.n as usize {
-        let t = r.terms[j];
+    for (j, t) in r.terms[..usize::from(r.n)].iter().enumerate() {
         terms[j] = place(t.kind, t.a, t.v);
     }
     Move {
         fact: aim(r.op, r.a, r.v),
-        n: r.n as usize,
-        op: r.op as u16,
-        role: r.role.0 as u16,
-        a: r.a as u16,
-        v: r.v as u16,
+        n: usize::from(r.n),
+        op: u16::from(r.op),
+        role: u16::from(r.role.0),
+        a: u16::from(r.a),
+        v: u16::from(r.v),
         terms,
     }
 }
@@ -85,6 +85,8 @@ pub fn move_of(r: &Rule) -> Move
 // A move as 14 numbers.
 // Kept: a move as 14 numbers of a flat list, as `moves_in` and `move_from` of specs/Inner/Moves read it, and as the functions that
 // docs/PROMISES.md names are lent it.
+// Kept: `Fine` of a move and `Sound` of a list as clauses, here and in `own` and `persons`: `move_from` of specs/ makes a move of any numbers, and
+// `close` and `persons::settle`, which docs/ name, are lent the flat list.
 fn numbers_of(m: Move) -> [u16; MOVE_SIZE]
     requires { Fine m }
     ensures { Numbers m result }
@@ -113,8 +115,8 @@ pub fn move_at(ms: &[u16], i: usize) -> Move
     let mut terms = [0; 8];
     terms.copy_from_slice(&ms[at + 6..at + MOVE_SIZE]);
     Move {
-        fact: ms[at] as usize,
-        n: ms[at + 1] as usize,
+        fact: usize::from(ms[at]),
+        n: usize::from(ms[at + 1]),
         op: ms[at + 2],
         role: ms[at + 3],
         a: ms[at + 4],
@@ -134,18 +136,19 @@ pub fn chosen(r: &Rule, one: u8, two: u8, roles: u32) -> bool
 // ---------------------------------------------------------------- a move tested, and its request
 
 // Whether `shows` answers yes at the place of each term of the move at the place `at` of the numbers. Most moves that are tried do not
-// fire, so the tests read a move's numbers where they stand: no move is made for them.
+// fire, so the tests read a move's numbers where they stand: no move is made for them. The closure has a clause, as `shows` need not answer
+// at places past the flags.
 fn do_all_show<F: Fn(usize) -> bool>(ms: &[u16], at: usize, shows: F) -> bool
     requires stands { (at + move_size ≤ length ms.now) × Fine (move_from ms.now at) }
     requires callable { (k : ℕ) → k < flags_size → F.pre shows k }
     ensures { (p : ℕ → Bool) → ((k : ℕ) (b : Bool) → F.post shows k b → b ≡ p k) → result ≡ all p (places_of (move_from ms.now at)) }
 {
-    for j in 0..ms[at + 1] as usize {
-        if !shows(ms[at + 6 + j] as usize) {
-            return false;
-        }
-    }
-    true
+    let n = usize::from(ms[at + 1]);
+    ms[at + 6..at + 6 + n].iter().all(
+        |k|
+            requires { F.pre shows k.now }
+        { shows(usize::from(*k)) },
+    )
 }
 
 // Whether all terms of the move at the place `at` of the numbers hold of the flags `x`.
@@ -158,6 +161,8 @@ pub fn meets(ms: &[u16], at: usize, x: &[bool]) -> bool
 }
 
 // Writes the request of a move, as request `k`.
+// Kept: byte by byte, no `copy_from_slice` of the five: for a page, which gives no requests, the compiler leaves these writes and the clearing of
+// their buffer out, but not with that one; `depot_page` took up to 18% more (docs/PERFORMANCE.md, The code in today's forms).
 pub fn note(m: Move, subject: u8, k: usize, out: &mut [u8])
     requires { Fine m × (5 * k + 5 ≤ length out.old) }
     ensures { Noted out.old k (ask_of subject m) out.new }
@@ -179,7 +184,7 @@ pub fn fires(ms: &[u16], i: usize, allowed: &[bool], x: &[bool]) -> bool
     ensures { result ≡ fires_in (move_at (moves_in ms.now) i) allowed.now x.now }
 {
     let at = MOVE_SIZE * i;
-    let f = ms[at] as usize;
+    let f = usize::from(ms[at]);
     !x[f] && allowed[f] && meets(ms, at, x)
 }
 
@@ -289,7 +294,7 @@ pub fn meets_with(ms: &[u16], at: usize, table: &[bool], x: &[bool]) -> bool
     requires x_len { (length x.now ≡ flags_size) × (length table.now ≡ table_size) }
     ensures { result ≡ flags_with (move_from ms.now at) table.now x.now }
 {
-    let f = ms[at] as usize;
+    let f = usize::from(ms[at]);
     do_all_show(ms, at, |k| shown::lit(table, f, k, x))
 }
 
@@ -300,7 +305,7 @@ pub fn backs(ms: &[u16], i: usize, table: &[bool], x: &[bool], y: &[bool]) -> bo
     ensures { result ≡ backs_in (move_at (moves_in ms.now) i) table.now x.now y.now }
 {
     let at = MOVE_SIZE * i;
-    let f = ms[at] as usize;
+    let f = usize::from(ms[at]);
     !y[f] && x[f] && meets_with(ms, at, table, y)
 }
 

@@ -2,7 +2,7 @@
 -- sides one behind the other.
 use mathlib.Core.Path.{◌≡◌, refl, ap, sym, subst, ◌∙◌}
 use mathlib.Core.Logic.{dite}
-use mathlib.Core.Bool.{Bool, true, false, true≢false}
+use mathlib.Core.Bool.{Bool, true, false}
 use mathlib.Core.List.{List, [], ◌∷◌}
 use Prim.Native.Nat.{ℕ, zero, suc, ◌+◌, ◌-◌, ◌*◌, ◌≤◌, ◌<◌}
 use native.Mathlib.Decide.{ℕ_discrete}
@@ -12,7 +12,6 @@ use lib.ListN.{length, get_or, take, drop, length-drop}
 use lib.Seq.{get_or-take, get_or-drop, length-take-le}
 use Rattle.quantifiers.proofs.BelowLaws.{count_yes, count_no, count_longer, count_four}
 use Rattle.level.specs.Inner.Moves.{Moves, move_from, moves_in, move_at}
-use Rattle.level.specs.Inner.Terms.{MoveOf}
 use Rattle.level.specs.Inner.Chosen.{chosen_in, rule_at, GoodRules, MovesOf, MovePut}
 use Rattle.level.specs.declared.Move.{Move}
 use Rattle.level.proofs.MoveLaws.{move_same}
@@ -21,17 +20,6 @@ use Rattle.frames.specs.declared.Rule.{Rule}
 use Rattle.frames.specs.declared.Rules.{Rules}
 use Rattle.moves.specs.Inner.Listed.{of_list, is_chosen, chosen_count, RoomFrom, Taken, moves_from, Gathered, part_of, Prepared}
 use Rattle.quantifiers.specs.Quantifiers.{one_if, count_below}
-
--- ---------------------------------------------------------------- one rule more
-
-module _ (one two roles : ℕ) (r : Rule) (k : ℕ) (xs : List ℕ) where
-  -- A chosen rule.
-  pub taken_more : (m : Move) (ys : List ℕ) → chosen_in one two roles r ≡ true → MoveOf r m → MovePut xs k m ys → Taken one two roles r k xs (k + 1) ys
-  taken_more m ys e o p = record { more = λ f. (refl, (m, o, p)); none = λ f. absurd (true≢false (sym e ∙ f)) }
-
-  -- Any other rule.
-  pub taken_none : chosen_in one two roles r ≡ false → Taken one two roles r k xs k xs
-  taken_none e = record { more = λ f. absurd (true≢false (sym f ∙ e)); none = λ f. (refl, refl) }
 
 -- Move i behind move `from` is move `from + i`.
 drop_move : (from i : ℕ) (xs : List ℕ) → move_from (drop (14 * from) xs) (14 * i) ≡ move_from xs (14 * (from + i))

@@ -12,6 +12,7 @@ use frames::{Rule, Rules};
 use widths::MOVE_SIZE;
 
 // The move of a rule, where it is chosen, is written as move `k`. Returns how many moves there are then.
+// Kept: two ops and the roles one by one, here and below, no closure: `Taken` and `Gathered` of specs/Inner/Listed take them as `chosen_in` does.
 fn gather(r: &Rule, one: u8, two: u8, roles: u32, k: usize, ms: &mut [u16]) -> usize
     requires { GoodRule r.now × ((chosen_in one two roles r.now ≡ true → k < 512) × (length ms.old ≡ moves_size)) }
     ensures { Taken one two roles r.now k ms.old result ms.new }
@@ -48,7 +49,7 @@ pub struct Counts {
 }
 
 // The moves of each side, out of the buffer that has them all.
-// Kept: a method a side: which ends cut it is all that each says.
+// Kept: a method a side: which ends cut it is all that each says; and `Sided` as a clause, since it is of the counts and the buffer together.
 impl Counts {
     pub fn gains_in(self, ms: &[u16]) -> &[u16]
         requires { Sided self ms.now }

@@ -17,9 +17,6 @@ use Rattle.own.specs.Inner.Requests.{request_of, requests_of, Ready}
 
 -- The move of fact i of the order is one of the moves.
 module _ {xs by order : List ℕ} {n bytes i f : ℕ} (r : Ready (moves_in xs) by order n bytes) (l : i < n) (fact : f ≡ get_or order i 0) where
-  pub fact_known : f < length by
-  fact_known = rw (r.size_by, fact) (r.facts i l)
-
   module _ {k : ℕ} (number : k ≡ get_or by f 0) where
     move-known : k < (moves_in xs).count
     move-known = rw (number, fact) (r.moves i l)
@@ -52,6 +49,3 @@ module _ {ms : Moves} {by order : List ℕ} {person : ℕ} {up₀ : List ℕ} {n
         size = w.size ∙ s.size;
         same = asks_more 0 i note ∙ rw (s.same, is, add-one, take-suc order i 0 (omega arith), map-append) refl;
       }
-
-  pub writing_all : n ≤ i → asks up 0 n ≡ requests_of ms by person (take n order)
-  writing_all l = let last : i ≡ n = omega (arith, s.fits) in rw (← last) s.same

@@ -24,6 +24,8 @@ use widths::{IDLE_AT, LEVEL_SIZE, MOVE_SIZE, MOVES_SIZE, TERMS_SIZE, VALUES_SIZE
 // ---------------------------------------------------------------- the moves as tables
 
 // Term `j` of a move; where it has no such term, one that asks nothing.
+// Kept: that one is the number `IDLE_AT`, no `None`: `grow::grow`, which docs/PROMISES.md names, takes the terms as numbers.
+// Kept: `Fine` and `Sound` of the moves as clauses, as in `level`: `move_from` of specs/ makes a move of any numbers of a flat list.
 fn term_of(m: Move, j: usize) -> u16
     requires { Fine m × (j < 8) }
     ensures { result ≡ term_of m j }
@@ -65,7 +67,7 @@ fn wants_value(q: &Query, a: Attr, v: u8) -> bool
     requires { SmallWants q.now }
     ensures { result ≡ wants_value q.now a.0 v }
 {
-    q.wants[..q.q as usize]
+    q.wants[..usize::from(q.q)]
         .iter()
         .any(|w| w.attr == a && sets::has(w.set, v))
 }
@@ -88,21 +90,19 @@ fn wanted(q: &Query, w: &mut [bool])
     requires { SmallWants q.now × (length w.old ≡ level_size) }
     ensures { FlagsWritten w.old 0 (wanted_at q.now) level_size w.new }
 {
-    for f in 0..LEVEL_SIZE as u8 {
-        w[f as usize] = is_wanted(q, f);
-    }
+    flags::write_flags(LEVEL_SIZE as u8, w, 0, |f, _| is_wanted(q, f));
 }
 
 // ---------------------------------------------------------------- the requests
 
 // Writes the requests of the first `n` facts of `order`, each by its move.
+// Kept: `n` beside `order`, as `Ready` of specs/Inner/Requests and the answer of `grow::grow` have them.
 fn write_requests(ms: &[u16], by: &[u16], order: &[u8], n: usize, person: u8, up: &mut [u8])
     requires { Ready (moves_in ms.now) by.now order.now n (length up.old) }
     ensures { asks up.new 0 n ≡ requests_of (moves_in ms.now) by.now person (take n order.now) }
 {
-    for i in 0..n {
-        let f = usize::from(order[i]);
-        let k = usize::from(by[f]);
+    for (i, f) in order[..n].iter().enumerate() {
+        let k = usize::from(by[usize::from(*f)]);
         level::note(level::move_at(ms, k), person, i, up);
     }
 }

@@ -19,7 +19,7 @@ use Rattle.words.specs.Inner.Words.{column}
 use Rattle.rows.specs.Inner.Rows.{bit_of, RowsShown}
 use Rattle.page.specs.Page.{Paged}
 use Rattle.std.specs.Prelude.{Err}
-use Rattle.page.specs.declared.Refusal.TheVariants.{BadBook}
+use Rattle.frames.specs.declared.LentRefusal.TheVariants.{BadBook}
 use Rattle.page.specs.Page.{done, refusal, said, asking, Reachable, PageGiven, PageAnswered, page_book, PagePromise}
 use Rattle.page.specs.Inner.Rows.{roaming, RowsRight}
 use Rattle.page.proofs.PageLaws.{roams_asking}

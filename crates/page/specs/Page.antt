@@ -7,19 +7,13 @@ use Rattle.frames.specs.declared.Want.{Want}
 use Rattle.frames.specs.Book.{Contents, with_query, no_want, Answer, refused, accepted, book_for}
 use Rattle.frames.specs.Book as frames
 use Rattle.planner.specs.Promise.{NoWay, Works}
-use Rattle.page.specs.declared.Refusal.{Refusal}
-use Rattle.page.specs.declared.Refusal.TheVariants.{BadBook, BadTable}
+use Rattle.frames.specs.declared.LentRefusal.{LentRefusal}
 
 -- ---------------------------------------------------------------- what page says
 
--- The table's number of each refusal, and its line: "A table of another length is refused under 10."
-abbrev pub refusal_number : Refusal → ℕ
-refusal_number (BadBook r) = frames.refusal_number r
-refusal_number BadTable = 10
-
-abbrev pub refusal_line : Refusal → ℕ
-refusal_line (BadBook r) = frames.refusal_line r
-refusal_line BadTable = 0
+-- The table's number of each refusal: "A table of another length is refused under 10."
+abbrev pub refusal_number : LentRefusal → ℕ
+refusal_number r = frames.lent_number 10 r
 
 -- What page says, in the paper's numbers: done, or a refusal's number and line.
 pub data Said : Type 0 where
@@ -28,11 +22,11 @@ pub data Said : Type 0 where
 
 -- The code's answer: done, or a refusal.
 abbrev pub Paged : Type 0
-Paged = Result (Unit {0}) Refusal
+Paged = Result (Unit {0}) LentRefusal
 
 abbrev pub said : Paged → Said
 said (Ok _) = done
-said (Err r) = refusal (refusal_number r) (refusal_line r)
+said (Err r) = refusal (refusal_number r) (frames.lent_line r)
 
 -- ---------------------------------------------------------------- one query for each bit
 

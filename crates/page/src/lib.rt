@@ -10,11 +10,10 @@ ghost use Rattle.frames.specs.Inner.Fits.{Admitted};
 ghost use Rattle.level.specs.Inner.Moves.{moves_in};
 ghost use Rattle.reach.specs.Inner.Leveled.{Leveled};
 ghost use Rattle.search.specs.Inner.Scan.{SideMoves, BlankTable};
-ghost use Rattle.page.specs.Page.{refusal_number, refusal_line, said, page_size, PageAnswered, PagePromise};
+ghost use Rattle.page.specs.Page.{refusal_number, said, page_size, PageAnswered, PagePromise};
 ghost use Rattle.page.specs.Inner.Rows.{asked_nothing, Roams, CrewsSettled, PersonMoves, RowsRight};
 
-use facts::{Attr, Person};
-use frames::{Book, Query, Want};
+use frames::{Book, NO_QUERY, Query};
 use level::Sides;
 use search::Parts;
 use widths::{DRAFT_SIZE, FLAGS_SIZE, MOVES_SIZE, ROWS_SIZE, TABLE_SIZE};
@@ -22,46 +21,14 @@ use widths::{DRAFT_SIZE, FLAGS_SIZE, MOVES_SIZE, ROWS_SIZE, TABLE_SIZE};
 // The bytes of a page: sixteen for each of 64 persons.
 pub const PAGE_SIZE: usize = 1024;
 
-// The book's refusals, and 10.
-#[derive(Clone, Copy)]
-pub enum Refusal {
-    BadBook(frames::Refusal),
-    BadTable,
-}
-
-// A refused book is refused.
-// Kept: four such impls, one an operation: each `refusal_number` of specs/, which docs/PROMISES.md names, matches `BadBook` of its own enum.
-impl From<frames::Refusal> for Refusal {
-    ghost use Rattle.std.specs.Prelude.{◌≡◌};
-    ghost use Rattle.page.specs.declared.Refusal.TheVariants.{BadBook};
-
-    ghost from_gives = { λ r e. e ≡ BadBook r };
-
-    fn from(r: frames::Refusal) -> Refusal {
-        Refusal::BadBook(r)
-    }
-}
+// The book's refusals, and 10, where the table has another length.
+pub use frames::LentRefusal as Refusal;
 
 // The table's number of a refusal.
-// Kept: as `replay` and `planner` have theirs, here and in `refusal_line`: each definition in specs/ matches the variants of its own
-// enum (`BadTable` here).
 pub fn refusal_number(r: Refusal) -> u8
     ensures { result ≡ refusal_number r }
 {
-    match r {
-        Refusal::BadBook(b) => frames::refusal_number(b),
-        Refusal::BadTable => 10,
-    }
-}
-
-// The line of a refusal, 0 for 10.
-pub fn refusal_line(r: Refusal) -> usize
-    ensures { result ≡ refusal_line r }
-{
-    match r {
-        Refusal::BadBook(b) => frames::refusal_line(b),
-        Refusal::BadTable => 0,
-    }
+    frames::lent_number(10, r)
 }
 
 // A query for person 0 that asks for nothing.
@@ -71,18 +38,14 @@ fn asked_nothing(mode: u8, roles: u32) -> Query
 {
     Query {
         mode,
-        person: Person(0),
         roles,
-        q: 0,
-        wants: [Want {
-            attr: Attr(0),
-            set: 0,
-        }; 8],
-        crews: 0,
+        ..NO_QUERY
     }
 }
 
 // What the crews come to, once for all persons, as the table of a person's level.
+// Kept: `Leveled` and `Roams` of a book as clauses, here and below: they hold once `page_in` has put its own query in, so they are no invariant of
+// `Book`, and a struct that lends a book with them would be opened for every part of it. `BlankTable` too, as `search::settle_crews` asks for it.
 fn crews_table(b: &Book, sides: Sides, table: &mut [bool])
     requires leveled { Leveled (contents_of b.now) × Roams (contents_of b.now) }
     requires side_moves { SideMoves b.now.rules b.now.query.roles 3 3 4 4 (moves_in sides.adds.now) (moves_in sides.dels.now) × BlankTable table.old }
@@ -91,13 +54,7 @@ fn crews_table(b: &Book, sides: Sides, table: &mut [bool])
     let mut rows = [false; ROWS_SIZE];
     let mut up = [0u8; DRAFT_SIZE];
     let mut down = [0u8; DRAFT_SIZE];
-    let parts = Parts {
-        query: &b.query,
-        crews: b.sizes.crews,
-        facts: &b.facts,
-        juniors: &b.juniors,
-        sides,
-    };
+    let parts = Parts::new(b, sides);
     search::settle_crews(&parts, &mut rows, table, &mut up, &mut down);
     flags::person_table(&rows, table);
 }
@@ -147,7 +104,7 @@ fn page_in(b: &mut Book, out: &mut [u8]) -> Result<(), Refusal>
     ensures { PageAnswered (contents_of b.old) out.old (said result) out.new }
 {
     if out.len() != PAGE_SIZE {
-        return Err(Refusal::BadTable);
+        return Err(Refusal::BadLength);
     }
     b.query = asked_nothing(1, b.query.roles);
     fill(b, out);

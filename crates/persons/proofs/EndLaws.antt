@@ -7,7 +7,7 @@ use Prim.Native.Nat.{ℕ, zero, suc, ◌+◌, ◌-◌, ◌*◌, ◌^◌, ◌≤�
 use native.Mathlib.Decide.{ℕ_discrete, dec_lt}
 use native.Mathlib.Omega.{arith}
 use lib.ListN.{length, get_or}
-use borrow.Author.Tests.{lt-ltb, ltb-true}
+use borrow.Author.Tests.{lt-ltb}
 use Rattle.quantifiers.specs.Quantifiers.{any_below, count_below, sum_below, one_if}
 use Rattle.quantifiers.proofs.BoolLaws.{and_both, by_test}
 use Rattle.quantifiers.proofs.BelowLaws.{any_none, any_false, count_le, sum_most}
@@ -183,15 +183,6 @@ module _ {ms : Moves} (sound : Sound ms) {T : List Bool} {everyone : ℕ} {befor
           ∙ any_none (λ q. member everyone q && fires_in (move_at ms j) every_fact (column ws q)) 64 p (still j l) (person_low everyone small p is)
 
 -- ---------------------------------------------------------------- from the start to the end
-
--- Persons who have begun are whole.
-pub begun_whole : {facts : List ℕ} {crews : ℕ} {T : List Bool} {n everyone : ℕ} {ws : List ℕ} → Begun facts crews T n everyone ws → length T ≡ 5280
-    → AllWhole T everyone ws
-begun_whole {n = n} begun rows = record {
-  size = begun.size;
-  rows = rows;
-  each = λ p is. (begun.each p (ltb-true p n (sym (begun.persons p) ∙ is))).built.whole;
-}
 
 pub persons_end : {ms : Moves} {facts : List ℕ} {crews : ℕ} {T : List Bool} {n everyone : ℕ} {before ws : List ℕ} → Begun facts crews T n everyone before
     → AllEnd ms T everyone before ws → PersonsEnd ms facts crews T n ws

@@ -31,18 +31,18 @@ fn start(persons: u8, crews: u8, facts: &[u8], table: &[bool], held: &mut [u64])
 // Those of the persons for whom all terms of the move at the place `at` of the numbers hold.
 // Kept: `meets`, `fires` and `close` beside those of `level`: words of persons for flags, no requests, no names tried first, and promises of
 // their own (`Meeting`, `Firing`, `AllEnd`).
+// Kept: `Fine` and `Sound` of the moves as clauses, as in `level`: `settle`, which docs/PROMISES.md names, is lent the flat list of numbers.
 fn meets(ms: &[u16], at: usize, all: u64, held: &[u64]) -> u64
     requires { (at + move_size ≤ length ms.now) × (Fine (move_from ms.now at) × (length held.now ≡ flags_size)) }
     ensures { Meeting (move_from ms.now at) all held.now result }
 {
     let n = usize::from(ms[at + 1]);
     let mut who = all;
-    for j in 0..n {
+    for k in &ms[at + 6..at + 6 + n] {
         if who == 0 {
             return 0;
         }
-        let k = usize::from(ms[at + 6 + j]);
-        who &= held[k];
+        who &= held[usize::from(*k)];
     }
     who
 }

@@ -1,13 +1,10 @@
 -- The laws of what the program prints: the text of an answer that keeps the promise of plan; 80 exactly where there is no way.
 use mathlib.Core.Path.{◌≡◌, refl, ap, sym, subst, ◌∙◌}
-use mathlib.Core.Logic.{inl, inr, ⊎_elim, dite}
-use mathlib.Core.Bool.{false, true≢false}
+use mathlib.Core.Logic.{inl, inr, ⊎_elim}
 use mathlib.Core.List.{List, ◌++◌}
-use Prim.Native.Nat.{ℕ, ◌*◌, ◌≤◌, ◌<◌}
-use native.Mathlib.Decide.{dec_lt}
+use Prim.Native.Nat.{ℕ, ◌*◌, ◌≤◌}
 use native.Mathlib.Omega.{arith}
 use lib.ListN.{length, get_or}
-use Rattle.std.specs.Prelude.{Some}
 use Rattle.lines.specs.Digits.{digit, character}
 use Rattle.lines.proofs.TableLaws.{digit_back}
 use Rattle.frames.specs.Book.{Contents, Answer, refused, accepted, book_of}
@@ -20,10 +17,7 @@ use Rattle.planner.specs.Answer.{Said, said80, said81, said8_f, said, front, Dec
 use Rattle.sizes.proofs.SizeLaws.{facts_few}
 use Rattle.planner.proofs.PromiseLaws.{never_both}
 use Rattle.answers.specs.Answers.{hex, hex_line, no_way_bytes, count_bytes, request_lines, answer_text}
-use Rattle.answers.specs.Inner.Written.{Written}
-use Rattle.answers.proofs.WrittenLaws.{end-within}
 use Rattle.plan.specs.Printed.{PlanPrinted, PrintedFor, Printed}
-use Rattle.plan.specs.Inner.Tried.{is_short, PrintedIfRoom}
 
 -- ---------------------------------------------------------------- the text of an answer
 
@@ -51,28 +45,11 @@ printed {book} {text} {before} {out} answer enough promise e = record { answers 
 
 -- ---------------------------------------------------------------- a buffer long enough
 
-module _ {book before out : List ℕ} (answer : Planned) (promise : PlanPromise book before answer out) where
-  -- Where the answer is not 10, the buffer is long enough.
-  pub long_enough : is_short (said answer) ≡ false → (b : Contents) → book_of book ≡ accepted b → 10 * fact_count b.sizes ≤ length before
-  long_enough not_IsShort b read =
-      dite (dec_lt (length before) (10 * fact_count b.sizes))
-      (λ (h : length before < 10 * fact_count b.sizes). absurd (true≢false (sym (ap is_short (kept.short h).0) ∙ not_IsShort)))
-      (λ (h : length before < 10 * fact_count b.sizes → ⊥). omega arith)
-    where
-      kept : AnsweredFor (accepted b) before (said answer) out
-      kept = subst (λ (a : Answer). AnsweredFor a before (said answer) out) read promise.kept
-
 -- 42,560 bytes are 10 × F for the largest sizes: no book finds them too short.
 pub printed_any : {book text before out : List ℕ} (answer : Planned) → length before ≡ 42560 → PlanPromise book before answer out
     → text ≡ answer_text (said answer) out → Printed book text
 printed_any {book} answer room =
     printed answer (λ b read. omega (arith, room, facts_few b.sizes (book_accepted book b read).sized))
-
--- ---------------------------------------------------------------- what is put in the text
-
-pub tried_put : {book before out text after : List ℕ} {end : ℕ} (answer : Planned) → PlanPromise book before answer out → is_short (said answer) ≡ false
-    → Written text 0 (answer_text (said answer) out) after end → PrintedIfRoom book text (Some end) after
-tried_put answer promise not_IsShort w = (end-within w, printed answer (long_enough answer promise not_IsShort) promise w.upto)
 
 -- ---------------------------------------------------------------- exactly
 

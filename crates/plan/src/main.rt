@@ -37,7 +37,7 @@ fn answer(text: &mut [u8], n: usize) -> usize
 fn is_short(answer: Result<Option<usize>, planner::Refusal>) -> bool
     ensures { result ≡ is_short (said answer) }
 {
-    matches!(answer, Err(planner::Refusal::ShortBuffer))
+    matches!(answer, Err(planner::Refusal::BadLength))
 }
 
 // Like `answer`, with a buffer that may be too short for the book: then the text is left as it was, and `None` returned.
@@ -67,8 +67,8 @@ fn size_at(book: &[u8], at: usize) -> usize
     requires { at + 2 ≤ length book.now }
     ensures { result ≤ 4335 }
 {
-    let high = lines::digit_of(book[at]) as usize;
-    let low = lines::digit_of(book[at + 1]) as usize;
+    let high = usize::from(lines::digit_of(book[at]));
+    let low = usize::from(lines::digit_of(book[at + 1]));
     16 * high + low
 }
 

@@ -22,12 +22,16 @@ use Rattle.reach.specs.Inner.Leveled.{Leveled}
 use Rattle.drafts.specs.Inner.Drafts.{carried, flat}
 use Rattle.drafts.proofs.DraftLaws.{run-carried, flat_append, fives-flat, length-flat}
 use Rattle.search.specs.Inner.Drive.{starts, drafted}
-use Rattle.search.specs.Inner.Scan.{NoRun, BestWritten}
+use Rattle.search.specs.Inner.Scan.{NoRun, BestWritten, Searched}
 use Rattle.sizes.specs.Sizes.{fact_count}
 use Rattle.planner.specs.Promise.{Works}
 use Rattle.planner.specs.Answer.{Planned}
-use Rattle.std.specs.Prelude.{Err}
-use Rattle.planner.specs.declared.Refusal.TheVariants.{BadBook}
+use Rattle.std.specs.Prelude.{Option, Some, None, Err}
+use Rattle.std.specs.Option.{MatchOption}
+use Rattle.std.specs.Bool.{then_some}
+use Rattle.level.specs.declared.Ends.{Ends}
+use Rattle.level.specs.Inner.Settle.{found_of, ups_of, at_of}
+use Rattle.frames.specs.declared.LentRefusal.TheVariants.{BadBook}
 use Rattle.planner.specs.Answer.{front, Said, said81, said8_f, said, PlanGiven, Decided, Answered, PlanPromise}
 use Rattle.planner.specs.Inner.Found.{PlanFound, PlanReply, plan_reply, given}
 use Rattle.planner.proofs.CountLaws.{plan-few}
@@ -98,6 +102,15 @@ found_none b leveled stuck =
       most_down = omega arith;
       few = omega arith;
     }
+
+-- The run that the search found, kept only where its last ledger meets the query.
+pub found_kept : (b : Contents) → Leveled b → (up down : List ℕ) (s r : Option Ends) (Post : Ends → Bool → Type 0)
+    → ((e : Ends) (k : Bool) → Post e k → k ≡ met b (holds (carried b.facts (drafted up e.ups down e.at))))
+    → Searched b up down (found_of s) (ups_of s) (at_of s) → MatchOption s (r ≡ None) (λ e. (k : Bool) × Post e k × (r ≡ then_some k e))
+    → PlanFound b up down (found_of r) (ups_of r) (at_of r)
+found_kept b leveled up down None r Post reads w none = rw none (found_none b leveled (w.stuck refl))
+found_kept b leveled up down (Some e) r Post reads w (true, p, kept) = rw kept (found_best b leveled (w.written refl) true (reads e true p))
+found_kept b leveled up down (Some e) r Post reads w (false, p, kept) = rw kept (found_not_met b leveled (w.written refl) (reads e false p))
 
 -- Additions copied to the front, then deletions behind them.
 pub both_copied : (up : List ℕ) (ups : ℕ) (down : List ℕ) (at : ℕ) (before middle out : List ℕ) → length up ≡ 26400 → ups ≤ 5280

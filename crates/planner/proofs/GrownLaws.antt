@@ -1,6 +1,6 @@
 -- A way in a book that only grows is a plan that works, and there are no more requests in it than the person has facts.
 use mathlib.Core.Path.{◌≡◌, ap, sym, subst, ◌∙◌}
-use mathlib.Core.Bool.{Bool, true, false, true≢false}
+use mathlib.Core.Bool.{Bool, true, true≢false}
 use mathlib.Core.List.{List, [], ◌++◌, map, append-nil}
 use Prim.Native.Nat.{ℕ, ◌+◌, ◌-◌, ◌*◌, ◌≤◌}
 use native.Mathlib.Omega.{arith}
@@ -60,13 +60,3 @@ module _ (b : Contents) (ok : Growing b) {up : List ℕ} {found : Bool} {n : ℕ
       twice n v k h =
           let more : (1 + k) * v ≡ v + k * v = omega arith in
           omega (arith, more)
-
-  pub found_no_way : found ≡ false → PlanFound b up down false 0 5280
-  found_no_way e =
-      record {
-        works = λ t. absurd (true≢false (sym t));
-        none = λ _. record { none = own.none e };
-        few_up = omega arith;
-        most_down = omega arith;
-        few = omega arith;
-      }

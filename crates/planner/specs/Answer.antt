@@ -5,19 +5,13 @@ use Rattle.frames.specs.Book as frames
 use Rattle.replay.specs.Chains.{fives}
 use Rattle.replay.specs.Replay.{judged, replay_in}
 use Rattle.replay.specs.declared.Judgement.TheVariants.{Reaches}
-use Rattle.planner.specs.declared.Refusal.{Refusal}
-use Rattle.planner.specs.declared.Refusal.TheVariants.{BadBook, ShortBuffer}
+use Rattle.frames.specs.declared.LentRefusal.{LentRefusal}
 use Rattle.sizes.specs.Sizes.{fact_count}
 use Rattle.planner.specs.Promise as promise
 
--- The table's number of each refusal, and its line.
-abbrev pub refusal_number : Refusal → ℕ
-refusal_number (BadBook r) = frames.refusal_number r
-refusal_number ShortBuffer = 10
-
-abbrev pub refusal_line : Refusal → ℕ
-refusal_line (BadBook r) = frames.refusal_line r
-refusal_line ShortBuffer = 0
+-- The table's number of each refusal: 10 where the buffer is too short.
+abbrev pub refusal_number : LentRefusal → ℕ
+refusal_number r = frames.lent_number 10 r
 
 -- What plan says, in the paper's numbers: `80`, `81` and the count, or `8F` with a refusal's number and line.
 pub data Said : Type 0 where
@@ -27,12 +21,12 @@ pub data Said : Type 0 where
 
 -- The code's answer: no way, the count of the plan's requests, or a refusal.
 abbrev pub Planned : Type 0
-Planned = Result (Option ℕ) Refusal
+Planned = Result (Option ℕ) LentRefusal
 
 abbrev pub said : Planned → Said
 said (Ok None) = said80
 said (Ok (Some n)) = said81 n
-said (Err r) = said8_f (refusal_number r) (refusal_line r)
+said (Err r) = said8_f (refusal_number r) (frames.lent_line r)
 
 -- "A plan fills its front, five bytes a request": the bytes of a plan of n requests.
 abbrev pub front : ℕ → List ℕ → List ℕ

@@ -10,7 +10,7 @@ ghost use Rattle.replay.specs.Met.{met};
 ghost use Rattle.reach.specs.Inner.Leveled.{Leveled};
 ghost use Rattle.level.specs.Inner.Settle.{found_of, ups_of, at_of};
 ghost use Rattle.drafts.specs.Inner.Drafts.{carried, flat};
-ghost use Rattle.planner.specs.Answer.{refusal_number, refusal_line, said, Answered, PlanPromise};
+ghost use Rattle.planner.specs.Answer.{refusal_number, said, Answered, PlanPromise};
 ghost use Rattle.planner.specs.Inner.Found.{PlanFound, plan_reply, given};
 ghost use Rattle.search.specs.Inner.Drive.{drafted};
 ghost use Rattle.widths.specs.Inner.Widths.{depot_size, draft_size};
@@ -19,50 +19,19 @@ use frames::Book;
 use level::Ends;
 use widths::{DEPOT_SIZE, DRAFT_SIZE};
 
-// The book's refusals, and 10.
-#[derive(Clone, Copy)]
-pub enum Refusal {
-    BadBook(frames::Refusal),
-    ShortBuffer,
-}
-
-// A refused book is refused.
-// Kept: four such impls, one an operation: each `refusal_number` of specs/, which docs/PROMISES.md names, matches `BadBook` of its own enum.
-impl From<frames::Refusal> for Refusal {
-    ghost use Rattle.std.specs.Prelude.{◌≡◌};
-    ghost use Rattle.planner.specs.declared.Refusal.TheVariants.{BadBook};
-
-    ghost from_gives = { λ r e. e ≡ BadBook r };
-
-    fn from(r: frames::Refusal) -> Refusal {
-        Refusal::BadBook(r)
-    }
-}
+// The book's refusals, and 10, where the caller's buffer is too short.
+pub use frames::LentRefusal as Refusal;
 
 // The table's number of a refusal.
-// Kept: as `replay` and `page` have theirs, here and in `refusal_line`: each definition in specs/ matches the variants of its own
-// enum (`ShortBuffer` here).
 pub fn refusal_number(r: Refusal) -> u8
     ensures { result ≡ refusal_number r }
 {
-    match r {
-        Refusal::BadBook(b) => frames::refusal_number(b),
-        Refusal::ShortBuffer => 10,
-    }
-}
-
-// The line of a refusal, 0 for 10.
-pub fn refusal_line(r: Refusal) -> usize
-    ensures { result ≡ refusal_line r }
-{
-    match r {
-        Refusal::BadBook(b) => frames::refusal_line(b),
-        Refusal::ShortBuffer => 0,
-    }
+    frames::lent_number(10, r)
 }
 
 // Whether the requests of two buffers, carried out from the starting facts, end with a ledger that meets the query.
-// Kept: the two buffers beside the ends, here and below, not a struct: made at each call, and with its lengths as clauses, it is no plainer.
+// Kept: the two buffers beside the ends, here and below, not `level::Draft`, whose buffers are lent to be written; a struct of two that are only read,
+// made at each call and with its lengths as clauses, is no plainer.
 fn is_reached(b: &Book, up: &[u8], down: &[u8], e: Ends) -> bool
     requires admitted { Admitted (contents_of b.now) × ((e.ups ≤ depot_size) × (e.at ≤ depot_size)) }
     requires up_len { (length up.now ≡ draft_size) × (length down.now ≡ draft_size) }
@@ -75,17 +44,13 @@ fn is_reached(b: &Book, up: &[u8], down: &[u8], e: Ends) -> bool
 }
 
 // The requests of the best plan, found where they lead to a ledger that meets the query; none else.
+// Kept: `Leveled` as a clause, as `search::search` asks for it: a struct that lends a book with it would be no plainer for one call.
 fn best_plan(b: &Book, up: &mut [u8], down: &mut [u8]) -> Option<Ends>
     requires leveled { Leveled (contents_of b.now) }
     requires up_len { (length up.old ≡ draft_size) × (length down.old ≡ draft_size) }
     ensures { PlanFound (contents_of b.now) up.new down.new (found_of result) (ups_of result) (at_of result) }
 {
-    let e = search::search(b, up, down)?;
-    if is_reached(b, up, down, e) {
-        Some(e)
-    } else {
-        None
-    }
+    search::search(b, up, down).filter(|e| is_reached(b, up, down, *e))
 }
 
 // The requests of a plan, by the query's mode: a book of mode 03 only grows, and any other is planned by levels.
@@ -136,7 +101,7 @@ fn plan_in(b: &Book, out: &mut [u8]) -> Result<Option<usize>, Refusal>
 {
     let f = sizes::fact_count(b.sizes);
     if out.len() < 10 * f {
-        return Err(Refusal::ShortBuffer);
+        return Err(Refusal::BadLength);
     }
     let mut up = [0u8; DRAFT_SIZE];
     let mut down = [0u8; DRAFT_SIZE];

@@ -17,7 +17,7 @@ use Rattle.ledger.proofs.LedgerLaws.{SameOf, permitted_mono, permitted_local, te
 use Rattle.theory.specs.Inner.Facts.{State, ◌⊆◌}
 use Rattle.theory.specs.Inner.Plan.{Ask, Req, req, Lawful}
 use Rattle.theory.specs.Inner.Tiers.{Local, Agree}
-use Rattle.reach.specs.Inner.Tracked.{person_level, tracked, number_of, lift, asked, May}
+use Rattle.reach.specs.Inner.Tracked.{person_level, tracked, number_of, lift, asked}
 use Rattle.reach.specs.Inner.Depot.{depot, level_of}
 use Rattle.reach.proofs.TrackLaws.{tracked_value, tracked_crew, tracked-member, level_low, lift_mono, lift_same}
 

@@ -6,8 +6,8 @@ use mathlib.Core.List.{List, [], ◌∷◌, ◌++◌, append_assoc, append-nil}
 use Prim.Native.Nat.{ℕ, ◌+◌, ◌*◌, ◌/◌, ◌%◌, ◌≤◌, ◌<◌}
 use native.Mathlib.Numerals.{add-one}
 use native.Mathlib.Omega.{arith}
-use lib.ListN.{length, get_or, take, drop, set, length-set}
-use lib.Seq.{take-suc-set, length-take-le, get_or-take}
+use lib.ListN.{length, get_or, take, drop, set, length-set, length-append, length-drop}
+use lib.Seq.{take-suc-set, length-take-le, get_or-take, get_or-drop, drop-drop, take_at, drop_at}
 use Rattle.quantifiers.specs.Quantifiers.{all}
 use Rattle.quantifiers.proofs.ListLaws.{rest_out, rest_fail, rest_pass, all_take}
 use Rattle.lines.specs.Digits.{digit, is_digit, malformed, frame_of}
@@ -21,6 +21,28 @@ use Rattle.reader.specs.declared.Frame.{Frame}
 use Rattle.reader.specs.declared.Frame.TheVariants.{Bytes, Long}
 use Rattle.reader.specs.Inner.Decoding.{InFront, FrontOnly, DecodedAs, Decoded}
 use Rattle.reader.specs.Inner.Front.{first_line, Begun}
+
+-- The next two characters of x behind 2 × k others, and what is left behind them.
+pub record Pair (x : List ℕ) (k : ℕ) (pair left : List ℕ) : Type 0 where
+  pub behind : left ≡ drop (2 * (k + 1)) x
+  pub high : get_or pair 0 0 ≡ get_or x (2 * k) 0
+  pub low : get_or pair 1 0 ≡ get_or x (2 * k + 1) 0
+  pub within : 2 * k + 2 ≤ length x
+
+pub next_pair : (x : List ℕ) (k : ℕ) {rest : List ℕ} (pair left : List ℕ) → rest ≡ drop (2 * k) x → rest ≡ pair ++ left → length pair ≡ 2
+    → Pair x k pair left
+next_pair x k pair left at parts two =
+    let whole : drop (2 * k) x ≡ pair ++ left = sym at ∙ parts in
+    let same : pair ≡ take 2 (drop (2 * k) x) = sym (take_at pair left 2 two) ∙ ap (take 2) (sym whole) in
+    let here : 2 * k + 0 ≡ 2 * k = omega arith in
+    let on : 2 * k + 2 ≡ 2 * (k + 1) = omega arith in
+    record {
+      behind = sym (drop_at pair left 2 two) ∙ ap (drop 2) (sym whole) ∙ drop-drop 2 (2 * k) x ∙ ap (λ (n : ℕ). drop n x) on;
+      high = ap (λ (l : List ℕ). get_or l 0 0) same ∙ get_or-take 2 (drop (2 * k) x) 0 0 (omega arith) ∙ get_or-drop (2 * k) x 0 0
+          ∙ ap (λ (n : ℕ). get_or x n 0) here;
+      low = ap (λ (l : List ℕ). get_or l 1 0) same ∙ get_or-take 2 (drop (2 * k) x) 1 0 (omega arith) ∙ get_or-drop (2 * k) x 1 0;
+      within = omega (arith, ap length whole, length-append pair left, length-drop (2 * k) x, two);
+    }
 
 -- One byte more is written, by two digits; all are.
 module _ (x before : List ℕ) (k : ℕ) (now : List ℕ) (b : Begun x before k now) where

@@ -19,7 +19,6 @@ use Rattle.reader.specs.declared.Frame.{Frame}
 use Rattle.reader.specs.declared.Frame.TheVariants.{Bytes, Long}
 use Rattle.reader.proofs.DecodingLaws.{decoded_frame, decoded_long, decoded_malformed, front_ends, front-written}
 use Rattle.lines.proofs.LineLaws.{end_at}
-use Rattle.reader.specs.declared.Line.{Line}
 use Rattle.reader.specs.declared.Read.{Read}
 use Rattle.reader.specs.Inner.Reading.{line_end, line_of, LineRead, FrameRead}
 
@@ -43,16 +42,6 @@ module _ (book : List ℕ) (at : ℕ) (x : List ℕ) (is : x ≡ drop at book)
         ended = λ h. subst (λ (n : ℕ). Decoded (take n (drop at book)) (Some (Bytes k)) before after) same
             (subst (λ (w : List ℕ). Decoded (take (2 * k) w) (Some (Bytes k)) before after) is (front-written x before k after b e));
       }
-
--- A line read into a buffer that holds something already.
-pub read_over : (book : List ℕ) (at : ℕ) (before between : List ℕ) (l : Line) (after : List ℕ)
-    → length between ≡ length before → LineRead book at between l after → LineRead book at before l after
-read_over book at before between l after same p =
-    record {
-      ends = p.ends;
-      unended = λ h. ((p.unended h).0, (p.unended h).1 ∙ same);
-      ended = λ h. record { written = (p.ended h).written; size = (p.ended h).size ∙ same };
-    }
 
 abbrev HasFrame : Option Frame → Type 0
 HasFrame None = ⊥

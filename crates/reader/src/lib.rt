@@ -29,9 +29,9 @@ fn decode_short(x: &[u8], frame: &mut [u8]) -> Option<Frame>
         return None;
     }
     let n = x.len() / 2;
-    for k in 0..n {
-        let high = lines::digit_of(x[2 * k]);
-        let low = lines::digit_of(x[2 * k + 1]);
+    for (k, pair) in x.chunks_exact(2).enumerate() {
+        let high = lines::digit_of(pair[0]);
+        let low = lines::digit_of(pair[1]);
         if high >= 16 || low >= 16 {
             return None;
         }
@@ -48,6 +48,7 @@ fn are_digits(x: &[u8]) -> bool
 }
 
 // Of a line of over 128 characters only the first 64 bytes are written: no good frame is as long, and they tell which refusal is due.
+// Kept: the 64 bytes as a clause, here and below, no array: `current` and `read_frame`, which docs/PROMISES.md names, are lent a slice.
 fn decode_long(x: &[u8], frame: &mut [u8]) -> Option<Frame>
     requires { (128 < length x.now) × (length frame.old ≡ 64) }
     ensures { Decoded x.now result frame.old frame.new }
@@ -79,9 +80,9 @@ fn decode_front(x: &[u8], digits: &[u8], frame: &mut [u8]) -> usize
     ensures { Begun (first_line x.now) frame.old result frame.new }
 {
     let most = (x.len() / 2).min(64);
-    for k in 0..most {
-        let high = digits[usize::from(x[2 * k])];
-        let low = digits[usize::from(x[2 * k + 1])];
+    for (k, pair) in x[..2 * most].chunks_exact(2).enumerate() {
+        let high = digits[usize::from(pair[0])];
+        let low = digits[usize::from(pair[1])];
         if high >= 16 || low >= 16 {
             return k;
         }
@@ -98,6 +99,7 @@ pub struct Line {
 }
 
 // What is read at a cursor: the frame of the line there, and the cursor of the line behind it.
+// Kept: beside `Line`, of one shape: `current` and `read_frame`, both named in docs/PROMISES.md, promise one each (`LineRead`, `FrameRead`).
 #[derive(Clone, Copy)]
 pub struct Read {
     pub frame: Option<Frame>,
@@ -139,48 +141,40 @@ fn line_at(book: &[u8], at: usize, digits: &[u8], frame: &mut [u8]) -> Line
     any_line_at(book, at, frame)
 }
 
-// A book with the place at which a line of it starts, and that line's number.
+// A book with the cursor at which it is read.
 #[derive(Clone, Copy)]
 pub struct Reader<'a> {
     pub book: &'a [u8],
-    pub at: usize,
-    pub line: usize,
+    pub cursor: Cursor,
 }
 
 impl<'a> Reader<'a> {
     // The reader of a book at a cursor.
     pub fn new(book: &'a [u8], c: Cursor) -> Reader<'a>
-        ensures { (result.book ≡ book.entry) × ((result.at ≡ c.at) × (result.line ≡ c.line)) }
+        ensures { (result.book ≡ book.entry) × ((result.cursor.at ≡ c.at) × (result.cursor.line ≡ c.line)) }
     {
-        Reader {
-            book,
-            at: c.at,
-            line: c.line,
-        }
+        Reader { book, cursor: c }
     }
 
     // Where it stands.
     pub fn place(self) -> Cursor
-        ensures { (result.at ≡ self.entry.at) × (result.line ≡ self.entry.line) }
+        ensures { (result.at ≡ self.entry.cursor.at) × (result.line ≡ self.entry.cursor.line) }
     {
-        Cursor {
-            at: self.at,
-            line: self.line,
-        }
+        self.cursor
     }
 
     // The line there; its frame is written to the front of `frame`.
     pub fn current(self, digits: &[u8], frame: &mut [u8]) -> Line
-        requires { (self.at ≤ length self.book.now) × ((length self.book.now ≤ 65536) × ((length frame.old ≡ 64) × Tabled digits.now)) }
-        ensures { LineRead self.entry.book.now self.entry.at frame.old result frame.new }
+        requires { (self.cursor.at ≤ length self.book.now) × ((length self.book.now ≤ 65536) × ((length frame.old ≡ 64) × Tabled digits.now)) }
+        ensures { LineRead self.entry.book.now self.entry.cursor.at frame.old result frame.new }
     {
-        line_at(self.book, self.at, digits, frame)
+        line_at(self.book, self.cursor.at, digits, frame)
     }
 
     // The reader behind the line that ends at `end`.
     pub fn next(self, end: usize) -> Reader<'a>
-        requires { (end ≤ 65536) × (self.line ≤ 65536) }
-        ensures { (result.book ≡ self.entry.book) × ((result.at ≡ end + 1) × (result.line ≡ self.entry.line + 1)) }
+        requires { (end ≤ 65536) × (self.cursor.line ≤ 65536) }
+        ensures { (result.book ≡ self.entry.book) × ((result.cursor.at ≡ end + 1) × (result.cursor.line ≡ self.entry.cursor.line + 1)) }
     {
         Reader::new(self.book, lines::following_line(self.place(), end))
     }

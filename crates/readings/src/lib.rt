@@ -27,23 +27,14 @@ fn size_of(x: u32, w: u8) -> usize
 fn edge_count(juniors: &[u32; 32]) -> usize
     ensures { result ≡ total 32 juniors.now }
 {
-    let mut n = 0;
-    for x in juniors {
-        n += size_of(*x, 32);
-    }
-    n
+    juniors.iter().map(|x| size_of(*x, 32)).sum()
 }
 
 // How many facts a ledger holds.
-// Kept: of the shape of `edge_count`: the width and the type of an element would be parameters of a loop of one line.
 fn facts_in(ledger: &[u8; LEDGER_SIZE]) -> usize
     ensures { result ≡ total 8 ledger.now }
 {
-    let mut n = 0;
-    for b in ledger {
-        n += size_of(u32::from(*b), 8);
-    }
-    n
+    ledger.iter().map(|b| size_of(u32::from(*b), 8)).sum()
 }
 
 // A blank and a number as two bytes, in the front of a lent text.
@@ -52,18 +43,17 @@ fn put_count(n: usize, characters: &Characters, text: &mut [u8]) -> usize
     ensures { Written text.old 0 (count n) text.new result }
 {
     text[0] = b' ';
-    let high = answers::high_byte(n);
-    let low = answers::low_byte(n);
-    1 + answers::put_bytes(&[high, low], characters, &mut text[1..])
+    1 + answers::put_bytes(&answers::pair(n), characters, &mut text[1..])
 }
 
 // The bytes of the sizes, with the counts of all eight attributes.
+// Kept: by `sizes::values_of`, the one look-up of a count, as `sizes_bytes` of specs/Answers has it, no copy of the array.
 fn sizes_bytes(z: sizes::Sizes) -> [u8; 12]
     ensures { result ≡ sizes_bytes z }
 {
     let mut bytes = [1, z.persons, z.crews, z.attrs, 0, 0, 0, 0, 0, 0, 0, 0];
     for a in 0..8 {
-        bytes[4 + a as usize] = sizes::values_of(z, a);
+        bytes[4 + usize::from(a)] = sizes::values_of(z, a);
     }
     bytes
 }

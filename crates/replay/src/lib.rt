@@ -17,7 +17,7 @@ ghost use Rattle.replay.specs.Chains.{goes, run, fives};
 ghost use Rattle.replay.specs.Inner.Lent.{standing, due, ran_to};
 ghost use Rattle.replay.specs.Inner.Direct.{held_set, wanted};
 ghost use Rattle.replay.specs.Met.{wants, met};
-ghost use Rattle.replay.specs.Replay.{refusal_number, refusal_line, said, replay_in, replayed};
+ghost use Rattle.replay.specs.Replay.{refusal_number, said, replay_in, replayed};
 
 use facts::{Attr, Crew, Fact, Person};
 use frames::{Book, Query, Rule};
@@ -31,46 +31,14 @@ pub enum Judgement {
     EndsShort,
 }
 
-// The refusals 1-9 and 14.
-#[derive(Clone, Copy)]
-pub enum Refusal {
-    BadBook(frames::Refusal),
-    BadLength,
-}
-
-// A refused book is refused.
-// Kept: four such impls, one an operation: each `refusal_number` of specs/, which docs/PROMISES.md names, matches `BadBook` of its own enum.
-impl From<frames::Refusal> for Refusal {
-    ghost use Rattle.std.specs.Prelude.{◌≡◌};
-    ghost use Rattle.replay.specs.declared.Refusal.TheVariants.{BadBook};
-
-    ghost from_gives = { λ r e. e ≡ BadBook r };
-
-    fn from(r: frames::Refusal) -> Refusal {
-        Refusal::BadBook(r)
-    }
-}
+// The book's refusals, and 14, where the list's length is no multiple of five.
+pub use frames::LentRefusal as Refusal;
 
 // The table's number of a refusal.
-// Kept: as `planner` and `page` have theirs, here and in `refusal_line`: each definition in specs/ matches the variants of its own
-// enum (`BadLength` here).
 pub fn refusal_number(r: Refusal) -> u8
     ensures { result ≡ refusal_number r }
 {
-    match r {
-        Refusal::BadBook(b) => frames::refusal_number(b),
-        Refusal::BadLength => 14,
-    }
-}
-
-// The line of a refusal, 0 for 14.
-pub fn refusal_line(r: Refusal) -> usize
-    ensures { result ≡ refusal_line r }
-{
-    match r {
-        Refusal::BadBook(b) => frames::refusal_line(b),
-        Refusal::BadLength => 0,
-    }
+    frames::lent_number(14, r)
 }
 
 // Whether a request is well formed and its role one of the query's.
@@ -83,6 +51,8 @@ fn is_due(z: Sizes, roles: u32, q: &[u8]) -> bool
 
 // One request of a list: carried out where it is well formed, its role is one of the query's and some rule permits it; else the
 // ledger stays. Says whether it was.
+// Kept: the rules as a lent list, here and in `run_plan`, no book: docs/PROMISES.md names both functions for "a list of records lent to every later
+// step"; and the sizes, juniors and roles one by one, as `standing` of specs/Inner/Lent takes them.
 fn step(
     rules: &[Rule],
     z: Sizes,
@@ -121,9 +91,8 @@ fn run_plan(
     ensures { ran_to result ledger.new ≡ run (standing z juniors.now rules.now) roles ledger.old 1
         (fives plan.now) }
 {
-    for i in 0..plan.len() / 5 {
-        let at = 5 * i;
-        if !step(rules, z, juniors, roles, ledger, &plan[at..at + 5]) {
+    for (i, request) in plan.chunks_exact(5).enumerate() {
+        if !step(rules, z, juniors, roles, ledger, request) {
             return Some(i + 1);
         }
     }
@@ -172,7 +141,7 @@ fn has_wanted(b: &Book, exactly: bool, directly: bool, ledger: &[u8]) -> bool
     ensures { result ≡ all (λ w. wanted exactly w.set (held_set directly (contents_of b.now) (holds ledger.now) w.attr.0))
         (wants (contents_of b.now)) }
 {
-    let wants = &b.query.wants[..b.query.q as usize];
+    let wants = &b.query.wants[..usize::from(b.query.q)];
     wants.iter().all(|w| {
         let held = held_set(
             directly,

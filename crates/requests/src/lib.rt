@@ -34,6 +34,8 @@ pub fn is_adding(op: u8) -> bool
 }
 
 // The fact that an op with its subject, a and v aims at.
+// Kept: beside `frames::fact_of`, as `are_fields` beside `gate::is_fact`: by an op, two for each kind of fact, not by the kind; each is the
+// definition of its name.
 #[tactic(auto, unfolding(crate::specs::Requests::aimed))]
 fn aimed_fact(op: u8, s: u8, a: u8, v: u8) -> Fact
     ensures { result ≡ aimed op s a v }
@@ -125,6 +127,7 @@ fn are_value_sets(z: sizes::Sizes, ledger: &[u8], start: usize, subjects: u8, co
 }
 
 // Whether the crews of person p are within the sizes.
+// Kept: beside `is_value_set`, of one shape: the place, the width and the room of the set differ, which is all of it.
 #[tactic(auto, unfolding(crate::specs::Suitable::member_set_good))]
 fn is_member_set(z: sizes::Sizes, ledger: &[u8], p: usize) -> bool
     requires { (p < 64) × (length ledger.now ≡ ledger_size) }

@@ -146,6 +146,3 @@ rows_more {z} {ws} {p} {before} {out} rows put =
           (λ (e : q ≡ p → ⊥). put.rest q a v l h (λ s. absurd (e s)) ∙ rows.own q a v (omega arith) l h);
       rest = λ q a v m l h. put.rest q a v l h (λ s. absurd (omega arith)) ∙ rows.rest q a v (omega arith) l h;
     }
-
-pub rows_all : {z : Sizes} {ws : List ℕ} {p n : ℕ} {out : List ℕ} → RowsShown z ws p out → p ≡ n → RowsShown z ws n out
-rows_all {z} {ws} {p} {n} {out} r e = subst (λ (i : ℕ). RowsShown z ws i out) e r

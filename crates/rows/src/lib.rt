@@ -17,10 +17,10 @@ fn put_value(z: Sizes, p: u8, held: &[u64], f: u8, out: &mut [u8])
 {
     let a = f / 16;
     let v = f % 16;
-    let shown = words::has(held, LEVEL_SIZE + (f as usize), p);
+    let shown = words::has(held, LEVEL_SIZE + usize::from(f), p);
     let value = sizes::is_value(z, a, v);
     if shown & value {
-        sets::put_at(out, 16 * (p as usize) + 2 * (a as usize), 2, v, true);
+        sets::put_at(out, 16 * usize::from(p) + 2 * usize::from(a), 2, v, true);
     }
 }
 
@@ -47,6 +47,7 @@ pub fn put_rows(z: Sizes, held: &[u64], out: &mut [u8])
 }
 
 // Every byte of the table is 0.
+// Kept: one call under a name, as `flags::clear_flags`: what its caller needs is its contract.
 pub fn clear(out: &mut [u8])
     requires { length out.old ≡ table_bytes }
     ensures { Cleared table_bytes out.new }

@@ -112,6 +112,7 @@ fn holds_at_least(ledger: &[u8], juniors: &[u32], s: Subject, a: Attr, v: u8) ->
 }
 
 // Whether a term holds of a subject: one case a kind.
+// Kept: the kinds are the numbers written: `term_holds` of specs/Rules judges any byte, and of a number that is no kind nothing holds.
 #[tactic(auto, unfolding(crate::specs::Rules::term_holds))]
 pub fn term_holds(ledger: &[u8], juniors: &[u32], s: Subject, t: Term) -> bool
     requires { length juniors.now ≡ 32 }
@@ -144,7 +145,7 @@ pub fn terms_of(r: &Rule) -> &[Term]
     requires { Short r.now }
     ensures { result.now ≡ take r.now.n r.now.terms }
 {
-    &r.terms[..r.n as usize]
+    &r.terms[..usize::from(r.n)]
 }
 
 // Whether a rule permits the request: it has the request's op, role, a and v, and all its terms hold of whom the request is about.

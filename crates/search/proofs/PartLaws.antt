@@ -38,14 +38,22 @@ module _ {q : Query} {crews : ℕ} {facts juniors adds dels : List ℕ} (g : Cre
   own_drive s = serves_own g.accepted (s.each g)
 
 -- The parts of a book, and what is said of all books that have them, of that one.
-module _ (bk : Book) (ok : Leveled (contents_of bk)) {adds dels : List ℕ}
+module _ (bk : Book) (ok : Leveled (contents_of bk)) {q : Query} {crews : ℕ} {facts juniors adds dels : List ℕ} (same_query : q ≡ bk.query)
+    (same_crews : crews ≡ bk.sizes.crews) (same_facts : facts ≡ bk.facts) (same_juniors : juniors ≡ bk.juniors)
     (moves : SideMoves bk.rules bk.query.roles 3 3 4 4 (moves_in adds) (moves_in dels)) where
-  pub parts_of : CrewParts bk.query bk.sizes.crews bk.facts bk.juniors adds dels
-  parts_of =
-      record { book = bk; accepted = ok; same_query = refl; same_crews = refl; same_facts = refl; same_juniors = refl; moves = moves }
+  pub parts_of : CrewParts q crews facts juniors adds dels
+  parts_of = record {
+    book = bk;
+    accepted = ok;
+    same_query = same_query;
+    same_crews = same_crews;
+    same_facts = same_facts;
+    same_juniors = same_juniors;
+    moves = moves;
+  }
 
   pub scanned_of : {k : ℕ} {rows : List Bool} {up down : List ℕ} {found : Bool} {ups at : ℕ}
-      → ScannedOf bk.query bk.sizes.crews bk.facts bk.juniors adds dels k rows up down found ups at
+      → ScannedOf q crews facts juniors adds dels k rows up down found ups at
       → Scanned (contents_of bk) k rows up down found ups at
   unfolding parts_of
   scanned_of s = s.each parts_of

@@ -246,9 +246,6 @@ pub record ReachSoFar (js : List ℕ) (k : ℕ) (rows : List Bool) : Type 0 wher
   pub size : length rows ≡ 5120
   pub at : (c d : ℕ) → c < k → d < 32 → get_or rows (160 * c + (128 + d)) false ≡ downward js (λ x. eqb x d) c
 
-pub reach_first : (js : List ℕ) {rows : List Bool} → flags.FirstRows rows → ReachSoFar js 0 rows
-reach_first js first = record { size = first.size; at = λ c d l h. absurd (omega arith) }
-
 pub reach_next : {js : List ℕ} {k : ℕ} {x rows rows' : List Bool} → ReachSoFar js k rows → flags.FilledRow js k x rows rows' → ReachSoFar js (k + 1) rows'
 reach_next {js} {k} {x} {rows} {rows'} so_far filled =
     record {
@@ -262,6 +259,3 @@ reach_next {js} {k} {x} {rows} {rows'} so_far filled =
           (λ j m. ap (λ (y : Bool). is_junior js k j && y) (sym (so_far.at j d m h)))))))
           (λ (other : c ≡ k → ⊥). filled.below (160 * c + (128 + d)) (omega arith) ∙ so_far.at c d (omega arith) h);
     }
-
-pub reach_all : {js : List ℕ} {k : ℕ} {rows : List Bool} → ReachSoFar js k rows → 32 ≤ k → flags.Reaching js rows
-reach_all so_far h = record { at = λ d l c m. so_far.at d c (omega arith) m }

@@ -4,6 +4,7 @@
 #![tactic(auto)]
 
 ghost use Rattle.std.specs.Prelude.{◌≡◌, true, false, ◌+◌, ◌*◌, ◌<◌, length};
+ghost use Rattle.facts.specs.Facts.{ledger_size};
 ghost use Rattle.frames.specs.Book.{contents_of};
 ghost use Rattle.reach.specs.Inner.Leveled.{Leveled};
 ghost use Rattle.flags.specs.Inner.Flags.{Reaching};
@@ -26,6 +27,26 @@ pub struct Parts<'a> {
     pub facts: &'a [u8],
     pub juniors: &'a [u32],
     pub sides: Sides<'a>,
+}
+
+impl<'a> Parts<'a> {
+    // The parts of a book, with the moves of two sides.
+    pub fn new(b: &'a Book, sides: Sides<'a>) -> Parts<'a>
+        requires { (length b.now.facts ≡ ledger_size) × (length b.now.juniors ≡ 32) }
+        ensures query { result.query.now ≡ b.now.query }
+        ensures crews { result.crews ≡ b.now.sizes.crews }
+        ensures facts { result.facts.now ≡ b.now.facts }
+        ensures juniors { result.juniors.now ≡ b.now.juniors }
+        ensures sides { result.sides ≡ sides.entry }
+    {
+        Parts {
+            query: &b.query,
+            crews: b.sizes.crews,
+            facts: &b.facts,
+            juniors: &b.juniors,
+            sides,
+        }
+    }
 }
 
 // Whose level it is: the level's number, the number by which requests name the subject, and whether it is a crew that is listed or lies below one.
@@ -154,6 +175,7 @@ fn crew_levels(
 
 // The levels of all crews, from nothing: which crews each crew reaches, rows that have the crews alone, then crew after crew. The same for whoever
 // the query's person is.
+// Kept: `BlankTable` and the lengths of both drafts as clauses, here and in `page`: docs/PROMISES.md names this function, which is lent slices.
 pub fn settle_crews(
     parts: &Parts,
     rows: &mut [bool],
@@ -196,13 +218,7 @@ fn person_level(
         (found_of result) (draft.old.ends.ups + ups_of result) (at_of result) }
     ensures lent { SameBuffers draft.old draft.new }
 {
-    let parts = Parts {
-        query: &b.query,
-        crews: b.sizes.crews,
-        facts: &b.facts,
-        juniors: &b.juniors,
-        sides,
-    };
+    let parts = Parts::new(b, sides);
     let subject = Subject {
         k: b.sizes.crews,
         number: b.query.person.0,
@@ -216,6 +232,8 @@ fn person_level(
 
 // All levels, with the moves of the crews and of the person: the requests of the best plan, or that no chain of requests ends clear of the
 // forbidden facts.
+// Kept: `Leveled` of a book and `SideMoves` of its moves as clauses, here and in `page` and `planner`: a struct that lends a book with them would be made
+// at the top of each, and opened again for every part of the book.
 fn all_levels(b: &Book, crews: Sides, person: Sides, up: &mut [u8], down: &mut [u8]) -> Option<Ends>
     requires leveled { Leveled (contents_of b.now) ×
         (SideMoves b.now.rules b.now.query.roles 3 3 4 4 (moves_in crews.adds.now) (moves_in crews.dels.now) ×
@@ -225,13 +243,7 @@ fn all_levels(b: &Book, crews: Sides, person: Sides, up: &mut [u8], down: &mut [
 {
     let mut rows = [false; ROWS_SIZE];
     let mut table = [false; TABLE_SIZE];
-    let parts = Parts {
-        query: &b.query,
-        crews: b.sizes.crews,
-        facts: &b.facts,
-        juniors: &b.juniors,
-        sides: crews,
-    };
+    let parts = Parts::new(b, crews);
     let r = settle_crews(&parts, &mut rows, &mut table, up, down)?;
     let mut draft = Draft { ends: r, up, down };
     let p = person_level(b, person, &rows, &mut table, &mut draft)?;
@@ -249,6 +261,7 @@ pub fn search(b: &Book, up: &mut [u8], down: &mut [u8]) -> Option<Ends>
 {
     let mut buffer = [0u16; MOVES_SIZE];
     let n = moves::moves_listed(&b.rules, b.query.roles, &mut buffer);
+    // Kept: `Sides` of the crews' moves here and in `page`: each field by the method of its side; a method for the pair is no plainer.
     let crews = Sides {
         adds: n.gains_in(&buffer),
         dels: n.losses_in(&buffer),

@@ -40,6 +40,8 @@ pub fn is_subset(x: u32, y: u32) -> bool
 }
 
 // The byte of v in the set of w bytes at a place.
+// Kept: `at`, `w` and `v` with their bounds in each contract from here on, and no struct as `facts::Place`: `member_at` and `put_at` of
+// specs/Sets take them one by one.
 fn byte_of(at: usize, w: usize, v: u8) -> usize
     requires { (at < 4294967296) × ((w ≤ 4) × (v < 8 * w)) }
     ensures { result ≡ byte_of at w v }

@@ -1,7 +1,7 @@
 -- The laws of facts put in for some persons: the loops that set the flags, and the flags of the whole fact.
-use mathlib.Core.Path.{◌≡◌, refl, sym, ap, subst, ◌∙◌}
+use mathlib.Core.Path.{◌≡◌, refl, sym, ap, ◌∙◌}
 use mathlib.Core.Logic.{dite}
-use mathlib.Core.Bool.{Bool, true, false, not, cond, ◌&&◌, ◌||◌, and-true, and-false, or-false, or-true}
+use mathlib.Core.Bool.{Bool, true, false, not, cond, ◌&&◌, ◌||◌, and-true, and-false, or-false}
 use mathlib.Core.List.{List}
 use Prim.Native.Nat.{ℕ, ◌+◌, ◌-◌, ◌*◌, ◌/◌, ◌%◌, ◌≤◌, ◌<◌}
 use native.Mathlib.Decide.{ℕ_discrete, dec_lt}
@@ -13,7 +13,7 @@ use Rattle.shown.specs.Inner.Shown.{touches, not_higher}
 use Rattle.shown.proofs.ShownLaws.{touch_direct, touch_own, touch_value, touch_row}
 use Rattle.shown.proofs.HigherLaws.{touch_not_higher, touch_step}
 use Rattle.words.specs.Inner.Words.{Lit}
-use Rattle.words.proofs.WordLaws.{lit_none, lit_both, lit_same, lit_only}
+use Rattle.words.proofs.WordLaws.{lit_both, lit_same, lit_only}
 
 or-none : (a b : Bool) → a || (b && false) ≡ a
 or-none true b = refl
@@ -28,36 +28,6 @@ pub record RaisedLit (f who : ℕ) (before after : List ℕ) (k : ℕ) : Type 0 
   pub first : 16 * (f / 16) ≤ k
   pub fits : k ≤ f + 1
   pub lit : Lit who (λ j. leb (320 + 16 * (f / 16)) j && ltb j (320 + k)) before after
-
-pub raised_lit_none : (f who : ℕ) {ws : List ℕ} → length ws ≡ 448 → RaisedLit f who ws ws (16 * (f / 16))
-raised_lit_none f who {ws} size = record { size = size; first = omega arith; fits = omega arith; lit = lit_same (λ j l. sym (out j)) (lit_none who ws) }
-  where
-    out : (j : ℕ) → leb (320 + 16 * (f / 16)) j && ltb j (320 + 16 * (f / 16)) ≡ false
-    out j = dite (dec_lt j (320 + 16 * (f / 16)))
-        (λ (l : j < 320 + 16 * (f / 16)). rw (lt-leb (320 + 16 * (f / 16)) j l) refl)
-        (λ (l : j < 320 + 16 * (f / 16) → ⊥).
-        rw (le-ltb j (320 + 16 * (f / 16)) (omega arith)) (and-false (leb (320 + 16 * (f / 16)) j)))
-
--- Below one place more: that place is one more.
-one_more : (k j : ℕ) → (j ≡ 320 + k → ⊥) → ltb j (320 + k) ≡ ltb j (320 + (k + 1))
-one_more k j n = dite (dec_lt j (320 + k))
-    (λ (l : j < 320 + k). lt-ltb j (320 + k) l ∙ sym (lt-ltb j (320 + (k + 1)) (omega arith)))
-    (λ (l : j < 320 + k → ⊥). le-ltb j (320 + k) (omega arith) ∙ sym (le-ltb j (320 + (k + 1)) (omega arith)))
-
--- One flag more, of the next higher value.
-pub raised_lit_more : {f who : ℕ} {before ws after : List ℕ} {k : ℕ} → RaisedLit f who before ws k → k < f + 1
-    → Lit who (λ j. eqb j (320 + k)) ws after → RaisedLit f who before after (k + 1)
-raised_lit_more {f} {k = k} r h one =
-    record { size = one.size ∙ r.size; first = omega (arith, r.first); fits = omega arith; lit = lit_same (λ j l. same j) (lit_both r.lit one) }
-  where
-    first : ℕ
-    first = 320 + 16 * (f / 16)
-
-    same : (j : ℕ) → (leb first j && ltb j (320 + k)) || eqb j (320 + k) ≡ leb first j && ltb j (320 + (k + 1))
-    same j = dite (ℕ_discrete j (320 + k))
-        (λ (e : j ≡ 320 + k). rw (eq-eqb j (320 + k) e, le-leb first j (omega (arith, r.first)), lt-ltb j (320 + (k + 1)) (omega arith))
-        (or-true (true && ltb j (320 + k))))
-        (λ (n : j ≡ 320 + k → ⊥). rw (ne_eqb j (320 + k) n, one_more k j n) (or-false (leb first j && ltb j (320 + (k + 1)))))
 
 -- From one place lower on: that place is one more.
 one_lower : (k j : ℕ) → 0 < k → (j ≡ 320 + (k - 1) → ⊥) → leb (320 + k) j ≡ leb (320 + (k - 1)) j
@@ -104,14 +74,6 @@ pub record RowLit (T : List Bool) (c who : ℕ) (before after : List ℕ) (k : �
   pub fits : k ≤ 160
   pub lit : Lit who (λ j. (leb 160 j && ltb j (160 + k)) && get_or T (160 * c + (j - 160)) false) before after
 
-pub row_lit_none : (T : List Bool) (c who : ℕ) {ws : List ℕ} → length ws ≡ 448 → RowLit T c who ws ws 0
-row_lit_none T c who {ws} size = record { size = size; fits = omega arith; lit = lit_same (λ j l. sym (out j)) (lit_none who ws) }
-  where
-    out : (j : ℕ) → (leb 160 j && ltb j (160 + 0)) && get_or T (160 * c + (j - 160)) false ≡ false
-    out j = dite (dec_lt j 160)
-        (λ (l : j < 160). rw (lt-leb 160 j l) refl)
-        (λ (l : j < 160 → ⊥). rw (le-leb 160 j (omega arith), le-ltb j 160 (omega arith)) refl)
-
 -- One flag more.
 pub row_lit_more : {T : List Bool} {c who : ℕ} {before ws after : List ℕ} {k : ℕ} → RowLit T c who before ws k → k < 160
     → {w : ℕ} → w ≡ cond (get_or T (160 * c + k) false) who 0 → Lit w (λ j. eqb j (160 + k)) ws after → RowLit T c who before after (k + 1)
@@ -137,13 +99,6 @@ row_lit_more {T} {c} {k = k} r h chosen one =
         (λ (n : j ≡ 160 + k → ⊥). rw (ne_eqb j (160 + k) n, wider j n)
         (or-none ((leb 160 j && ltb j (160 + (k + 1))) && get_or T (160 * c + (j - 160)) false) (get_or T (160 * c + k) false)))
 
--- After the last.
-pub row_lit_all : {T : List Bool} {c who : ℕ} {before after : List ℕ} {k : ℕ} → RowLit T c who before after k → 160 ≤ k
-    → Lit who (λ j. (leb 160 j && ltb j 320) && get_or T (160 * c + (j - 160)) false) before after
-row_lit_all {T} {c} {who} {before} {after} {k} r h =
-    let e : 160 + k ≡ 320 = omega (arith, r.fits) in
-    subst (λ (i : ℕ). Lit who (λ j. (leb 160 j && ltb j i) && get_or T (160 * c + (j - 160)) false) before after) e r.lit
-
 -- ---------------------------------------------------------------- what follows from the row of a crew
 
 -- The flags of the values from k on that the membership in crew c adds are set; `on` is the last of them, unless k is the lowest value of its attribute.
@@ -152,10 +107,6 @@ pub record HigherLit (T : List Bool) (c who : ℕ) (before after : List ℕ) (on
   pub fits : k ≤ 128
   pub last : (k % 16 ≡ 0 → ⊥) → on ≡ touches T (128 + c) (320 + k)
   pub lit : Lit who (λ j. leb (320 + k) j && touches T (128 + c) j) before after
-
-pub higher_lit_none : (T : List Bool) (c who : ℕ) {ws : List ℕ} → length ws ≡ 448 → HigherLit T c who ws ws false 128
-higher_lit_none T c who {ws} size =
-    record { size = size; fits = omega arith; last = λ n. absurd (n refl); lit = lit_same (λ j l. sym (rw (lt-leb 448 j l) refl)) (lit_none who ws) }
 
 -- One value lower: its flag is what the crew hands on of it, or, but for the highest value, the last one.
 pub higher_lit_more : {T : List Bool} {c who : ℕ} {before ws after : List ℕ} {on : Bool} {k : ℕ} → HigherLit T c who before ws on k → 0 < k → c < 32
@@ -190,13 +141,6 @@ higher_lit_more {T} {c} {on = on} {k} r h few {next} is chosen one =
         (and-true next ∙ adds ∙ ap (touches T (128 + c)) (sym e)))
         (λ (n : j ≡ 320 + (k - 1) → ⊥). rw (ne_eqb j (320 + (k - 1)) n, one_lower k j h n)
         (or-none (leb (320 + (k - 1)) j && touches T (128 + c) j) next))
-
--- Below the lowest all are set.
-pub higher_lit_all : {T : List Bool} {c who : ℕ} {before after : List ℕ} {on : Bool} {k : ℕ} → HigherLit T c who before after on k → k ≤ 0
-    → Lit who (λ j. leb 320 j && touches T (128 + c) j) before after
-higher_lit_all {T} {c} {who} {before} {after} {k = k} r h =
-    let e : 320 + k ≡ 320 = omega arith in
-    subst (λ (i : ℕ). Lit who (λ j. leb i j && touches T (128 + c) j) before after) e r.lit
 
 -- ---------------------------------------------------------------- the whole fact
 

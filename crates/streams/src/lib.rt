@@ -14,7 +14,7 @@ use std::io::{Read, Write};
 pub const INPUT_SIZE: usize = 65537;
 
 // Reads until `buf` is full or the input ends, and returns how many bytes it put at the start of `buf`: the next of the input, and with room
-// left all of it. A read that fails ends it: what was read before stands in the front of `buf`.
+// left all of it. A read that fails ends it: of `buf` only the length is promised then.
 pub fn read_full<R: Read>(reader: &mut R, buf: &mut [u8]) -> io::Result<usize>
     ensures ok { IfOk result (λ n. IsPrefixLen n buf.new) }
     ensures next { IfOk result (λ n. Consumes (R.remaining reader.old) (R.remaining reader.new) (take n buf.new)) }
@@ -34,6 +34,7 @@ pub fn read_full<R: Read>(reader: &mut R, buf: &mut [u8]) -> io::Result<usize>
 }
 
 // Reads the input into the front of a buffer, has `answer` put what is printed in its place, and prints that.
+// Kept: the buffer and how many of its bytes were read one by one, here and in the programs, no slice of these: `answer` writes over all of the buffer.
 pub fn print_answer<R: Read, W: Write, F: FnOnce(&mut [u8], usize) -> usize>(
     reader: &mut R,
     writer: &mut W,

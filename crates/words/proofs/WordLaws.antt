@@ -19,7 +19,7 @@ use Rattle.quantifiers.proofs.BoolLaws.{by_test}
 use Rattle.sets.specs.Sets.{bit, member, put}
 use Rattle.sets.proofs.SetLaws.{member-and, member-zero, member-put_same, member-put_other, same_members, lt_power, weight, put_in_new}
 use Rattle.shown.specs.Inner.Shown.{touches, Put}
-use Rattle.words.specs.Inner.Words.{column, Lit, ColumnClear, ColumnPut}
+use Rattle.words.specs.Inner.Words.{column, Lit, ColumnPut}
 
 -- ---------------------------------------------------------------- the members of a word
 
@@ -182,10 +182,6 @@ pub record PutSoFar (p : ℕ) (s : List Bool) (before ws : List ℕ) (k : ℕ) :
   pub here : (j : ℕ) → j < k → member (get_or ws j 0) p ≡ get_or s j false
   pub rest : (j : ℕ) → k ≤ j → j < 448 → member (get_or ws j 0) p ≡ false
   pub there : (j q : ℕ) → j < 448 → (q ≡ p → ⊥) → member (get_or ws j 0) q ≡ member (get_or before j 0) q
-
-pub put_first : {p : ℕ} (s : List Bool) {ws : List ℕ} → length ws ≡ 448 → ColumnClear p ws → PutSoFar p s ws ws 0
-put_first s size clear =
-    record { size = size; fits = omega arith; here = λ j l. absurd (omega arith); rest = λ j l m. clear.none j; there = λ j q l n. refl }
 
 module _ {p : ℕ} {s : List Bool} {before ws : List ℕ} {k : ℕ} (low : k < 448) (so_far : PutSoFar p s before ws k) where
   -- A flag that is set.

@@ -13,9 +13,9 @@ use Rattle.answers.proofs.put_answer.Goals as goal
 within : {answer : Planned} (o p : Option ℕ) → answer ≡ Ok o → o ≡ p → answer ≡ Ok p
 within o p e f = e ∙ ap Ok f
 
-pub put_requests-requires : goal.put_requests-requires
+pub put_lines-requires : goal.put_lines-requires
 unfolding hex_line hex
-put_requests-requires c =
+put_lines-requires c =
     let plan = c.in-Ok-Some in
     let room = c.requires.requests plan.n (within plan.field-0 (Some plan.n) plan.is (rw plan.is at plan.field-0-is)) in
     let below = room_behind 7 (11 * plan.n) c.put_line-first.ensures refl room.1 in
@@ -28,5 +28,5 @@ returns-in-Ok-None c =
 pub returns-in-Ok-Some : goal.returns-in-Ok-Some
 returns-in-Ok-Some c =
     let plan = c.in-Ok-Some in
-    plan-written c.args.plan.now plan.n (within plan.field-0 (Some plan.n) plan.is (rw plan.is at plan.field-0-is)) c.high_byte-high.ensures c.low_byte-low.ensures
-    c.put_line-first.ensures refl c.put_requests.ensures
+    plan-written c.args.plan.now plan.n (within plan.field-0 (Some plan.n) plan.is (rw plan.is at plan.field-0-is)) c.pair.ensures
+    c.put_line-first.ensures refl c.put_lines.ensures

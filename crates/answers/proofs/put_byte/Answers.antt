@@ -8,5 +8,5 @@ pub returns : goal.returns
 returns c =
     let b = c.args.b in
     let characters = c.args.characters.now.encodings in
-    written_digits c.args.text.now b c.requires (characters.entry (b / 16) (omega arith))
-    (characters.entry (b % 16) (omega arith))
+    written_digits c.args.text.now b c.requires (rw c.from-high.ensures (characters.entry (b / 16) (omega arith)))
+    (rw c.from-low.ensures (characters.entry (b % 16) (omega arith)))

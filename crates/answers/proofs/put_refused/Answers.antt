@@ -5,5 +5,4 @@ use Rattle.answers.proofs.put_refused.Goals as goal
 pub returns : goal.returns
 returns c =
     let args = c.args in
-    refusal_line-written args.number args.line c.high_byte-high.ensures c.low_byte-low.ensures
-    c.put_line.ensures
+    refusal_line-written args.number args.line c.pair.ensures c.put_line.ensures

@@ -5,4 +5,4 @@ use Rattle.bixorgun.proofs.code_of.Goals as goal
 
 pub returns : goal.returns
 unfolding code
-returns c = refl
+returns c = rw (c.from.ensures, c.from-2.ensures) refl

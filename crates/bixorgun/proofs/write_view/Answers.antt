@@ -3,49 +3,19 @@ use mathlib.Core.Path.{◌≡◌, ap, ◌∙◌}
 use mathlib.Core.List.{List}
 use Prim.Native.Nat.{ℕ}
 use native.Mathlib.Omega.{arith}
-use lib.ListN.{length, length-set}
+use lib.ListN.{length}
 use Rattle.bixorgun.specs.Codes.{put_two}
-use Rattle.bixorgun.proofs.CodeLaws.{sets_none, sets_more, view_length, view_all}
+use Rattle.bixorgun.proofs.CodeLaws.{sets_none, sets_more, view_all}
 use Rattle.bixorgun.proofs.write_view.Goals as goal
 
 pub loop-i-init : goal.loop-i-init
 loop-i-init c = sets_none _ _
-
-pub put_two-requires : goal.put_two-requires
-put_two-requires c =
-    let eight : length c.args.sets ≡ 8 = omega arith in
-    let written = c.loop-i.invariant in (
-      omega (arith, c.loop-i-test.true),
-      omega (arith, view_length eight c.requires written, c.requires, c.loop-i-test.true),
-    )
 
 pub loop-i-preserved : goal.loop-i-preserved
 loop-i-preserved c =
     let eight : length c.args.sets ≡ 8 = omega arith in
     let written = c.loop-i.invariant in
     sets_more eight c.requires written c.loop-i-test.true c.put_two.ensures
-
-pub put_two-requires-2 : goal.put_two-requires-2
-put_two-requires-2 c =
-    let eight : length c.args.sets ≡ 8 = omega arith in
-    let written = c.loop-i.invariant in
-    (omega arith, omega (arith, view_length eight c.requires written, c.requires))
-
-pub put_two-requires-3 : goal.put_two-requires-3
-put_two-requires-3 c =
-    let eight : length c.args.sets ≡ 8 = omega arith in
-    let written = c.loop-i.invariant in (
-      omega arith,
-      rw c.put_two-2.ensures
-          (simp length-set (omega (arith, view_length eight c.requires written, c.requires))),
-    )
-
-pub shape_of-view : goal.shape_of-view
-shape_of-view c =
-    let eight : length c.args.sets ≡ 8 = omega arith in
-    let written = c.loop-i.invariant in
-    ap length c.put_two-3.ensures ∙ simp length-set
-    (ap length c.put_two-2.ensures ∙ simp length-set (view_length eight c.requires written))
 
 pub returns : goal.returns
 returns c =

@@ -1,7 +1,7 @@
 -- The first fact that is lacking: the closure tests a fact. Assumes nothing.
 use Rattle.std.proofs.Common.{rules, tests}
 use Rattle.quantifiers.proofs.RangeLaws.{IsFirstFrom, find_of_range}
-use Rattle.build.proofs.BuildLaws.{lacking, lacks_first, lacks_within}
+use Rattle.build.proofs.BuildLaws.{lacking, lacks_first}
 use Rattle.build.proofs.lacks.Goals as goal
 
 found : (c : goal.After-find) → IsFirstFrom (lacking c.args.a.now c.args.b.now) 0 160 c.find.result
@@ -9,6 +9,3 @@ found c = find_of_range (lacking c.args.a.now c.args.b.now) 160 _ _ c.find.ensur
 
 pub returns-clause-first : goal.returns-clause-first
 returns-clause-first c = lacks_first c.args.a.now c.args.b.now c.find.result (found c)
-
-pub returns-clause-within : goal.returns-clause-within
-returns-clause-within c = lacks_within c.args.a.now c.args.b.now c.find.result (found c)

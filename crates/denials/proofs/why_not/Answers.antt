@@ -21,7 +21,7 @@ overflow_cast-result-2 c =
     let at = c.args in
     let S = holds at.ledger.now in
     let short = found-short at.juniors.now S at.q at.rules.now c.in-Some.i c.in-Some.ensures _ c.requires.count_bound.1 in
-    let few = unmet_few at.juniors.now S at.q _ short _ c.first_unmet.ensures _ c.unwrap_or-j.ensures in
+    let few = unmet_few at.juniors.now S at.q _ short _ c.first_unmet.ensures _ (rw c.from.ensures at c.unwrap_or-j.ensures) in
     record { fits = omega (arith, few) }
 
 pub returns : goal.returns
@@ -30,4 +30,4 @@ returns c =
     let S = holds at.ledger.now in
     let short = found-short at.juniors.now S at.q at.rules.now c.in-Some.i c.in-Some.ensures _ c.requires.count_bound.1 in
     told_some at.juniors.now S at.q at.rules.now c.in-Some.i c.in-Some.ensures _ c.unwrap_or-j.result
-    (unmet_place at.juniors.now S at.q _ short _ c.first_unmet.ensures _ c.unwrap_or-j.ensures)
+    (unmet_place at.juniors.now S at.q _ short _ c.first_unmet.ensures _ (rw c.from.ensures at c.unwrap_or-j.ensures))

@@ -15,4 +15,4 @@ unfolding want_of
 loop-w-preserved c =
     let l : c.loop-w.w-index < c.args.q.now.q = omega arith in
     banned_more c.args.q.now c.loop-w.w-index c.loop-w.invariant
-    (rw (get_or-take c.args.q.now.q c.args.q.now.wants c.loop-w.w-index no_want l) at c.add_want.ensures)
+    (rw (c.from.ensures, get_or-take c.args.q.now.q c.args.q.now.wants c.loop-w.w-index no_want l) at c.add_want.ensures)

@@ -1,13 +1,7 @@
--- Before flag `v` the first `v` flags have what the set lacks, the others are as they were. Assumes nothing.
-use mathlib.Core.Path.{refl}
-use Prim.Native.Nat.{◌+◌}
-use native.Mathlib.Omega.{arith}
-use Rattle.flags.proofs.FlagLaws.{written_more}
-use Rattle.sets.specs.Sets.{member, bit}
+-- The closure adds each number that the set lacks to the flag that stands there. Assumes nothing.
+use Rattle.std.proofs.Common.{rules, not, ◌||◌}
+use Rattle.sets.specs.Sets.{member}
 use Rattle.flags.proofs.add_lacking.Goals as goal
 
-pub loop-v-preserved : goal.loop-v-preserved
-unfolding member bit
-loop-v-preserved c =
-    let next = c.args.at + c.loop-v.v in
-    written_more _ next c.loop-v.invariant refl (omega arith) (rw (c.loop-v.invariant.above next (omega arith)) refl)
+pub returns : goal.returns
+returns c = c.write_flags.ensures (λ v was. was || not (member c.args.x v)) (λ v was b low gives. search rules)

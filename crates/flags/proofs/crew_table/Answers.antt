@@ -11,7 +11,7 @@ loop-j-init c = juniors_none c.args.juniors.now c.args.k c.args.rows.now c.clear
 pub loop-j-preserved : goal.loop-j-preserved
 loop-j-preserved c =
     let js = c.args.juniors.now in
-    let is_junior = junior_member js c.args.k c.loop-j.j ∙ sym c.has.ensures in
+    let is_junior = junior_member js c.args.k c.loop-j.j ∙ sym (rw c.from.ensures at c.has.ensures) in
     elim c.if-has.branch [
       | then-has w ↦ rw w.table-is (juniors_add js c.args.k c.args.rows.now c.loop-j.j (is_junior ∙ w.if-has.true) c.loop-j.invariant w.add_last.ensures)
       | else-has w ↦ rw w.table-is (juniors_skip js c.args.k c.args.rows.now c.loop-j.j (is_junior ∙ w.if-has.false) c.loop-j.invariant)

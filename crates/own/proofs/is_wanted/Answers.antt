@@ -2,9 +2,6 @@
 use Rattle.own.proofs.WantedLaws.{wanted_value, wanted_crew}
 use Rattle.own.proofs.is_wanted.Goals as goal
 
-pub wants_value-requires : goal.wants_value-requires
-wants_value-requires c = c.requires
-
 pub returns-then-f-values : goal.returns-then-f-values
 returns-then-f-values c = wanted_value _ _ c.if-f-values.true c.wants_value.ensures
 

@@ -11,18 +11,6 @@ pub moves_listed-sides-requires : goal.moves_listed-sides-requires
 moves_listed-sides-requires c =
     (book_good c.args.b.now c.requires.leveled.0.book, refl)
 
-pub gains_in-requires : goal.gains_in-requires
-gains_in-requires c =
-    let sides = c.moves_listed-sides.ensures.sides in record { size = sides.size; rises = sides.rises }
-
-pub losses_in-requires : goal.losses_in-requires
-losses_in-requires c =
-    let sides = c.moves_listed-sides.ensures.sides in record { size = sides.size; rises = sides.rises }
-
-pub adds_in-requires : goal.adds_in-requires
-adds_in-requires c =
-    let sides = c.moves_listed-sides.ensures.sides in record { size = sides.size; rises = sides.rises }
-
 pub fill_by-requires : goal.fill_by-requires
 fill_by-requires c =
     let sides = c.moves_listed-sides.ensures.sides in

@@ -1,6 +1,6 @@
 -- `page::fill_by` meets its contract: the crews are settled for every person, above them the levels of all persons are settled at once, and the rows
 -- that their flags show are right (`persons_right`). Assumes nothing.
-use mathlib.Core.Path.{◌≡◌, refl, sym}
+use mathlib.Core.Path.{◌≡◌, refl}
 use mathlib.Core.Logic.{dite}
 use mathlib.Core.Bool.{false}
 use Prim.Native.Nat.{ℕ, ◌<◌}
@@ -24,14 +24,6 @@ crews_table-requires c =
       leveled = pre.leveled;
       side_moves = (pre.side_moves.0, record { size = refl; blank = λ j h. get_or-replicate 5280 j false false (omega arith) });
     }
-
-pub slice_bounds-settle-end : goal.slice_bounds-settle-end
-unfolding contents_of
-slice_bounds-settle-end c =
-    sym c.requires.leveled.0.book.facts_room
-
-pub slice_bounds-settle-end-3 : goal.slice_bounds-settle-end-3
-slice_bounds-settle-end-3 c = refl
 
 pub settle-requires : goal.settle-requires
 unfolding contents_of

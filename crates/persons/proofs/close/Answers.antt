@@ -1,12 +1,11 @@
 -- `persons::close` meets its contract: the invariant says that additions lead each person from what the person began with (`Growing`), and that the last
 -- `quiet` moves before i fire for nobody. The measure counts the facts that the 64 persons lack, and the moves that are not quiet. Assumes nothing.
-use mathlib.Core.Path.{refl, sym, ◌∙◌}
-use Prim.Native.Nat.{◌+◌, ◌*◌, ◌-◌, ◌≤◌, ◌<◌}
+use mathlib.Core.Path.{refl, sym}
+use Prim.Native.Nat.{◌*◌, ◌-◌, ◌<◌}
 use native.Mathlib.Omega.{arith}
-use lib.ListN.{length}
 use Rattle.level.specs.Inner.Moves.{moves_in}
 use Rattle.level.specs.Inner.Sweep.{TurnAt}
-use Rattle.level.proofs.MoveLaws.{listed_room, listed_stands, fact_fits}
+use Rattle.level.proofs.MoveLaws.{listed_stands, fact_fits}
 use Rattle.level.proofs.TurnLaws.{sweeping_anew, sweeping-quiet, sweeping_ended, turn_stays, fired_less, quiet_less}
 use Rattle.persons.proofs.EndLaws.{growing-first, growing-more, growing_ended, nobody_fires, fact_read, all_facts_lem, fewer-left}
 use Rattle.persons.proofs.close.Goals as goal
@@ -15,9 +14,6 @@ use Rattle.persons.proofs.close.Goals.{After-fires-who, then-who-eq0, else-who-e
 -- The sweep looks at a move of the list, whose numbers stand there.
 listed : (c : After-fires-who) → c.loop-quiet.i < (moves_in c.args.adds.now).count
 listed c = c.loop-quiet.invariant.1.within (omega (arith, c.loop-quiet-test.true))
-
-move_fits : (c : After-fires-who) → 14 * c.loop-quiet.i + 14 ≤ length c.args.adds.now
-move_fits c = listed_room c.requires.0 (listed c)
 
 -- No names are tried: the sweep goes on where it stands.
 still : (c : After-fires-who)
@@ -30,25 +26,6 @@ loop-quiet-init c = (
   growing-first (moves_in c.args.adds.now) c.requires.1,
   sweeping_anew _ refl (omega arith) (λ h. h),
 )
-
-pub fires-who-requires : goal.fires-who-requires
-fires-who-requires c =
-    (c.requires.0, (c.loop-quiet.invariant.1.within (omega (arith, c.loop-quiet-test.true)), c.loop-quiet.invariant.0.size))
-
-pub overflow_add-quiet : goal.overflow_add-quiet
-overflow_add-quiet c = omega (arith, c.requires.0.few, c.loop-quiet-test.true)
-
-pub next-i-requires : goal.next-i-requires
-next-i-requires c = listed (goal.at.next-i-requires c).After-fires-who
-
-pub overflow_mul-i : goal.overflow_mul-i
-overflow_mul-i c = omega (arith, move_fits (goal.at.overflow_mul-i c).After-fires-who)
-
-pub offset_bounds-adds-i : goal.offset_bounds-adds-i
-offset_bounds-adds-i c = omega (arith, move_fits (goal.at.offset_bounds-adds-i c).After-fires-who)
-
-pub bounds-adds-i : goal.bounds-adds-i
-bounds-adds-i c = omega (arith, move_fits (goal.at.bounds-adds-i c).After-fires-who)
 
 pub put_whole-requires : goal.put_whole-requires
 put_whole-requires c = (
@@ -85,9 +62,6 @@ loop-quiet-preserved c =
             sweeping_anew _ refl (omega arith) (λ h. c.next-i.ensures.fits),
           )
     ]
-
-pub shape_of-held : goal.shape_of-held
-shape_of-held c = c.loop-quiet.invariant.0.size ∙ sym c.requires.1.size
 
 pub returns : goal.returns
 returns c =

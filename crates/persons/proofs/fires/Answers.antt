@@ -11,9 +11,6 @@ fits : (c : After-from-f) → c.from-f.result < 160
 fits c =
     fact_fits c.args.ms.now (14 * c.args.i) (listed_stands c.requires.0 c.requires.1.0) c.from-f.ensures
 
-pub offset_bounds-held-f : goal.offset_bounds-held-f
-offset_bounds-held-f c = omega (arith, fits (goal.at.offset_bounds-held-f c).After-from-f)
-
 pub bounds-held-f : goal.bounds-held-f
 bounds-held-f c = omega (arith, fits (goal.at.bounds-held-f c).After-from-f, c.requires.1.1)
 

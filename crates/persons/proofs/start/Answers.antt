@@ -2,7 +2,7 @@
 -- Assumes nothing.
 use Prim.Native.Nat.{◌<◌}
 use native.Mathlib.Omega.{arith}
-use Rattle.persons.proofs.BeginLaws.{begun_first, begun_more, begun_all, next_clear}
+use Rattle.persons.proofs.BeginLaws.{begun_first, begun_more}
 use borrow.Author.Rules.{rules}
 use Rattle.persons.proofs.start.Goals as goal
 use Rattle.persons.proofs.start.Goals.{After-build}
@@ -14,13 +14,6 @@ few c = omega (arith, c.loop-p-test.true, c.requires.0)
 pub loop-p-init : goal.loop-p-init
 loop-p-init c = (search rules, (search rules, begun_first c.args.facts.now c.args.crews c.args.table.now c.requires.1.1))
 
-pub put_column-requires : goal.put_column-requires
-put_column-requires c =
-    record {
-      p_bound = (few (goal.at.put_column-requires c).After-build, (c.build.ensures.whole.size, c.loop-p.invariant.1.1.begun.size));
-      column_clear = next_clear c.loop-p.invariant.1.1;
-    }
-
 pub loop-p-preserved : goal.loop-p-preserved
 loop-p-preserved c = (
   omega arith,
@@ -31,6 +24,3 @@ loop-p-preserved c = (
         c.put_column.ensures,
   ),
 )
-
-pub returns : goal.returns
-returns c = begun_all c.loop-p.invariant.1.1 (omega (arith, c.loop-p.auto.p-end, c.loop-p-test.false))

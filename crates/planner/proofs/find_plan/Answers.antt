@@ -3,7 +3,7 @@ use mathlib.Core.Path.{refl}
 use native.Mathlib.Omega.{arith}
 use Rattle.frames.specs.Book.{contents_of}
 use Rattle.planner.proofs.ModeLaws.{leveled, growing}
-use Rattle.planner.proofs.GrownLaws.{found_grown, found_no_way}
+use Rattle.planner.proofs.GrownLaws.{found_grown}
 use Rattle.planner.proofs.find_plan.Goals as goal
 
 pub best_plan-requires : goal.best_plan-requires
@@ -18,12 +18,6 @@ pub find-requires : goal.find-requires
 unfolding contents_of
 find-requires c =
     (growing (contents_of c.args.b.now) c.requires.admitted (omega arith), c.requires.up_len.0)
-
-pub returns-in_err-ups : goal.returns-in_err-ups
-unfolding contents_of
-returns-in_err-ups c =
-    let b = contents_of c.args.b.now in
-    rw c.from_residual.ensures (found_no_way b (growing b c.requires.admitted (omega arith)) c.in_err-ups.ensures _ refl)
 
 pub returns-in_ok-ups : goal.returns-in_ok-ups
 unfolding contents_of

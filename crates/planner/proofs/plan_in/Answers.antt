@@ -1,5 +1,5 @@
 -- `planner::plan_in` meets its contract: a short buffer is refused; else what the search found is given. Assumes nothing.
-use mathlib.Core.Path.{◌≡◌, refl}
+use mathlib.Core.Path.{◌≡◌}
 use Prim.Native.Nat.{ℕ, ◌*◌, ◌≤◌, ◌<◌}
 use Rattle.frames.specs.Book.{contents_of}
 use Rattle.sizes.proofs.SizeLaws.{facts_few}
@@ -24,13 +24,6 @@ overflow_mul-f c = omega (arith, c.fact_count-f.ensures, facts_few c.args.b.now.
 pub returns-then-out-f : goal.returns-then-out-f
 unfolding contents_of
 returns-then-out-f c = answered_short (contents_of c.args.b.now) _ (below_of c.if-out-f.true c.fact_count-f.ensures)
-
-pub find_plan-found-requires : goal.find_plan-found-requires
-find_plan-found-requires c =
-    record {
-      admitted = c.requires;
-      up_len = (refl, refl);
-    }
 
 -- By arithmetic alone, so that other numbers would be judged by what they are.
 pub give-requires : goal.give-requires

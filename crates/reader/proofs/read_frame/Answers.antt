@@ -10,6 +10,6 @@ pub next-requires : goal.next-requires
 next-requires c =
     let r = c.new-reader.result in
     let book = c.new-reader.ensures.0 in
-    let within : r.at ≤ length r.book.now = rw (book, c.new-reader.ensures.1.0) c.requires.0 in
+    let within : r.cursor.at ≤ length r.book.now = rw (book, c.new-reader.ensures.1.0) c.requires.0 in
     let size : length r.book.now ≤ 65536 = rw book c.requires.1.0 in
-    (omega (arith, line_within r.book.now r.at _ c.current-line.ensures.ends within), omega (arith, c.new-reader.ensures.1.1))
+    (omega (arith, line_within r.book.now r.cursor.at _ c.current-line.ensures.ends within), omega (arith, c.new-reader.ensures.1.1))

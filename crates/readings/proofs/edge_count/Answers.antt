@@ -1,12 +1,14 @@
--- `readings::edge_count` meets its contract. The invariant: n and what the sets from some place on have are the whole. Assumes nothing.
-use native.Mathlib.Omega.{arith}
-use Rattle.answers.proofs.AnswerLaws.{total-step, total_end}
+-- `readings::edge_count` meets its contract: 32 sizes fit, and the chain's sum of them is the total. Assumes nothing.
+use Rattle.std.proofs.Common.{rules, arith}
+use Rattle.std.proofs.lemmas.Iterator.{YieldsList-from_slice}
+use Rattle.std.proofs.lemmas.Iterator.Adapters.{fits_from_length, at_most_from_yields_List}
+use Rattle.answers.proofs.AnswerLaws.{total_sum}
 use Rattle.readings.proofs.edge_count.Goals as goal
 
-pub loop-x-preserved : goal.loop-x-preserved
-loop-x-preserved c =
-    let step = total-step 32 c.args.juniors.now c.loop-x.x-index (omega arith) in
-    (omega arith, omega (arith, c.size_of-n.ensures.0))
+pub sum-requires-clause-fits : goal.sum-requires-clause-fits
+sum-requires-clause-fits c =
+    fits_from_length _ _ 32 _ (at_most_from_yields_List (YieldsList-from_slice c.args.juniors.now cc) (omega arith)) c.map.ensures.closure
+    (omega arith) (λ x r q k. search rules)
 
 pub returns : goal.returns
-returns c = omega (arith, total_end 32 c.args.juniors.now c.loop-x.x-index (omega arith))
+returns c = rw total_sum (search rules)

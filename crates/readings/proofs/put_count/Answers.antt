@@ -6,5 +6,4 @@ use Rattle.readings.proofs.put_count.Goals as goal
 
 pub returns : goal.returns
 returns c =
-    count_written c.args.text.now c.args.n (omega (arith, c.requires)) c.high_byte-high.ensures c.low_byte-low.ensures refl
-    c.put_bytes.ensures
+    count_written c.args.text.now c.args.n (omega (arith, c.requires)) c.pair.ensures refl c.put_bytes.ensures

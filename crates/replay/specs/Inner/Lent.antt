@@ -1,6 +1,6 @@
 -- A run under the parts of a book that it looks at: the sizes, the juniors and the rules. The words of replay's code that is handed these
 -- and no book.
-use Rattle.std.specs.Prelude.{Option, Some, None, ℕ, ◌*◌, Bool, ◌&&◌, List, [], take, drop}
+use Rattle.std.specs.Prelude.{Option, Some, None, ℕ, Bool, ◌&&◌, List, []}
 use Rattle.sets.specs.Sets.{member}
 use Rattle.sizes.specs.declared.Sizes.{Sizes}
 use Rattle.frames.specs.declared.Rule.{Rule}
@@ -11,10 +11,6 @@ use Rattle.replay.specs.Chains.{Run, ends, stops}
 -- The parts that a request of a chain is judged by; the rest is blank.
 unfoldable pub standing : Sizes → List ℕ → List Rule → Contents
 standing z juniors rules = record { sizes = z; juniors = juniors; rules = rules; count = 0; facts = []; query = no_query }
-
--- "A request is five bytes": the one behind i others.
-abbrev pub five_at : List ℕ → ℕ → List ℕ
-five_at bytes i = take 5 (drop (5 * i) bytes)
 
 -- A request that is "well formed by refusal 12" and whose "role is one of the query's".
 unfoldable pub due : Sizes → ℕ → List ℕ → Bool

@@ -2,14 +2,10 @@
 use mathlib.Core.Path.{sym, subst}
 use mathlib.Core.List.{List}
 use Prim.Native.Nat.{ℕ, ◌+◌}
-use native.Mathlib.Omega.{arith}
 use Rattle.words.specs.Inner.Words.{column}
 use Rattle.rows.specs.Inner.Rows.{RowPut}
-use Rattle.rows.proofs.RowLaws.{row-none, row_more, row-all}
+use Rattle.rows.proofs.RowLaws.{row_more}
 use Rattle.rows.proofs.put_row.Goals as goal
-
-pub loop-f-init : goal.loop-f-init
-loop-f-init c = row-none _ _ _ c.requires.row_clear
 
 pub loop-f-preserved : goal.loop-f-preserved
 loop-f-preserved c =
@@ -17,6 +13,3 @@ loop-f-preserved c =
     c.args.out.now l)
     (sym c.put_value.ensures)
     (row_more c.requires.p_bound.0 c.loop-f-test.true c.requires.row_clear c.loop-f.invariant)
-
-pub returns : goal.returns
-returns c = row-all c.loop-f.invariant (omega (arith, c.loop-f.auto.f-end, c.loop-f-test.false))

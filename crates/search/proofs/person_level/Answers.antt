@@ -1,6 +1,6 @@
 -- `search::person_level` meets its contract: the table is the person's, and the level comes to the best plan or is stuck (`person-searched`).
 -- Assumes nothing.
-use mathlib.Core.Path.{refl, ap, sym, ◌∙◌}
+use mathlib.Core.Path.{refl, ap, ◌∙◌}
 use lib.ListN.{length}
 use Rattle.level.specs.declared.Fired.{Fired}
 use Rattle.level.specs.declared.Work.{Work}
@@ -12,17 +12,6 @@ use Rattle.flags.proofs.BadLaws.{bad-all}
 use Rattle.search.proofs.StepLaws.{room_up, room_below, room_down, person-searched, starts_built}
 use Rattle.search.proofs.person_level.Goals as goal
 
-pub person_table-requires : goal.person_table-requires
-person_table-requires c = (c.requires.driving.rows_right.size, c.requires.person_given.rows)
-
-pub slice_bounds-parts-end : goal.slice_bounds-parts-end
-unfolding contents_of
-slice_bounds-parts-end c = sym c.requires.person_given.accepted.book.facts_room
-
-pub slice_bounds-parts-end-2 : goal.slice_bounds-parts-end-2
-unfolding contents_of
-slice_bounds-parts-end-2 c = sym c.requires.person_given.accepted.book.edge_room
-
 pub settle_level-requires : goal.settle_level-requires
 unfolding contents_of
 settle_level-requires c =
@@ -32,11 +21,12 @@ settle_level-requires c =
     let low = given.accepted.book.sized.crews_most in
     let none = c.new-fired.ensures in
     let begun = c.new-work.ensures in
+    let e = c.new-parts.ensures in
     record {
       level_given = record {
-        wants = small_wants given.accepted.book;
-        sound_adds = given.moves.sound_adds;
-        sound_dels = given.moves.sound_dels;
+        wants = rw e.query (small_wants given.accepted.book);
+        sound_adds = rw e.sides given.moves.sound_adds;
+        sound_dels = rw e.sides given.moves.sound_dels;
         names = record { room_added = ap (λ (f : Fired). length f.added) none; room_deleted = ap (λ (f : Fired). length f.deleted) none };
         rows = c.person_table.ensures.size;
         size_x = ap (λ (w : Work). length w.x) begun;
@@ -52,7 +42,9 @@ unfolding contents_of
 returns-clause-searched c =
     let given = c.requires.person_given in
     let drive = c.requires.driving in
-    let level = c.settle_level.ensures.settled in
+    let e = c.new-parts.ensures in
+    let of_parts = c.settle_level.ensures.settled in
+    let level = rw (e.query, e.crews, e.facts, e.sides) at of_parts in
     let lent = c.settle_level.ensures.lent.buffers in
     let bads = bad-all (contents_of c.args.b.now) (small_wants given.accepted.book) c.args.b.now.sizes.crews false (omega arith)
     (λ h. absurd (omega arith)) level.size level.forbidden in
@@ -61,6 +53,3 @@ returns-clause-searched c =
     drive c.person_table.ensures
     bads begun level.allowed level.result
     (lent.length_up ∙ drive.size_up) (lent.length_down ∙ drive.size_down)
-
-pub returns-clause-lent : goal.returns-clause-lent
-returns-clause-lent c = c.settle_level.ensures.lent.buffers

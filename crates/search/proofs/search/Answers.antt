@@ -9,22 +9,6 @@ pub moves_listed-n-requires : goal.moves_listed-n-requires
 moves_listed-n-requires c =
     (book_good c.args.b.now c.requires.leveled.book, refl)
 
-pub gains_in-requires : goal.gains_in-requires
-gains_in-requires c =
-    let sides = c.moves_listed-n.ensures.sides in record { size = sides.size; rises = sides.rises }
-
-pub losses_in-requires : goal.losses_in-requires
-losses_in-requires c =
-    let sides = c.moves_listed-n.ensures.sides in record { size = sides.size; rises = sides.rises }
-
-pub adds_in-requires : goal.adds_in-requires
-adds_in-requires c =
-    let sides = c.moves_listed-n.ensures.sides in record { size = sides.size; rises = sides.rises }
-
-pub dels_in-requires : goal.dels_in-requires
-dels_in-requires c =
-    let sides = c.moves_listed-n.ensures.sides in record { size = sides.size; rises = sides.rises }
-
 pub all_levels-requires : goal.all_levels-requires
 all_levels-requires c =
     let sides = c.moves_listed-n.ensures.sides in

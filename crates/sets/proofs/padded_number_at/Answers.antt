@@ -30,6 +30,3 @@ loop-i-preserved c =
     let here : c.args.at + (c.loop-i.i - c.args.at) ≡ c.loop-i.i = omega arith in
     let next : c.loop-i.i + 1 - c.args.at ≡ c.loop-i.i - c.args.at + 1 = omega arith in
     cc
-
-pub returns : goal.returns
-returns c = let all : c.loop-i.i - c.args.at ≡ c.args.w = omega arith in cc

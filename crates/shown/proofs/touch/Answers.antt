@@ -1,17 +1,13 @@
 -- What a fact adds at a place, in five cases. Assumes nothing.
-use mathlib.Core.Path.{ap, ◌∙◌}
+use mathlib.Core.Path.{◌∙◌}
 use Prim.Native.Nat.{◌-◌}
 use native.Mathlib.Omega.{arith}
 use borrow.Author.Tests.{eq-eqb, lt-leb}
-use Rattle.shown.specs.Inner.Shown.{touches}
 use Rattle.shown.proofs.ShownLaws.{touch_direct, touch_own, touch_value, touch_row}
 use Rattle.shown.proofs.touch.Goals as goal
 
 pub returns-then-k-lt-LEVEL_SIZE : goal.returns-then-k-lt-LEVEL_SIZE
 returns-then-k-lt-LEVEL_SIZE c = touch_direct c.args.table.now c.args.f c.args.k (omega arith)
-
-pub returns-then-k-ge-HIGHER_AT : goal.returns-then-k-ge-HIGHER_AT
-returns-then-k-ge-HIGHER_AT c = c.touch_higher.ensures ∙ ap (touches c.args.table.now c.args.f) (omega arith)
 
 pub returns-then-k-f : goal.returns-then-k-f
 returns-then-k-f c =

@@ -1,17 +1,10 @@
 -- `spread::add_higher` meets its contract: the invariant says that the flags from 320 + k on are set for the persons, and that `on` is the last of them,
 -- unless k is the lowest value of its attribute. Assumes nothing.
 use mathlib.Core.Path.{refl}
-use native.Mathlib.Omega.{arith}
-use Rattle.spread.proofs.SpreadLaws.{higher_lit_none, higher_lit_more, higher_lit_all}
+use Rattle.spread.proofs.SpreadLaws.{higher_lit_more}
 use Rattle.spread.proofs.add_higher.Goals as goal
-
-pub loop-k-init : goal.loop-k-init
-loop-k-init c = higher_lit_none _ _ _ c.requires.1.1
 
 pub loop-k-preserved : goal.loop-k-preserved
 loop-k-preserved c =
     higher_lit_more c.loop-k.invariant c.loop-k-test.true c.requires.0 refl c.only.ensures
     c.add.ensures
-
-pub returns : goal.returns
-returns c = higher_lit_all c.loop-k.invariant (omega arith)

@@ -1,16 +1,9 @@
 -- `words::put_column` meets its contract: the invariant says that the first k flags of the person are written, and that all other persons' stand. Assumes
 -- nothing.
 use native.Mathlib.Omega.{arith}
-use Rattle.words.proofs.WordLaws.{member_one, put_first, put_more, put_skip, put_all}
+use Rattle.words.proofs.WordLaws.{member_one, put_more, put_skip, put_all}
 use Rattle.words.proofs.put_column.Goals as goal
 use Rattle.words.proofs.put_column.Goals.{then-on, else-on}
-
-pub loop-k-init : goal.loop-k-init
-loop-k-init c =
-    put_first c.args.s.now c.requires.p_bound.1.1 c.requires.column_clear
-
-pub add-requires : goal.add-requires
-add-requires c = (omega arith, c.loop-k.invariant.size)
 
 pub loop-k-preserved : goal.loop-k-preserved
 loop-k-preserved c =
