@@ -9,7 +9,7 @@ use Rattle.frames.specs.declared.LentRefusal.{LentRefusal}
 use Rattle.sizes.specs.Sizes.{fact_count}
 use Rattle.planner.specs.Promise as promise
 
--- The table's number of each refusal: 10 where the buffer is too short.
+-- The table's number of each refusal: 10 is "plan buffer under 10 × F".
 abbrev pub refusal_number : LentRefusal → ℕ
 refusal_number r = frames.lent_number 10 r
 
